@@ -1,0 +1,74 @@
+-- The INFO signals as lines (document 01, "The line": INFO 0 to INFO 4).
+use mathlib.Core.Bool.{Bool, true, false}
+use mathlib.Core.List.{List, [], _∷_, _++_}
+use Prim.Native.Nat.{ℕ, zero, suc}
+use lib.ListN.{replicate}
+use Rattle.line.specs.Symbols.{none, plus, minus, same}
+use Rattle.line.specs.Down.{downLine}
+use Rattle.line.specs.Up.{upLine}
+use Rattle.line.specs.declared.fields.Four.{Four}
+use Rattle.line.specs.declared.fields.DownFields.{DownFields}
+use Rattle.line.specs.declared.fields.UpFields.{UpFields}
+
+-- INFO 0 is 48 nones.
+abbrev pub info0 : List ℕ
+info0 = replicate 48 none
+
+-- INFO 1 is plus, minus, six nones, six times.
+abbrev pub times : ℕ → List ℕ → List ℕ
+times zero l = []
+times (suc n) l = l ++ times n l
+
+abbrev pub info1 : List ℕ
+info1 = times 6 (plus ∷ minus ∷ replicate 6 none)
+
+-- Four bits all alike.
+abbrev pub allFour : Bool → Four
+allFour b = record { first = b; second = b; third = b; fourth = b }
+
+-- INFO 2 has A, B, D, E, FA, M and S at 0.
+abbrev pub info2Fields : DownFields
+info2Fields = record {
+  b1first = 0;
+  b2first = 0;
+  b1second = 0;
+  b2second = 0;
+  e = allFour false;
+  d = allFour false;
+  a = false;
+  fa = false;
+  m = false;
+  s = false;
+}
+
+abbrev pub info2 : List ℕ
+info2 = downLine info2Fields
+
+-- INFO 3 is the upward frame, B at 1, with the D bits d.
+abbrev pub info3Fields : Four → UpFields
+info3Fields d = record { b1first = 255; b2first = 255; b1second = 255; b2second = 255; d = d }
+
+abbrev pub info3 : Four → List ℕ
+info3 d = upLine (info3Fields d)
+
+-- INFO 4 has A at 1, B and D at 1, FA, M and S at 0, E the echo e.
+abbrev pub info4Fields : Four → DownFields
+info4Fields e = record {
+  b1first = 255;
+  b2first = 255;
+  b1second = 255;
+  b2second = 255;
+  e = e;
+  d = allFour true;
+  a = true;
+  fa = false;
+  m = false;
+  s = false;
+}
+
+abbrev pub info4 : Four → List ℕ
+info4 e = downLine (info4Fields e)
+
+-- Exactly INFO 1's symbols are INFO 1.
+abbrev pub isInfo1 : List ℕ → Bool
+isInfo1 l = same l info1

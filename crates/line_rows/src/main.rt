@@ -1,0 +1,139 @@
+// Prints the INFO lines and some written frames as rows of `+`, `-` and `0`, beside a row that names the field at each position: `1`
+// for B1, `2` for B2, `f` for FA.
+use libc::STDOUT_FILENO;
+use line::combine::combine;
+use line::fields::DownFields;
+use line::fields::Four;
+use line::fields::UpFields;
+use line::hit::apply_hit;
+use line::info::info0;
+use line::info::info1;
+use line::info::info2;
+use line::info::info3;
+use line::info::info4;
+use line::write::write_down;
+use line::write::write_up;
+
+fn letter(s: u8) -> u8 {
+    if s == 1 {
+        b'+'
+    } else if s == 2 {
+        b'-'
+    } else {
+        b'0'
+    }
+}
+
+// Turns symbols into letters.
+fn letters(line: &mut [u8]) {
+    let mut i = 0;
+    while i < line.len() {
+        line[i] = letter(line[i]);
+        i += 1;
+    }
+}
+
+// Prints a name and then a line's letters, which take the symbols' place.
+fn show(name: &[u8], line: &mut [u8]) {
+    letters(line);
+    io::write_all(STDOUT_FILENO, name);
+    io::write_all(STDOUT_FILENO, line);
+    io::write_all(STDOUT_FILENO, b"\n");
+}
+
+fn four(first: bool, second: bool, third: bool, fourth: bool) -> Four {
+    Four {
+        first: first,
+        second: second,
+        third: third,
+        fourth: fourth,
+    }
+}
+
+fn infos() {
+    let mut line = [0u8; 48];
+    info0(&mut line);
+    show(b"INFO 0           ", &mut line);
+    info1(&mut line);
+    show(b"INFO 1           ", &mut line);
+    info2(&mut line);
+    show(b"INFO 2           ", &mut line);
+    info3(four(true, true, true, true), &mut line);
+    show(b"INFO 3 D 1111    ", &mut line);
+    info3(four(true, false, false, true), &mut line);
+    show(b"INFO 3 D 1001    ", &mut line);
+    info4(four(true, true, true, true), &mut line);
+    show(b"INFO 4 E 1111    ", &mut line);
+    info4(four(false, true, true, false), &mut line);
+    show(b"INFO 4 E 0110    ", &mut line);
+}
+
+// Frames with other B octets. FA at 1 makes N 0.
+fn frames() {
+    let mut line = [0u8; 48];
+    let down = DownFields {
+        b1first: 0xa5,
+        b2first: 0x0f,
+        b1second: 0x01,
+        b2second: 0xff,
+        e: four(true, false, true, true),
+        d: four(false, true, true, false),
+        a: true,
+        fa: true,
+        m: false,
+        s: true,
+    };
+    write_down(down, &mut line);
+    show(b"down a5 0f 01 ff ", &mut line);
+    let up = UpFields {
+        b1first: 0xa5,
+        b2first: 0x07,
+        b1second: 0x80,
+        b2second: 0x00,
+        d: four(false, true, true, false),
+    };
+    write_up(up, &mut line);
+    show(b"up   a5 07 80 00 ", &mut line);
+}
+
+// Puts INFO 3 with the D bits d in the place of terminal n among the eight lines.
+fn put(lines: &mut [u8], n: usize, d: Four) {
+    if n < 8 {
+        let from = n * 48;
+        let to = from + 48;
+        if to <= lines.len() {
+            info3(d, &mut lines[from..to]);
+        }
+    }
+}
+
+// Two terminals together, and a hit on INFO 2: plus at 3, none at 5 and 6.
+fn together() {
+    let mut lines = [0u8; 384];
+    put(&mut lines, 0, four(true, false, true, true));
+    put(&mut lines, 2, four(true, true, false, true));
+    let mut line = [0u8; 48];
+    combine(&lines, &mut line);
+    show(b"D 1011 with 1101 ", &mut line);
+    let mut hit = [0u8; 48];
+    hit[2] = 1;
+    hit[4] = 3;
+    hit[5] = 3;
+    info2(&mut line);
+    apply_hit(&mut line, &hit);
+    show(b"INFO 2 hit kkpkn ", &mut line);
+}
+
+fn main() {
+    io::write_all(
+        STDOUT_FILENO,
+        b"down             FL11111111EDAfN22222222EDM11111111EDS22222222EDL\n",
+    );
+    io::write_all(
+        STDOUT_FILENO,
+        b"up               FL11111111LDLfL22222222LDL11111111LDL22222222LDL\n",
+    );
+    infos();
+    frames();
+    together();
+}
