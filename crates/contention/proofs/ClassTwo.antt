@@ -1,0 +1,156 @@
+-- An extra claim: with at most F class 1 frames held or taken in the stretch, a class 2 frame that waits at the normal level is
+-- completed within (n + 1 + F) times (L + 10) D opportunities, with x2 for 10.
+use mathlib.Core.Bool.{Bool, true, cond, _&&_}
+use mathlib.Core.Path.{_≡_, refl, sym, ap, _∙_}
+use mathlib.Core.List.{List, [], _∷_}
+use Prim.Native.Nat.{ℕ, zero, suc, _+_, _*_, _≤_, _<_}
+use native.Mathlib.Omega.{arith}
+use lib.Dec.{eqb}
+use lib.ListN.{length, getD}
+use borrow.Author.Tests.{eqb-true, eq-eqb, ne-eqb}
+use Rattle.dchannel.proofs.ByCases.{by-test}
+use Rattle.dchannel.specs.Access.{entered}
+use Rattle.dchannel.specs.Handing.{takenUp, left}
+use Rattle.contention.specs.Channel.{Station, Channel, Action, freshStation, mayHold, holding, entering, change, turnAt, hears, sendsD, step, run}
+use Rattle.contention.specs.Channel.Action.{hand, enter, leave, clear, opportunity}
+use Rattle.contention.specs.Stretch.{Stretch, opportunities, station, Waits, Completes, activeCount, ImagesAtMost}
+use Rattle.contention.specs.Claims.{at, start, opps, CompletedWithin, holdsOne, onesHeld, onesTaken, WaitEndsClassTwo}
+use Rattle.contention.proofs.Terminal.{Outcome, outcome, completed, went-on, stopped, started, idled, outside, level}
+use Rattle.contention.proofs.InvariantKept.{length-allHear, station-hears, entering-active, entering-outside}
+use Rattle.contention.proofs.Trace.{counted-le, counted-lt}
+use Rattle.contention.specs.Stretch.{counted}
+use Rattle.contention.proofs.Waiting.{completion}
+use Rattle.contention.proofs.Wait.{wait-ends-within}
+
+-- ---- the class 1 frames held after an action
+
+module _ (f : Station → Station) (d : ℕ) where
+  ones-change : (i : ℕ) (ss : List Station)
+      → cond {A = ℕ} (holdsOne (f (getD ss i freshStation))) 1 0 ≤ d + cond (holdsOne (getD ss i freshStation)) 1 0
+      → counted holdsOne (change f i ss) ≤ d + counted holdsOne ss
+  unfolding counted change
+  ones-change i [] h = omega arith
+  ones-change zero (s ∷ ss) h = omega arith
+  ones-change (suc i) (s ∷ ss) h = omega (arith, ones-change i ss h)
+
+ones-holding : (k : ℕ) (body : List ℕ) (s : Station)
+    → cond {A = ℕ} (holdsOne (holding k body s)) 1 0 ≤ cond (eqb k 1 && mayHold k body s) 1 0 + cond (holdsOne s) 1 0
+unfolding holding takenUp
+ones-holding k body s =
+    by-test (mayHold k body s)
+    (λ m. rw m (by-test (eqb k 1) (λ q. rw q (omega arith)) (λ q. rw q (omega arith))))
+    (λ m. rw m (omega arith))
+
+ones-entering : (s : Station) → cond {A = ℕ} (holdsOne (entering s)) 1 0 ≤ 0 + cond (holdsOne s) 1 0
+unfolding entered
+ones-entering s =
+    by-test (s .active) (λ m. rw (entering-active s m) (omega arith)) (λ m. rw (entering-outside s m) (omega arith))
+
+held-before : (x1 x2 : ℕ) (e : Bool) (s s′ : Station) (d : Bool) (done : ℕ) → Outcome x1 x2 e s s′ d done → s′ .access .held ≡ 1 → s .access .held ≡ 1
+held-before x1 x2 e s s′ d done (completed r) h = absurd (omega arith)
+held-before x1 x2 e s s′ d done (went-on r) h = sym (r .held-now) ∙ h
+held-before x1 x2 e s s′ d done (stopped r) h = sym (r .held-now) ∙ h
+held-before x1 x2 e s s′ d done (started r) h = sym (r .held-now) ∙ h
+held-before x1 x2 e s s′ d done (idled r) h = sym (r .held-now) ∙ h
+held-before x1 x2 e s s′ d done (outside r) h = sym (ap (λ (z : Station). z .access .held) (r .as-before)) ∙ h
+
+module _ (x1 x2 : ℕ) (c : Channel) where
+  ones-hand : (i k : ℕ) (body : List ℕ)
+      → onesHeld (step x1 x2 c (hand i k body)) ≤ cond (eqb k 1 && mayHold k body (station i c)) 1 0 + onesHeld c
+  unfolding onesHeld step station
+  ones-hand i k body =
+      ones-change (holding k body) (cond (eqb k 1 && mayHold k body (station i c)) 1 0) i (c .stations)
+      (ones-holding k body (station i c))
+
+  ones-enter : (i : ℕ) → onesHeld (step x1 x2 c (enter i)) ≤ onesHeld c
+  unfolding onesHeld step
+  ones-enter i = omega (arith, ones-change entering 0 i (c .stations) (ones-entering (getD (c .stations) i freshStation)))
+
+  module _ (e bit on : Bool) where
+    one-before : (i : ℕ) → holdsOne (station i (step x1 x2 c (opportunity e bit on))) ≡ true → holdsOne (station i c) ≡ true
+    one-before i h =
+        eq-eqb (station i c .access .held) 1
+        (held-before x1 x2 e (station i c) (hears x1 x2 e (station i c)) (sendsD x1 x2 e (station i c)) (turnAt x1 x2 e (station i c) .done) (outcome x1 x2 e (station i c))
+        (eqb-true _ 1 (rw (station-hears x1 x2 e bit on c i) at h)))
+
+    ones-hear : onesHeld (step x1 x2 c (opportunity e bit on)) ≤ onesHeld c
+    unfolding onesHeld step station
+    ones-hear =
+        counted-le holdsOne holdsOne (step x1 x2 c (opportunity e bit on) .stations) (c .stations) (sym (length-allHear x1 x2 e (c .stations))) one-before
+
+    -- a completed one is one less
+    ones-less : (g : ℕ) → station g c .active ≡ true → turnAt x1 x2 e (station g c) .done ≡ 1
+        → suc (onesHeld (step x1 x2 c (opportunity e bit on))) ≤ onesHeld c
+    unfolding onesHeld step station
+    ones-less g act q =
+        let r = completion x1 x2 1 e (station g c) (hears x1 x2 e (station g c)) (sendsD x1 x2 e (station g c)) (turnAt x1 x2 e (station g c) .done) (omega arith) act q (outcome x1 x2 e (station g c)) in
+        counted-lt holdsOne holdsOne (step x1 x2 c (opportunity e bit on) .stations) (c .stations) (sym (length-allHear x1 x2 e (c .stations))) one-before refl g
+        (rw (station-hears x1 x2 e bit on c g) (ne-eqb (hears x1 x2 e (station g c) .access .held) 1 (λ z. omega (arith, r .held-now))))
+        (eq-eqb (station g c .access .held) 1 (sym (r .done-now) ∙ q))
+
+-- ---- the class 1 frames held at an opportunity or taken after it
+
+onesFrom : ℕ → ℕ → Channel → List Action → List ℕ
+onesFrom x1 x2 c [] = []
+onesFrom x1 x2 c (hand i k body ∷ more) = onesFrom x1 x2 (step x1 x2 c (hand i k body)) more
+onesFrom x1 x2 c (enter i ∷ more) = onesFrom x1 x2 (step x1 x2 c (enter i)) more
+onesFrom x1 x2 c (leave i ∷ more) = onesFrom x1 x2 (step x1 x2 c (leave i)) more
+onesFrom x1 x2 c (clear ∷ more) = onesFrom x1 x2 (step x1 x2 c clear) more
+onesFrom x1 x2 c (opportunity e bit on ∷ more) =
+    (onesHeld c + onesTaken x1 x2 (step x1 x2 c (opportunity e bit on)) more) ∷ onesFrom x1 x2 (step x1 x2 c (opportunity e bit on)) more
+
+module _ (x1 x2 : ℕ) where
+  -- at most those held or taken from the start
+  ones-most : (during : List Action) (c : Channel) (t : ℕ) → Stretch x1 x2 c during
+      → getD (onesFrom x1 x2 c during) t 0 ≤ onesHeld c + onesTaken x1 x2 c during
+  unfolding Stretch onesFrom onesTaken
+  ones-most [] c t st = omega arith
+  ones-most (hand i k body ∷ more) c t st = omega (arith, ones-hand x1 x2 c i k body, ones-most more (step x1 x2 c (hand i k body)) t (st .1))
+  ones-most (enter i ∷ more) c t st = omega (arith, ones-enter x1 x2 c i, ones-most more (step x1 x2 c (enter i)) t (st .1))
+  ones-most (leave i ∷ more) c t st = absurd (st .0)
+  ones-most (clear ∷ more) c t st = absurd (st .0)
+  ones-most (opportunity e bit on ∷ more) c zero st = omega arith
+  ones-most (opportunity e bit on ∷ more) c (suc t) st =
+      omega (arith, ones-hear x1 x2 c e bit on, ones-most more (step x1 x2 c (opportunity e bit on)) t (st .1))
+
+  -- never more at the next opportunity
+  ones-fall : (during : List Action) (c : Channel) (t : ℕ) → Stretch x1 x2 c during → t < length (opportunities x1 x2 c during)
+      → getD (onesFrom x1 x2 c during) (suc t) 0 ≤ getD (onesFrom x1 x2 c during) t 0
+  unfolding Stretch onesFrom opportunities
+  ones-fall [] c t st h = absurd (omega arith)
+  ones-fall (hand i k body ∷ more) c t st h = ones-fall more (step x1 x2 c (hand i k body)) t (st .1) h
+  ones-fall (enter i ∷ more) c t st h = ones-fall more (step x1 x2 c (enter i)) t (st .1) h
+  ones-fall (leave i ∷ more) c t st h = absurd (st .0)
+  ones-fall (clear ∷ more) c t st h = absurd (st .0)
+  ones-fall (opportunity e bit on ∷ more) c zero st h =
+      omega (arith, ones-hear x1 x2 c e bit on, ones-most more (step x1 x2 c (opportunity e bit on)) 0 (st .1))
+  ones-fall (opportunity e bit on ∷ more) c (suc t) st h = ones-fall more (step x1 x2 c (opportunity e bit on)) t (st .1) (omega arith)
+
+  -- one less where one is completed
+  ones-spent : (during : List Action) (c : Channel) (t g : ℕ) → Stretch x1 x2 c during → t < length (opportunities x1 x2 c during)
+      → Completes x1 x2 1 g (at (opportunities x1 x2 c during) t)
+      → suc (getD (onesFrom x1 x2 c during) (suc t) 0) ≤ getD (onesFrom x1 x2 c during) t 0
+  unfolding Stretch onesFrom opportunities
+  ones-spent [] c t g st h d = absurd (omega arith)
+  ones-spent (hand i k body ∷ more) c t g st h d = ones-spent more (step x1 x2 c (hand i k body)) t g (st .1) h d
+  ones-spent (enter i ∷ more) c t g st h d = ones-spent more (step x1 x2 c (enter i)) t g (st .1) h d
+  ones-spent (leave i ∷ more) c t g st h d = absurd (st .0)
+  ones-spent (clear ∷ more) c t g st h d = absurd (st .0)
+  ones-spent (opportunity e bit on ∷ more) c zero g st h d =
+      omega (
+        arith,
+        ones-less x1 x2 c e bit on g (d .in-F7) (ap (λ (z : Bool). turnAt x1 x2 z (station g c) .done) (st .0 .0) ∙ d .done),
+        ones-most more (step x1 x2 c (opportunity e bit on)) 0 (st .1),
+      )
+  ones-spent (opportunity e bit on ∷ more) c (suc t) g st h d = ones-spent more (step x1 x2 c (opportunity e bit on)) t g (st .1) (omega arith) d
+
+module _ (x1 x2 terminals : ℕ) (before during : List Action) (h1 : 8 ≤ x1) (h2 : x1 + 2 ≤ x2) where
+  pub wait-ends-class-two : Stretch x1 x2 (start x1 x2 terminals before during) during → WaitEndsClassTwo x1 x2 terminals before during
+  unfolding level
+  wait-ends-class-two st n L F i p actives images ones w len =
+      let c = start x1 x2 terminals before during in
+      wait-ends-within x1 x2 terminals before during h1 h2 st 2 i (omega arith) (omega arith) n L actives images
+      (λ t. getD (onesFrom x1 x2 c during) t 0)
+      (λ t h. ones-fall x1 x2 during c t st h)
+      (λ t g h d _. ones-spent x1 x2 during c t g st h d)
+      F p (omega (arith, ones-most x1 x2 during c p st)) w len

@@ -1,0 +1,106 @@
+-- From one D opportunity of a stretch to the next, with the reader: between them nothing is read.
+use mathlib.Core.Bool.{true, false, false≢true}
+use mathlib.Core.Path.{_≡_, refl, _∙_}
+use mathlib.Core.List.{List, [], _∷_}
+use Prim.Native.Nat.{ℕ, zero, suc, _+_, _≤_, _<_}
+use native.Mathlib.Omega.{arith}
+use lib.Dec.{leb, ltb}
+use lib.ListN.{length, getD}
+use borrow.Author.Tests.{ltb-true, leb-true}
+use Rattle.dchannel.specs.Image.{image, IsBody, longestBody}
+use Rattle.dchannel.proofs.ByCases.{by-test}
+use Rattle.contention.specs.Channel.{Station, Channel, Action, allOctets, isBody, step}
+use Rattle.contention.specs.Channel.Action.{hand, enter, leave, clear, opportunity}
+use Rattle.contention.specs.Stretch.{Stretch, opportunities}
+use Rattle.contention.specs.Claims.{at}
+use Rattle.contention.specs.Invariant.{Sound, Invariant}
+use Rattle.contention.proofs.InvariantKept.{Quiet, sending-holds, invariant-step}
+use Rattle.contention.proofs.Trace.{opportunity-invariant, next-opportunity}
+use Rattle.contention.specs.Stretch.{onward}
+
+-- the test of a body
+all-octets : (os : List ℕ) → allOctets os ≡ true → (i : ℕ) → getD os i 0 < 256
+unfolding allOctets
+all-octets [] h i = omega arith
+all-octets (o ∷ os) h zero = by-test (ltb o 256) (λ e. ltb-true o 256 e) (λ e. absurd (false≢true (rw e at h)))
+all-octets (o ∷ os) h (suc i) = by-test (ltb o 256) (λ e. all-octets os (rw e at h) i) (λ e. absurd (false≢true (rw e at h)))
+
+pub is-body : (body : List ℕ) → isBody body ≡ true → IsBody body
+unfolding isBody
+is-body body h =
+    by-test (leb 1 (length body))
+    (λ e. by-test (leb (length body) longestBody)
+    (λ f. record { some-octet = leb-true 1 (length body) e; at-most = leb-true (length body) longestBody f; octet = all-octets body (simp (e, f) at h) })
+    (λ f. absurd (false≢true (simp (e, f) at h))))
+    (λ e. absurd (false≢true (rw e at h)))
+
+-- what a terminal that sends has: a frame, with its image's length
+pub record Frame (s : Station) : Type 0 where
+  pub in-F7 : s .active ≡ true
+  pub class-held : 1 ≤ s .access .held
+  pub body-held : IsBody (s .body)
+  pub whole : s .access .length ≡ length (image (s .body))
+  pub part : s .access .sent ≤ length (image (s .body))
+
+pub frame : {x2 : ℕ} {s : Station} → Sound x2 s → 1 ≤ s .access .sent → Frame s
+frame {x2} {s} o h =
+    let on : s .active ≡ true =
+    by-test (s .active) (λ e. e) (λ e. absurd (let z : s .access .sent ≡ 0 = rw (o .outside e) refl in omega arith))
+    in
+    let held = o .frame-held (sending-holds x2 s o h) in
+    record {
+      in-F7 = on;
+      class-held = sending-holds x2 s o h;
+      body-held = is-body (s .body) (held .0);
+      whole = held .1;
+      part = omega (arith, held .1, o .sent-part);
+    }
+
+-- c' is the channel as E comes at the opportunity after c's
+pub record Follows (x1 x2 : ℕ) (c c' : Channel) : Type 0 where
+  pub quiet : Quiet (onward x1 x2 c) c'
+  pub unread : c' .reading ≡ onward x1 x2 c .reading
+  pub before : Invariant x2 c
+  pub between : Invariant x2 (onward x1 x2 c)
+  pub now : Invariant x2 c'
+
+module _ (x1 x2 : ℕ) where
+  first-unread : (during : List Action) (c : Channel) → Stretch x1 x2 c during → 0 < length (opportunities x1 x2 c during)
+      → at (opportunities x1 x2 c during) 0 .reading ≡ c .reading
+  unfolding Stretch opportunities step
+  first-unread [] c st h = absurd (omega arith)
+  first-unread (hand i k body ∷ more) c st h = first-unread more (step x1 x2 c (hand i k body)) (st .1) h
+  first-unread (enter i ∷ more) c st h = first-unread more (step x1 x2 c (enter i)) (st .1) h
+  first-unread (leave i ∷ more) c st h = absurd (st .0)
+  first-unread (clear ∷ more) c st h = absurd (st .0)
+  first-unread (opportunity e bit on ∷ more) c st h = refl
+
+  -- nothing is read between an opportunity and the next
+  next-unread : (during : List Action) (c : Channel) (t : ℕ) → Stretch x1 x2 c during → suc t < length (opportunities x1 x2 c during)
+      → at (opportunities x1 x2 c during) (suc t) .reading ≡ onward x1 x2 (at (opportunities x1 x2 c during) t) .reading
+  unfolding Stretch opportunities onward
+  next-unread [] c t st h = absurd (omega arith)
+  next-unread (hand i k body ∷ more) c t st h = next-unread more (step x1 x2 c (hand i k body)) t (st .1) h
+  next-unread (enter i ∷ more) c t st h = next-unread more (step x1 x2 c (enter i)) t (st .1) h
+  next-unread (leave i ∷ more) c t st h = absurd (st .0)
+  next-unread (clear ∷ more) c t st h = absurd (st .0)
+  next-unread (opportunity e bit on ∷ more) c zero st h =
+      first-unread more (step x1 x2 c (opportunity e bit on)) (st .1) (omega arith)
+      ∙ (λ i. step x1 x2 c (opportunity (st .0 .0 i) (st .0 .1 i) (st .0 .2 i)) .reading)
+  next-unread (opportunity e bit on ∷ more) c (suc t) st h =
+      next-unread more (step x1 x2 c (opportunity e bit on)) t (st .1) (omega arith)
+
+  -- each opportunity of a stretch follows the one before it
+  pub follows-opps : 8 ≤ x1 → x1 + 2 ≤ x2 → (during : List Action) (c : Channel) (t : ℕ) → Invariant x2 c → Stretch x1 x2 c during
+      → suc t < length (opportunities x1 x2 c during)
+      → Follows x1 x2 (at (opportunities x1 x2 c during) t) (at (opportunities x1 x2 c during) (suc t))
+  unfolding onward
+  follows-opps h1 h2 during c t inv st h =
+      let here = opportunity-invariant x1 x2 h1 h2 during c t inv (omega arith) in
+      record {
+        quiet = next-opportunity x1 x2 h1 h2 during c t inv st h;
+        unread = next-unread during c t st h;
+        before = here;
+        between = invariant-step x1 x2 h1 h2 _ (opportunity _ _ true) here;
+        now = opportunity-invariant x1 x2 h1 h2 during c (suc t) inv h;
+      }

@@ -1,0 +1,527 @@
+-- The invariant holds of a fresh channel, is kept by every action, and so holds after every list of actions.
+use mathlib.Core.Bool.{Bool, true, false, _&&_, _||_, false≢true, true≢false}
+use mathlib.Core.Path.{_≡_, refl, sym, ap, _∙_}
+use mathlib.Core.List.{List, [], _∷_}
+use Prim.Native.Nat.{ℕ, zero, suc, _+_, _≤_, _<_}
+use native.Mathlib.Omega.{arith}
+use lib.Dec.{eqb, leb}
+use lib.ListN.{length, getD, take}
+use lib.Seq.{take-suc}
+use borrow.Author.Tests.{eqb-true, eqb-false, leb-true, leb-false}
+use Rattle.dchannel.specs.declared.access.Access.{Access}
+use Rattle.dchannel.specs.Ones.{endingOnes}
+use Rattle.dchannel.proofs.ByCases.{by-test}
+use Rattle.dchannel.proofs.OnesLaws.{ending-one}
+use Rattle.dchannel.specs.Image.{image}
+use Rattle.dchannel.proofs.ImageLaws.{length-image, image-starts, image-endingOnes}
+use Rattle.dchannel.specs.Access.{entered, countAfter, lowOf}
+use Rattle.dchannel.specs.Handing.{takenUp, left}
+use Rattle.contention.specs.Channel.{Station, Channel, Action, freshStation, freshStations, freshChannel, change, allHear, mayHold, isBody, holding, entering, leaving, nextBit, turnAt, hears, sendsD, step, run}
+use Rattle.contention.specs.Channel.Action.{hand, enter, leave, clear, opportunity}
+use Rattle.contention.specs.Stretch.{station}
+use Rattle.contention.specs.Invariant.{Sound, Invariant}
+use Rattle.contention.proofs.Terminal.{Outcome, outcome, WentOn, Started, completed, went-on, stopped, started, idled, outside, hears-outside, active-after, body-after, count-after, count-most, count-step, count-zero, threshold-least, level-least}
+
+-- a station of a changed list is as it was, or changed
+pub change-each : (f : Station → Station) (P : Station → Station → Type 0) → ((s : Station) → P s s) → ((s : Station) → P s (f s))
+    → (i : ℕ) (ss : List Station) (j : ℕ) → P (getD ss j freshStation) (getD (change f i ss) j freshStation)
+unfolding change
+change-each f P same-as changed i [] j = same-as freshStation
+change-each f P same-as changed zero (s ∷ ss) zero = changed s
+change-each f P same-as changed zero (s ∷ ss) (suc j) = same-as (getD ss j freshStation)
+change-each f P same-as changed (suc i) (s ∷ ss) zero = same-as s
+change-each f P same-as changed (suc i) (s ∷ ss) (suc j) = change-each f P same-as changed i ss j
+
+pub length-change : (f : Station → Station) (i : ℕ) (ss : List Station) → length (change f i ss) ≡ length ss
+unfolding change
+length-change f i [] = refl
+length-change f zero (s ∷ ss) = refl
+length-change f (suc i) (s ∷ ss) = ap suc (length-change f i ss)
+
+module _ (x1 x2 : ℕ) where
+  pub hear-each : (e : Bool) (ss : List Station) (j : ℕ) → getD (allHear x1 x2 e ss) j freshStation ≡ hears x1 x2 e (getD ss j freshStation)
+  unfolding allHear hears
+  hear-each e [] j = refl
+  hear-each e (s ∷ ss) zero = refl
+  hear-each e (s ∷ ss) (suc j) = hear-each e ss j
+
+  pub length-allHear : (e : Bool) (ss : List Station) → length (allHear x1 x2 e ss) ≡ length ss
+  unfolding allHear
+  length-allHear e [] = refl
+  length-allHear e (s ∷ ss) = ap suc (length-allHear e ss)
+
+  -- every terminal hears the E of an opportunity
+  pub station-hears : (e bit on : Bool) (c : Channel) (j : ℕ)
+      → station j (step x1 x2 c (opportunity e bit on)) ≡ hears x1 x2 e (station j c)
+  unfolding station step
+  station-hears e bit on c j = hear-each e (c .stations) j
+
+-- ---- one terminal stays sound
+
+pub sound-fresh : (x2 : ℕ) → Sound x2 freshStation
+sound-fresh x2 =
+    record {
+      counted = omega arith;
+      outside = λ _. refl;
+      class-known = omega arith;
+      none-held = λ _. (refl, refl);
+      frame-held = λ h. absurd (omega arith);
+      sent-part = omega arith;
+      last-bit = λ n h. absurd (omega arith);
+    }
+
+sound-outcome : (x1 x2 : ℕ) (e : Bool) (s s′ : Station) (d : Bool) (done : ℕ) → Sound x2 s → s′ .active ≡ s .active → s′ .body ≡ s .body
+    → (s .active ≡ true → s′ .access .count ≡ countAfter x2 e (s .access .count)) → Outcome x1 x2 e s s′ d done → Sound x2 s′
+unfolding nextBit
+sound-outcome x1 x2 e s s′ d done h act bod cnt (completed r) =
+    record {
+      counted = rw (cnt (r .in-F7)) (count-most x2 e (s .access .count) (h .counted));
+      outside = λ f. absurd (false≢true (sym f ∙ act ∙ r .in-F7));
+      class-known = omega arith;
+      none-held = λ _. (r .length-now, r .sent-now);
+      frame-held = λ k. absurd (omega arith);
+      sent-part = omega arith;
+      last-bit = λ n q. absurd (omega arith);
+    }
+sound-outcome x1 x2 e s s′ d done h act bod cnt (went-on r) =
+    record {
+      counted = rw (cnt (r .in-F7)) (count-most x2 e (s .access .count) (h .counted));
+      outside = λ f. absurd (false≢true (sym f ∙ act ∙ r .in-F7));
+      class-known = omega arith;
+      none-held = λ z. absurd (omega (arith, h .none-held (sym (r .held-now) ∙ z)));
+      frame-held = λ k. let f = h .frame-held (omega arith) in (rw bod (f .0), rw bod (r .length-now ∙ f .1));
+      sent-part = omega arith;
+      last-bit = λ n q. let m : n ≡ s .access .sent = omega arith in cc;
+    }
+sound-outcome x1 x2 e s s′ d done h act bod cnt (stopped r) =
+    record {
+      counted = rw (cnt (r .in-F7)) (count-most x2 e (s .access .count) (h .counted));
+      outside = λ f. absurd (false≢true (sym f ∙ act ∙ r .in-F7));
+      class-known = omega arith;
+      none-held = λ z. absurd (omega (arith, h .none-held (sym (r .held-now) ∙ z)));
+      frame-held = λ k. let f = h .frame-held (omega arith) in (rw bod (f .0), rw bod (r .length-now ∙ f .1));
+      sent-part = omega arith;
+      last-bit = λ n q. absurd (omega arith);
+    }
+sound-outcome x1 x2 e s s′ d done h act bod cnt (started r) =
+    record {
+      counted = rw (cnt (r .in-F7)) (count-most x2 e (s .access .count) (h .counted));
+      outside = λ f. absurd (false≢true (sym f ∙ act ∙ r .in-F7));
+      class-known = omega arith;
+      none-held = λ z. absurd (omega arith);
+      frame-held = λ k. let f = h .frame-held (omega arith) in (rw bod (f .0), rw bod (r .length-now ∙ f .1));
+      sent-part = omega (arith, h .frame-held (r .holds) .1, length-image (s .body));
+      last-bit = λ n q. let m : n ≡ s .access .sent = omega arith in cc;
+    }
+sound-outcome x1 x2 e s s′ d done h act bod cnt (idled r) =
+    record {
+      counted = rw (cnt (r .in-F7)) (count-most x2 e (s .access .count) (h .counted));
+      outside = λ f. absurd (false≢true (sym f ∙ act ∙ r .in-F7));
+      class-known = omega arith;
+      none-held = λ z. (r .length-now ∙ h .none-held (sym (r .held-now) ∙ z) .0, r .sent-now);
+      frame-held = λ k. let f = h .frame-held (omega arith) in (rw bod (f .0), rw bod (r .length-now ∙ f .1));
+      sent-part = omega arith;
+      last-bit = λ n q. absurd (omega arith);
+    }
+sound-outcome x1 x2 e s s′ d done h act bod cnt (outside r) = rw (r .as-before) h
+
+pub sound-hears : (x1 x2 : ℕ) (e : Bool) (s : Station) → Sound x2 s → Sound x2 (hears x1 x2 e s)
+sound-hears x1 x2 e s h =
+    sound-outcome x1 x2 e s (hears x1 x2 e s) (sendsD x1 x2 e s) (turnAt x1 x2 e s .done) h (active-after x1 x2 e s) (body-after x1 x2 e s)
+    (count-after x1 x2 e s) (outcome x1 x2 e s)
+
+-- a terminal that is sending holds a frame
+pub sending-holds : (x2 : ℕ) (s : Station) → Sound x2 s → 1 ≤ s .access .sent → 1 ≤ s .access .held
+sending-holds x2 s h k =
+    by-test (leb 1 (s .access .held)) (λ l. leb-true 1 (s .access .held) l)
+    (λ l. let z : s .access .held ≡ 0 = omega (arith, leb-false 1 (s .access .held) l) in absurd (omega (arith, h .none-held z)))
+
+pub and-true : (a b : Bool) → (a && b) ≡ true → (a ≡ true) × (b ≡ true)
+and-true true b h = (refl, h)
+and-true false b h = absurd (false≢true h)
+
+one-or-two : (k : ℕ) → (eqb k 1 || eqb k 2) ≡ true → (1 ≤ k) × (k ≤ 2)
+one-or-two k h =
+    by-test (eqb k 1) (λ l. let q = eqb-true k 1 l in omega arith) (λ l. let q = eqb-true k 2 (rw l at h) in omega arith)
+
+-- what is known where a frame is taken
+pub record Taken (k : ℕ) (body : List ℕ) (s : Station) : Type 0 where
+  pub in-F7 : s .active ≡ true
+  pub free : s .access .held ≡ 0
+  pub class-least : 1 ≤ k
+  pub class-most : k ≤ 2
+  pub is-body : isBody body ≡ true
+
+pub taken : (k : ℕ) (body : List ℕ) (s : Station) → mayHold k body s ≡ true → Taken k body s
+unfolding mayHold
+taken k body s h =
+    let both = and-true (s .active && eqb (s .access .held) 0) ((eqb k 1 || eqb k 2) && isBody body) h in
+    let left = and-true (s .active) (eqb (s .access .held) 0) (both .0) in
+    let right = and-true (eqb k 1 || eqb k 2) (isBody body) (both .1) in
+    record {
+      in-F7 = left .0;
+      free = eqb-true (s .access .held) 0 (left .1);
+      class-least = one-or-two k (right .0) .0;
+      class-most = one-or-two k (right .0) .1;
+      is-body = right .1;
+    }
+
+sound-holding : (x2 k : ℕ) (body : List ℕ) (s : Station) → Sound x2 s → Sound x2 (holding k body s)
+unfolding holding takenUp
+sound-holding x2 k body s h =
+    by-test (mayHold k body s)
+    (λ m. rw m
+    (let t = taken k body s m in
+    record {
+      counted = h .counted;
+      outside = λ f. absurd (false≢true (sym f ∙ t .in-F7));
+      class-known = t .class-most;
+      none-held = λ z. absurd (omega arith);
+      frame-held = λ _. (t .is-body, refl);
+      sent-part = omega arith;
+      last-bit = λ n q. absurd (omega arith);
+    }))
+    (λ m. rw m h)
+
+pub entering-active : (s : Station) → s .active ≡ true → entering s ≡ s
+unfolding entering
+entering-active s h = rw h
+
+pub entering-outside : (s : Station) → s .active ≡ false → entering s ≡ record { active = true; access = entered (s .access); body = s .body }
+unfolding entering
+entering-outside s h = rw h
+
+sound-entering : (x2 : ℕ) (s : Station) → Sound x2 s → Sound x2 (entering s)
+unfolding entered
+sound-entering x2 s h =
+    by-test (s .active) (λ m. rw (entering-active s m) h)
+    (λ m. rw (entering-outside s m, h .outside m)
+    (record {
+      counted = omega arith;
+      outside = λ f. absurd (true≢false f);
+      class-known = omega arith;
+      none-held = λ _. (refl, refl);
+      frame-held = λ k. absurd (omega arith);
+      sent-part = omega arith;
+      last-bit = λ n q. absurd (omega arith);
+    }))
+
+sound-leaving : (x2 : ℕ) (s : Station) → Sound x2 (leaving s)
+unfolding leaving left
+sound-leaving x2 s =
+    record {
+      counted = omega arith;
+      outside = λ _. refl;
+      class-known = omega arith;
+      none-held = λ _. (refl, refl);
+      frame-held = λ h. absurd (omega arith);
+      sent-part = omega arith;
+      last-bit = λ n h. absurd (omega arith);
+    }
+
+-- ---- what a hand-over or an entry into F7 leaves of a terminal: all that is counted, and a held frame with it
+pub record Quietly (s s′ : Station) : Type 0 where
+  pub kept : 1 ≤ s .access .held → s′ ≡ s
+  pub sent-same : s′ .access .sent ≡ s .access .sent
+  pub count-same : s′ .access .count ≡ s .access .count
+  pub low1-same : s′ .access .low1 ≡ s .access .low1
+  pub low2-same : s′ .access .low2 ≡ s .access .low2
+  pub stays : s .active ≡ true → s′ .active ≡ true
+
+pub quietly-same : (s : Station) → Quietly s s
+quietly-same s =
+    record { kept = λ _. refl; sent-same = refl; count-same = refl; low1-same = refl; low2-same = refl; stays = λ h. h }
+
+quietly-holding : (x2 k : ℕ) (body : List ℕ) (s : Station) → Sound x2 s → Quietly s (holding k body s)
+unfolding holding takenUp
+quietly-holding x2 k body s h =
+    by-test (mayHold k body s)
+    (λ m. rw m
+    (let t = taken k body s m in
+    record {
+      kept = λ q. absurd (omega arith);
+      sent-same = sym (h .none-held (t .free) .1);
+      count-same = refl;
+      low1-same = refl;
+      low2-same = refl;
+      stays = λ a. a;
+    }))
+    (λ m. rw m (quietly-same s))
+
+quietly-entering : (x2 : ℕ) (s : Station) → Sound x2 s → Quietly s (entering s)
+unfolding entered
+quietly-entering x2 s h =
+    by-test (s .active) (λ m. rw (entering-active s m) (quietly-same s))
+    (λ m. rw (entering-outside s m)
+    (let f = h .outside m in
+    record {
+      kept = λ q. absurd (omega (arith, ap (λ (a : Access). a .held) f));
+      sent-same = refl;
+      count-same = sym (ap (λ (a : Access). a .count) f);
+      low1-same = refl;
+      low2-same = refl;
+      stays = λ _. refl;
+    }))
+
+-- ---- the channel: actions other than opportunities
+
+-- what keeps all in phase: C does not rise, and whoever is sending was, with the same frame
+record Less (s s′ : Station) : Type 0 where
+  count-less : s′ .access .count ≤ s .access .count
+  sending-same : 1 ≤ s′ .access .sent → (s′ .access .sent ≡ s .access .sent) × (s′ .body ≡ s .body)
+
+less-quietly : (x2 : ℕ) (s s′ : Station) → Sound x2 s → Quietly s s′ → Less s s′
+less-quietly x2 s s′ h q =
+    record {
+      count-less = omega arith;
+      sending-same = λ k. (q .sent-same, ap (λ (z : Station). z .body) (q .kept (sending-holds x2 s h (omega arith))));
+    }
+
+less-leaving : (s : Station) → Less s (leaving s)
+unfolding leaving left
+less-leaving s = record { count-less = omega arith; sending-same = λ k. absurd (omega arith) }
+
+less-kept : (x2 : ℕ) (c c′ : Channel) → Invariant x2 c → ((i : ℕ) → Sound x2 (station i c′)) → ((i : ℕ) → Less (station i c) (station i c′)) → Invariant x2 c′
+less-kept x2 c c′ inv snd less =
+    record {
+      sound = snd;
+      in-phase = λ i j hi hj.
+          let li = less i .sending-same hi in
+          let lj = less j .sending-same hj in
+          let before = inv .in-phase i j (omega arith) (omega arith) in
+          (li .0 ∙ before .0 ∙ sym (lj .0), λ t h. rw (li .1, lj .1) (before .1 t (omega arith)));
+      held-back = λ i j n q.
+          let li = less i .sending-same (omega arith) in
+          rw (li .1) (omega (arith, less j .count-less, inv .held-back i j n (sym (li .0) ∙ q)));
+    }
+
+-- two channels between which only hand-overs and entries into F7 lie
+pub record Quiet (c c′ : Channel) : Type 0 where
+  pub heard-same : c′ .heardD ≡ c .heardD
+  pub as-many : length (c′ .stations) ≡ length (c .stations)
+  pub each : (i : ℕ) → Quietly (station i c) (station i c′)
+
+pub quiet-same : (c : Channel) → Quiet c c
+quiet-same c = record { heard-same = refl; as-many = refl; each = λ i. quietly-same (station i c) }
+
+pub quiet-then : (c d f : Channel) → Quiet c d → Quiet d f → Quiet c f
+quiet-then c d f p q =
+    record {
+      heard-same = q .heard-same ∙ p .heard-same;
+      as-many = q .as-many ∙ p .as-many;
+      each = λ i.
+          let pi = p .each i in
+          let qi = q .each i in
+          record {
+            kept = λ h. qi .kept (rw (pi .kept h) h) ∙ pi .kept h;
+            sent-same = qi .sent-same ∙ pi .sent-same;
+            count-same = qi .count-same ∙ pi .count-same;
+            low1-same = qi .low1-same ∙ pi .low1-same;
+            low2-same = qi .low2-same ∙ pi .low2-same;
+            stays = λ h. qi .stays (pi .stays h);
+          };
+    }
+
+module _ (x1 x2 : ℕ) where
+  pub quiet-hand : (c : Channel) (i k : ℕ) (body : List ℕ) → Invariant x2 c → Quiet c (step x1 x2 c (hand i k body))
+  unfolding step station
+  quiet-hand c i k body inv =
+      record {
+        heard-same = refl;
+        as-many = length-change (holding k body) i (c .stations);
+        each = λ j. change-each (holding k body) (λ s s′. Sound x2 s → Quietly s s′) (λ s _. quietly-same s) (λ s. quietly-holding x2 k body s) i (c .stations) j (inv .sound j);
+      }
+
+  pub quiet-enter : (c : Channel) (i : ℕ) → Invariant x2 c → Quiet c (step x1 x2 c (enter i))
+  unfolding step station
+  quiet-enter c i inv =
+      record {
+        heard-same = refl;
+        as-many = length-change entering i (c .stations);
+        each = λ j. change-each entering (λ s s′. Sound x2 s → Quietly s s′) (λ s _. quietly-same s) (λ s. quietly-entering x2 s) i (c .stations) j (inv .sound j);
+      }
+
+  quiet-less : (c c′ : Channel) → Invariant x2 c → Quiet c c′ → (i : ℕ) → Less (station i c) (station i c′)
+  quiet-less c c′ inv q i = less-quietly x2 (station i c) (station i c′) (inv .sound i) (q .each i)
+
+  invariant-hand : (c : Channel) (i k : ℕ) (body : List ℕ) → Invariant x2 c → Invariant x2 (step x1 x2 c (hand i k body))
+  unfolding step station
+  invariant-hand c i k body inv =
+      less-kept x2 c (step x1 x2 c (hand i k body)) inv
+      (λ j. change-each (holding k body) (λ s s′. Sound x2 s → Sound x2 s′) (λ s h. h) (λ s. sound-holding x2 k body s) i (c .stations) j (inv .sound j))
+      (quiet-less c (step x1 x2 c (hand i k body)) inv (quiet-hand c i k body inv))
+
+  invariant-enter : (c : Channel) (i : ℕ) → Invariant x2 c → Invariant x2 (step x1 x2 c (enter i))
+  unfolding step station
+  invariant-enter c i inv =
+      less-kept x2 c (step x1 x2 c (enter i)) inv
+      (λ j. change-each entering (λ s s′. Sound x2 s → Sound x2 s′) (λ s h. h) (λ s. sound-entering x2 s) i (c .stations) j (inv .sound j))
+      (quiet-less c (step x1 x2 c (enter i)) inv (quiet-enter c i inv))
+
+  invariant-leave : (c : Channel) (i : ℕ) → Invariant x2 c → Invariant x2 (step x1 x2 c (leave i))
+  unfolding step station
+  invariant-leave c i inv =
+      less-kept x2 c (step x1 x2 c (leave i)) inv
+      (λ j. change-each leaving (λ s s′. Sound x2 s → Sound x2 s′) (λ s h. h) (λ s h. sound-leaving x2 s) i (c .stations) j (inv .sound j))
+      (λ j. change-each leaving Less (λ s. record { count-less = omega arith; sending-same = λ _. (refl, refl) }) less-leaving i (c .stations) j)
+
+  invariant-clear : (c : Channel) → Invariant x2 c → Invariant x2 (step x1 x2 c clear)
+  unfolding step station
+  invariant-clear c inv = record { sound = inv .sound; in-phase = inv .in-phase; held-back = inv .held-back }
+
+-- ---- the channel: opportunities
+
+module _ (x1 x2 : ℕ) (e : Bool) where
+  pub count-up : (s : Station) → hears x1 x2 e s .access .count ≤ suc (s .access .count)
+  count-up s =
+      by-test (s .active) (λ act. rw (count-after x1 x2 e s act) (count-step x2 e (s .access .count)))
+      (λ out. rw (hears-outside x1 x2 e s out) (omega arith))
+
+-- an E of 0 sets every C to 0
+pub zero-clears : (x1 x2 : ℕ) (s : Station) → Sound x2 s → hears x1 x2 false s .access .count ≡ 0
+zero-clears x1 x2 s h =
+    by-test (s .active) (λ act. rw (count-after x1 x2 false s act) (count-zero x2 (s .access .count)))
+    (λ out. rw (hears-outside x1 x2 false s out) (ap (λ (a : Access). a .count) (h .outside out)))
+
+-- whoever is sending after an opportunity went on or started at it
+pub data Sender (x1 x2 : ℕ) (e : Bool) (s s′ : Station) (d : Bool) (done : ℕ) : Type 0 where
+  going : WentOn x1 x2 e s s′ d done → Sender x1 x2 e s s′ d done
+  starting : Started x1 x2 e s s′ d done → Sender x1 x2 e s s′ d done
+
+sender-of : (x1 x2 : ℕ) (e : Bool) (s s′ : Station) (d : Bool) (done : ℕ) → Sound x2 s → 1 ≤ s′ .access .sent → Outcome x1 x2 e s s′ d done
+    → Sender x1 x2 e s s′ d done
+sender-of x1 x2 e s s′ d done snd h (completed r) = absurd (omega arith)
+sender-of x1 x2 e s s′ d done snd h (went-on r) = going r
+sender-of x1 x2 e s s′ d done snd h (stopped r) = absurd (omega arith)
+sender-of x1 x2 e s s′ d done snd h (started r) = starting r
+sender-of x1 x2 e s s′ d done snd h (idled r) = absurd (omega arith)
+sender-of x1 x2 e s s′ d done snd h (outside r) =
+    absurd (omega (arith, ap (λ (z : Station). z .access .sent) (r .as-before), ap (λ (a : Access). a .sent) (snd .outside (r .not-F7))))
+
+pub sender : (x1 x2 : ℕ) (e : Bool) (s : Station) → Sound x2 s → 1 ≤ hears x1 x2 e s .access .sent
+    → Sender x1 x2 e s (hears x1 x2 e s) (sendsD x1 x2 e s) (turnAt x1 x2 e s .done)
+sender x1 x2 e s snd h = sender-of x1 x2 e s (hears x1 x2 e s) (sendsD x1 x2 e s) (turnAt x1 x2 e s .done) snd h (outcome x1 x2 e s)
+
+module _ (x1 x2 : ℕ) (c : Channel) (inv : Invariant x2 c) where
+  -- the 1s that end what a sender has heard of itself, with this E its last bit, bound every C
+  heard-bound : (e : Bool) (i j n : ℕ) → station i c .access .sent ≡ suc n → e ≡ station i c .access .last
+      → hears x1 x2 e (station j c) .access .count ≤ endingOnes (take (suc n) (image (station i c .body)))
+  heard-bound false i j n q a = omega (arith, zero-clears x1 x2 (station j c) (inv .sound j))
+  heard-bound true i j zero q a =
+      absurd (true≢false (a ∙ inv .sound i .last-bit zero q ∙ image-starts (station i c .body)))
+  heard-bound true i j (suc n) q a =
+      let f = inv .sound i .frame-held (sending-holds x2 (station i c) (inv .sound i) (omega arith)) in
+      let more = take-suc (image (station i c .body)) (suc n) true (omega (arith, f .1, inv .sound i .sent-part)) in
+      let bit : getD (image (station i c .body)) (suc n) true ≡ true = sym (inv .sound i .last-bit (suc n) q) ∙ sym a in
+      rw (more, bit, ending-one (take (suc n) (image (station i c .body))))
+      (omega (arith, count-up x1 x2 true (station j c), inv .held-back i j n q))
+
+  -- while one goes on, every C is at most six
+  pub going-bound : (e : Bool) (i j : ℕ) → 1 ≤ station i c .access .sent → e ≡ station i c .access .last
+      → hears x1 x2 e (station j c) .access .count ≤ 6
+  going-bound e i j h a = go (station i c .access .sent) refl h
+    where
+      go : (n : ℕ) → station i c .access .sent ≡ n → 1 ≤ n → hears x1 x2 e (station j c) .access .count ≤ 6
+      go zero q k = absurd (omega arith)
+      go (suc n) q k = omega (arith, heard-bound e i j n q a, image-endingOnes (station i c .body) (suc n))
+
+  -- "so nobody starts"
+  pub nobody-starts : 8 ≤ x1 → x1 + 2 ≤ x2 → (e : Bool) (i j : ℕ) → 1 ≤ station i c .access .sent → e ≡ station i c .access .last
+      → Started x1 x2 e (station j c) (hears x1 x2 e (station j c)) (sendsD x1 x2 e (station j c)) (turnAt x1 x2 e (station j c) .done) → ⊥
+  nobody-starts h1 h2 e i j h a r =
+      omega (
+        arith,
+        going-bound e i j h a,
+        r .reached,
+        threshold-least x1 x2 (station j c .access .held) (lowOf (station j c .access .held) (hears x1 x2 e (station j c) .access)),
+        level-least x1 x2 (station j c .access .held) h2,
+      )
+
+-- what `in-phase` says of two terminals
+abbrev Phase : Station → Station → Type 0
+Phase s t =
+    (s .access .sent ≡ t .access .sent) ×
+    ((n : ℕ) → n + 1 < s .access .sent → getD (image (s .body)) n true ≡ getD (image (t .body)) n true)
+
+module _ (x1 x2 : ℕ) (h1 : 8 ≤ x1) (h2 : x1 + 2 ≤ x2) (c : Channel) (inv : Invariant x2 c) (e : Bool) where
+  -- both went on: the bits heard are equal too
+  phase-on : (i j n : ℕ) → station i c .access .sent ≡ suc n → station j c .access .sent ≡ suc n
+      → e ≡ station i c .access .last → e ≡ station j c .access .last
+      → (t : ℕ) → t < suc n → getD (image (station i c .body)) t true ≡ getD (image (station j c .body)) t true
+  phase-on i j n qi qj ai aj t h =
+      by-test (eqb t n)
+      (λ l. rw (eqb-true t n l)
+      (sym (inv .sound i .last-bit n qi) ∙ sym ai ∙ aj ∙ inv .sound j .last-bit n qj))
+      (λ l. inv .in-phase i j (omega arith) (omega arith) .1 t (omega (arith, eqb-false t n l)))
+
+  phase-hears : (i j : ℕ)
+      → Sender x1 x2 e (station i c) (hears x1 x2 e (station i c)) (sendsD x1 x2 e (station i c)) (turnAt x1 x2 e (station i c) .done)
+      → Sender x1 x2 e (station j c) (hears x1 x2 e (station j c)) (sendsD x1 x2 e (station j c)) (turnAt x1 x2 e (station j c) .done)
+      → Phase (hears x1 x2 e (station i c)) (hears x1 x2 e (station j c))
+  phase-hears i j (going r) (going q) =
+      let same-sent = inv .in-phase i j (r .sending) (q .sending) .0 in (
+        omega arith,
+        λ t h. rw (body-after x1 x2 e (station i c), body-after x1 x2 e (station j c))
+            (on (station i c .access .sent) refl t (omega arith)),
+      )
+    where
+      on : (n : ℕ) → station i c .access .sent ≡ n → (t : ℕ) → t < n
+          → getD (image (station i c .body)) t true ≡ getD (image (station j c .body)) t true
+      on zero z t h = absurd (omega arith)
+      on (suc n) z t h = phase-on i j n z (sym (inv .in-phase i j (r .sending) (q .sending) .0) ∙ z) (r .agreed) (q .agreed) t h
+  phase-hears i j (going r) (starting q) = absurd (nobody-starts x1 x2 c inv h1 h2 e i j (r .sending) (r .agreed) q)
+  phase-hears i j (starting r) (going q) = absurd (nobody-starts x1 x2 c inv h1 h2 e j i (q .sending) (q .agreed) r)
+  phase-hears i j (starting r) (starting q) = (omega arith, λ t h. absurd (omega arith))
+
+  held-hears : (i j n : ℕ) → hears x1 x2 e (station i c) .access .sent ≡ suc (suc n)
+      → Sender x1 x2 e (station i c) (hears x1 x2 e (station i c)) (sendsD x1 x2 e (station i c)) (turnAt x1 x2 e (station i c) .done)
+      → hears x1 x2 e (station j c) .access .count ≤ endingOnes (take (suc n) (image (hears x1 x2 e (station i c) .body)))
+  held-hears i j n q (going r) = rw (body-after x1 x2 e (station i c)) (heard-bound x1 x2 c inv e i j n (omega arith) (r .agreed))
+  held-hears i j n q (starting r) = absurd (omega arith)
+
+  invariant-opportunity : (bit on : Bool) → Invariant x2 (step x1 x2 c (opportunity e bit on))
+  invariant-opportunity bit on =
+      let is = station-hears x1 x2 e bit on c in
+      record {
+        sound = λ i. rw (is i) (sound-hears x1 x2 e (station i c) (inv .sound i));
+        in-phase = λ i j hi hj.
+            rw (is i, is j)
+            (phase-hears i j (sender x1 x2 e (station i c) (inv .sound i) (rw (is i) at hi)) (sender x1 x2 e (station j c) (inv .sound j) (rw (is j) at hj)));
+        held-back = λ i j n q.
+            let z : hears x1 x2 e (station i c) .access .sent ≡ suc (suc n) = rw (is i) at q in
+            rw (is i, is j) (held-hears i j n z (sender x1 x2 e (station i c) (inv .sound i) (omega arith)));
+      }
+
+fresh-station : (n j : ℕ) → getD (freshStations n) j freshStation ≡ freshStation
+unfolding freshStations
+fresh-station zero j = refl
+fresh-station (suc n) zero = refl
+fresh-station (suc n) (suc j) = fresh-station n j
+
+-- The invariant holds of a fresh channel ..
+pub invariant-fresh : (x2 n : ℕ) → Invariant x2 (freshChannel n)
+unfolding station freshChannel
+invariant-fresh x2 n =
+    record {
+      sound = λ i. rw (fresh-station n i) (sound-fresh x2);
+      in-phase = λ i j hi hj. absurd (omega (arith, ap (λ (s : Station). s .access .sent) (fresh-station n i)));
+      held-back = λ i j m q. absurd (omega (arith, ap (λ (s : Station). s .access .sent) (fresh-station n i)));
+    }
+
+module _ (x1 x2 : ℕ) (h1 : 8 ≤ x1) (h2 : x1 + 2 ≤ x2) where
+  -- .. is kept by every action, whatever the E ..
+  pub invariant-step : (c : Channel) (a : Action) → Invariant x2 c → Invariant x2 (step x1 x2 c a)
+  invariant-step c (hand i k body) inv = invariant-hand x1 x2 c i k body inv
+  invariant-step c (enter i) inv = invariant-enter x1 x2 c i inv
+  invariant-step c (leave i) inv = invariant-leave x1 x2 c i inv
+  invariant-step c clear inv = invariant-clear x1 x2 c inv
+  invariant-step c (opportunity e bit on) inv = invariant-opportunity x1 x2 h1 h2 c inv e bit on
+
+  pub invariant-after : (actions : List Action) (c : Channel) → Invariant x2 c → Invariant x2 (run x1 x2 c actions)
+  unfolding run
+  invariant-after [] c inv = inv
+  invariant-after (a ∷ more) c inv = invariant-after more (step x1 x2 c a) (invariant-step c a inv)
+
+  -- .. and so holds after every list of actions.
+  pub invariant-run : (n : ℕ) (actions : List Action) → Invariant x2 (run x1 x2 (freshChannel n) actions)
+  invariant-run n actions = invariant-after actions (freshChannel n) (invariant-fresh x2 n)

@@ -1,0 +1,15 @@
+-- Demand 3 for the D channel: one terminal's opportunity (Terminal), the invariant (InvariantKept), from one opportunity to the next
+-- (Trace, Waiting), no rival twice (Level), the wait (Wait, ClassTwo), what is heard (Heard..), all together (Demand3).
+pub mod Terminal
+pub mod InvariantKept
+pub mod Trace
+pub mod Waiting
+pub mod Level
+pub mod Wait
+pub mod ClassTwo
+pub mod HeardNext
+pub mod HeardSteps
+pub mod HeardPhase
+pub mod HeardInOrder
+pub mod WholeList
+pub mod Demand3

@@ -1,0 +1,248 @@
+-- One terminal at one D opportunity: what can come of it, as five outcomes, and what a hand-over, an entry into F7 and a leave change.
+use mathlib.Core.Bool.{Bool, true, false, cond, false≢true, true≢false}
+use mathlib.Core.Path.{_≡_, refl, sym, ap, _∙_}
+use mathlib.Core.List.{List}
+use Prim.Native.Nat.{ℕ, zero, suc, _+_, _≤_, _<_}
+use native.Mathlib.Omega.{arith}
+use native.Mathlib.Numerals.{add-one}
+use lib.Dec.{eqb, leb, ltb}
+use lib.ListN.{length}
+use borrow.Author.Tests.{ltb-true, ltb-false, leb-true, leb-false, eqb-false, eq-eqb, ne-eqb, lt-ltb, le-ltb}
+use Rattle.dchannel.specs.declared.access.Access.{Access}
+use Rattle.dchannel.specs.declared.access.Turn.{Turn}
+use Rattle.dchannel.specs.Bits.{same}
+use Rattle.dchannel.proofs.ByCases.{by-test}
+use Rattle.dchannel.specs.Access.{countAfter, lowAfter, afterE, threshold, lowOf, mayStart, sends, stops, completes, idles, turn}
+use Rattle.dchannel.proofs.AccessLaws.{by-ways, turn-count, turn-low1, turn-low2}
+use Rattle.contention.specs.Channel.{Station, nextBit, turnAt, hears, sendsD}
+
+-- The outcomes, for a terminal s that becomes s′ at E and sends d; `done` is the class of a completed frame.
+module _ (x1 x2 : ℕ) (e : Bool) (s s′ : Station) (d : Bool) (done : ℕ) where
+  pub record Completed : Type 0 where
+    pub in-F7 : s .active ≡ true
+    pub sending : 1 ≤ s .access .sent
+    pub agreed : e ≡ s .access .last
+    pub whole : s .access .length ≤ s .access .sent
+    pub sent-now : s′ .access .sent ≡ 0
+    pub held-now : s′ .access .held ≡ 0
+    pub length-now : s′ .access .length ≡ 0
+    pub done-now : done ≡ s .access .held
+    pub d-now : d ≡ true
+
+  pub record WentOn : Type 0 where
+    pub in-F7 : s .active ≡ true
+    pub sending : 1 ≤ s .access .sent
+    pub agreed : e ≡ s .access .last
+    pub more : s .access .sent < s .access .length
+    pub sent-now : s′ .access .sent ≡ suc (s .access .sent)
+    pub held-now : s′ .access .held ≡ s .access .held
+    pub length-now : s′ .access .length ≡ s .access .length
+    pub last-now : s′ .access .last ≡ nextBit s
+    pub done-now : done ≡ 0
+    pub d-now : d ≡ nextBit s
+
+  pub record Stopped : Type 0 where
+    pub in-F7 : s .active ≡ true
+    pub sending : 1 ≤ s .access .sent
+    pub differed : e ≡ s .access .last → ⊥
+    pub sent-now : s′ .access .sent ≡ 0
+    pub held-now : s′ .access .held ≡ s .access .held
+    pub length-now : s′ .access .length ≡ s .access .length
+    pub done-now : done ≡ 0
+    pub d-now : d ≡ true
+
+  pub record Started : Type 0 where
+    pub in-F7 : s .active ≡ true
+    pub idle : s .access .sent ≡ 0
+    pub holds : 1 ≤ s .access .held
+    pub reached : threshold x1 x2 (s .access .held) (lowOf (s .access .held) (s′ .access)) ≤ s′ .access .count
+    pub sent-now : s′ .access .sent ≡ 1
+    pub held-now : s′ .access .held ≡ s .access .held
+    pub length-now : s′ .access .length ≡ s .access .length
+    pub last-now : s′ .access .last ≡ nextBit s
+    pub done-now : done ≡ 0
+    pub d-now : d ≡ nextBit s
+
+  pub record Idled : Type 0 where
+    pub in-F7 : s .active ≡ true
+    pub idle : s .access .sent ≡ 0
+    pub short : 1 ≤ s .access .held → s′ .access .count < threshold x1 x2 (s .access .held) (lowOf (s .access .held) (s′ .access))
+    pub sent-now : s′ .access .sent ≡ 0
+    pub held-now : s′ .access .held ≡ s .access .held
+    pub length-now : s′ .access .length ≡ s .access .length
+    pub done-now : done ≡ 0
+    pub d-now : d ≡ true
+
+  pub record Outside : Type 0 where
+    pub not-F7 : s .active ≡ false
+    pub as-before : s′ ≡ s
+    pub d-now : d ≡ true
+
+  pub data Outcome : Type 0 where
+    completed : Completed → Outcome
+    went-on : WentOn → Outcome
+    stopped : Stopped → Outcome
+    started : Started → Outcome
+    idled : Idled → Outcome
+    outside : Outside → Outcome
+
+may-start : (x1 x2 : ℕ) (a : Access) → mayStart x1 x2 a ≡ true
+    → (1 ≤ a .held) × (threshold x1 x2 (a .held) (lowOf (a .held) a) ≤ a .count)
+unfolding mayStart
+may-start x1 x2 a h =
+    by-test (eqb (a .held) 0) (λ z. absurd (false≢true (rw z at h)))
+    (λ z. (omega (arith, eqb-false (a .held) 0 z), leb-true _ _ (rw z at h)))
+
+may-not-start : (x1 x2 : ℕ) (a : Access) → mayStart x1 x2 a ≡ false → 1 ≤ a .held
+    → a .count < threshold x1 x2 (a .held) (lowOf (a .held) a)
+unfolding mayStart
+may-not-start x1 x2 a h k = leb-false _ _ (rw (ne-eqb (a .held) 0 (λ z. omega arith)) at h)
+
+-- a terminal in F7 with a record of its own
+abbrev pub inF7 : Access → List ℕ → Station
+inF7 a body = record { active = true; access = a; body = body }
+
+module _ (x1 x2 : ℕ) (e : Bool) (s : Station) where
+  pub hears-active : s .active ≡ true → hears x1 x2 e s ≡ inF7 (turnAt x1 x2 e s .access) (s .body)
+  unfolding hears
+  hears-active h = rw h
+
+  pub hears-outside : s .active ≡ false → hears x1 x2 e s ≡ s
+  unfolding hears
+  hears-outside h = rw h
+
+  sendsD-active : s .active ≡ true → sendsD x1 x2 e s ≡ turnAt x1 x2 e s .d
+  unfolding sendsD
+  sendsD-active h = rw h
+
+  sendsD-outside : s .active ≡ false → sendsD x1 x2 e s ≡ true
+  unfolding sendsD
+  sendsD-outside h = rw h
+
+  turn-outcome : s .active ≡ true → Outcome x1 x2 e s (inF7 (turnAt x1 x2 e s .access) (s .body)) (turnAt x1 x2 e s .d) (turnAt x1 x2 e s .done)
+  unfolding turnAt completes sends stops idles afterE lowOf
+  turn-outcome act =
+      by-ways x1 x2 e (nextBit s) (s .access) (λ t. Outcome x1 x2 e s (inF7 (t .access) (s .body)) (t .d) (t .done))
+      (λ h a m. went-on (record { in-F7 = act; sending = h; agreed = a; more = m; sent-now = add-one (s .access .sent); held-now = refl; length-now = refl; last-now = refl; done-now = refl; d-now = refl }))
+      (λ h a w. completed (record { in-F7 = act; sending = h; agreed = a; whole = w; sent-now = refl; held-now = refl; length-now = refl; done-now = refl; d-now = refl }))
+      (λ h f. stopped (record { in-F7 = act; sending = h; differed = f; sent-now = refl; held-now = refl; length-now = refl; done-now = refl; d-now = refl }))
+      (λ h m. started (record { in-F7 = act; idle = h; holds = may-start _ _ _ m .0; reached = may-start _ _ _ m .1; sent-now = add-one (s .access .sent) ∙ ap suc h; held-now = refl; length-now = refl; last-now = refl; done-now = refl; d-now = refl }))
+      (λ h m. idled (record { in-F7 = act; idle = h; short = may-not-start _ _ _ m; sent-now = h; held-now = refl; length-now = refl; done-now = refl; d-now = refl }))
+
+  -- every terminal has one of the outcomes
+  pub outcome : Outcome x1 x2 e s (hears x1 x2 e s) (sendsD x1 x2 e s) (turnAt x1 x2 e s .done)
+  outcome =
+      by-test (s .active) (λ act. rw (hears-active act, sendsD-active act) (turn-outcome act))
+      (λ out. outside (record { not-F7 = out; as-before = hears-outside out; d-now = sendsD-outside out }))
+
+  -- what every outcome leaves
+  pub active-after : hears x1 x2 e s .active ≡ s .active
+  active-after = by-test (s .active) (λ act. rw (hears-active act) (sym act)) (λ out. rw (hears-outside out))
+
+  pub body-after : hears x1 x2 e s .body ≡ s .body
+  body-after = by-test (s .active) (λ act. rw (hears-active act)) (λ out. rw (hears-outside out))
+
+  pub count-after : s .active ≡ true → hears x1 x2 e s .access .count ≡ countAfter x2 e (s .access .count)
+  unfolding turnAt completes sends stops idles afterE
+  count-after act =
+      rw (hears-active act)
+      (turn-count x1 x2 e (nextBit s) (s .access))
+
+-- the normal level of class k
+unfoldable pub level : ℕ → ℕ → ℕ → ℕ
+level x1 x2 k = cond (eqb k 1) x1 x2
+
+pub threshold-normal : (x1 x2 k : ℕ) → threshold x1 x2 k false ≡ level x1 x2 k
+unfolding threshold level
+threshold-normal x1 x2 k = omega arith
+
+pub threshold-low : (x1 x2 k : ℕ) → threshold x1 x2 k true ≡ suc (level x1 x2 k)
+unfolding threshold level
+threshold-low x1 x2 k = omega arith
+
+pub threshold-of : (x1 x2 held k : ℕ) (a : Access) (low : Bool) → held ≡ k → lowOf k a ≡ low
+    → threshold x1 x2 held (lowOf held a) ≡ threshold x1 x2 k low
+threshold-of x1 x2 held k a low h l = rw h (rw l)
+
+pub threshold-least : (x1 x2 k : ℕ) (low : Bool) → level x1 x2 k ≤ threshold x1 x2 k low
+threshold-least x1 x2 k true = omega (arith, threshold-low x1 x2 k)
+threshold-least x1 x2 k false = omega (arith, threshold-normal x1 x2 k)
+
+pub level-least : (x1 x2 k : ℕ) → x1 + 2 ≤ x2 → x1 ≤ level x1 x2 k
+unfolding level
+level-least x1 x2 k h = by-test (eqb k 1) (λ e. rw e (omega arith)) (λ e. rw e (omega arith))
+
+pub level-most : (x1 x2 k : ℕ) → x1 + 2 ≤ x2 → level x1 x2 k ≤ x2
+unfolding level
+level-most x1 x2 k h = by-test (eqb k 1) (λ e. rw e (omega arith)) (λ e. rw e (omega arith))
+
+-- C after an E
+module _ (x2 : ℕ) where
+  pub count-most : (e : Bool) (c : ℕ) → c ≤ x2 + 1 → countAfter x2 e c ≤ x2 + 1
+  unfolding countAfter
+  count-most true c h = by-test (ltb c (x2 + 1)) (λ l. rw l (omega (arith, ltb-true c (x2 + 1) l))) (λ l. rw l (omega arith))
+  count-most false c h = omega arith
+
+  pub count-step : (e : Bool) (c : ℕ) → countAfter x2 e c ≤ suc c
+  unfolding countAfter
+  count-step true c = by-test (ltb c (x2 + 1)) (λ l. rw l (omega arith)) (λ l. rw l (omega (arith, ltb-false c (x2 + 1) l)))
+  count-step false c = omega arith
+
+  pub count-zero : (c : ℕ) → countAfter x2 false c ≡ 0
+  unfolding countAfter
+  count-zero c = refl
+
+  pub count-one : (c : ℕ) → c ≤ x2 → countAfter x2 true c ≡ suc c
+  unfolding countAfter
+  count-one c h = rw (lt-ltb c (x2 + 1) (omega arith)) (add-one c)
+
+  pub count-full : (c : ℕ) → x2 + 1 ≤ c → countAfter x2 true c ≡ x2 + 1
+  unfolding countAfter
+  count-full c h = rw (le-ltb c (x2 + 1) h)
+
+  pub count-some : (c : ℕ) → 1 ≤ countAfter x2 true c
+  unfolding countAfter
+  count-some c = by-test (ltb c (x2 + 1)) (λ l. rw l (omega arith)) (λ l. rw l (omega arith))
+
+  pub count-mono : (e : Bool) (c d : ℕ) → d ≤ x2 + 1 → c ≤ d → countAfter x2 e c ≤ countAfter x2 e d
+  count-mono false c d m h = omega (arith, count-zero c, count-zero d)
+  count-mono true c d m h =
+      by-test (leb d x2)
+      (λ l. omega (arith, count-step true c, count-one d (leb-true d x2 l)))
+      (λ l. omega (arith, count-most true c (omega arith), count-full d (omega (arith, leb-false d x2 l))))
+
+-- the levels after a turn: a completed class goes low, else the level follows C
+turn-low : (x1 x2 k : ℕ) (e next : Bool) (a : Access) → 1 ≤ k → k ≤ 2
+    → lowOf k (turn x1 x2 e next a .access)
+    ≡ cond (eqb (turn x1 x2 e next a .done) k) true (lowAfter (level x1 x2 k) (countAfter x2 e (a .count)) (lowOf k a))
+unfolding lowOf level afterE completes sends stops idles
+turn-low x1 x2 zero e next a h l = absurd (omega arith)
+turn-low x1 x2 (suc zero) e next a h l = turn-low1 x1 x2 e next a
+turn-low x1 x2 (suc (suc zero)) e next a h l = turn-low2 x1 x2 e next a
+turn-low x1 x2 (suc (suc (suc k))) e next a h l = absurd (omega arith)
+
+module _ (x1 x2 k : ℕ) (e : Bool) (s : Station) (at-least : 1 ≤ k) (at-most : k ≤ 2) (act : s .active ≡ true) where
+  pub low-after : lowOf k (hears x1 x2 e s .access)
+      ≡ cond (eqb (turnAt x1 x2 e s .done) k) true (lowAfter (level x1 x2 k) (countAfter x2 e (s .access .count)) (lowOf k (s .access)))
+  unfolding turnAt
+  low-after = rw (hears-active x1 x2 e s act) (turn-low x1 x2 k e (nextBit s) (s .access) at-least at-most)
+
+  -- a low class stays low while C is not at its low value
+  pub low-stays : lowOf k (s .access) ≡ true → (hears x1 x2 e s .access .count ≡ level x1 x2 k + 1 → ⊥)
+      → lowOf k (hears x1 x2 e s .access) ≡ true
+  unfolding lowAfter
+  low-stays low away =
+      let f : eqb (countAfter x2 e (s .access .count)) (level x1 x2 k + 1) ≡ false =
+      ne-eqb _ _ (λ q. away (count-after x1 x2 e s act ∙ q))
+      in low-after ∙ rw (f, low) (by-test (eqb (turnAt x1 x2 e s .done) k) (λ q. rw q) (λ q. rw q))
+
+  -- a class at the normal level stays there unless it is completed
+  pub normal-stays : lowOf k (s .access) ≡ false → (turnAt x1 x2 e s .done ≡ k → ⊥) → lowOf k (hears x1 x2 e s .access) ≡ false
+  unfolding lowAfter
+  normal-stays normal not-done =
+      low-after ∙ rw (ne-eqb _ _ not-done, normal)
+      (by-test (eqb (countAfter x2 e (s .access .count)) (level x1 x2 k + 1)) (λ q. rw q) (λ q. rw q))
+
+  -- "that class then goes low"
+  pub completed-low : turnAt x1 x2 e s .done ≡ k → lowOf k (hears x1 x2 e s .access) ≡ true
+  completed-low q = low-after ∙ rw (eq-eqb _ _ q)

@@ -1,0 +1,127 @@
+-- The D channel alone: terminals, the last D that the network end heard, and its reader. What happens to it is a list of actions.
+-- x1 and x2 are the normal levels of class 1 and class 2.
+use mathlib.Core.Bool.{Bool, true, false, cond, not, _&&_, _||_}
+use mathlib.Core.List.{List, [], _∷_, _++_}
+use Prim.Native.Nat.{ℕ, zero, suc, _+_, _≤_}
+use lib.Dec.{eqb, leb, ltb}
+use lib.ListN.{length, getD}
+use Rattle.dchannel.specs.declared.access.Access.{Access}
+use Rattle.dchannel.specs.declared.access.Turn.{Turn}
+use Rattle.dchannel.specs.Image.{image, longestBody}
+use Rattle.dchannel.specs.Access.{fresh, entered, turn}
+use Rattle.dchannel.specs.Handing.{takenUp, left}
+use Rattle.dchannel.specs.Reading.{Reading, Said, cleared, said, next}
+
+-- a terminal as the D channel sees it
+pub record Station : Type 0 where
+  -- activated: in F7
+  pub active : Bool
+  pub access : Access
+  -- the body of the held frame, where one is held
+  pub body : List ℕ
+
+pub record Channel : Type 0 where
+  pub stations : List Station
+  -- the last combined D that the network end heard
+  pub heardD : Bool
+  pub reading : Reading
+
+pub data Action : Type 0 where
+  -- a frame of a class with a body is handed to the terminal at an index
+  hand : ℕ → ℕ → List ℕ → Action
+  -- the terminal at an index enters F7, or leaves it
+  enter leave : ℕ → Action
+  -- the network end leaves G3: its reader is cleared
+  clear : Action
+  -- an E and the D after it: the E that all terminals in F7 hear, the D that the network end hears, whether the reader is on
+  opportunity : Bool → Bool → Bool → Action
+
+-- whether all are octets
+unfoldable pub allOctets : List ℕ → Bool
+allOctets [] = true
+allOctets (o ∷ os) = cond (ltb o 256) (allOctets os) false
+
+-- "A body is 1 to 266 octets"
+unfoldable pub isBody : List ℕ → Bool
+isBody body = cond (leb 1 (length body)) (cond (leb (length body) longestBody) (allOctets body) false) false
+
+-- the terminal at an index changed
+unfoldable pub change : (Station → Station) → ℕ → List Station → List Station
+change f i [] = []
+change f zero (s ∷ ss) = f s ∷ ss
+change f (suc i) (s ∷ ss) = s ∷ change f i ss
+
+-- a frame is taken by a terminal in F7 that holds none, for class 1 or 2, if it is a body; else nothing changes
+unfoldable pub mayHold : ℕ → List ℕ → Station → Bool
+mayHold k body s = (s .active && eqb (s .access .held) 0) && ((eqb k 1 || eqb k 2) && isBody body)
+
+unfoldable pub holding : ℕ → List ℕ → Station → Station
+holding k body s =
+    cond (mayHold k body s)
+    (record {
+      active = s .active;
+      access = takenUp k (length (image body)) (s .access);
+      body = body;
+    })
+    s
+
+unfoldable pub entering : Station → Station
+entering s = cond (s .active) s (record { active = true; access = entered (s .access); body = s .body })
+
+-- "Leaving F7 drops a held frame and sets both levels to normal"
+unfoldable pub leaving : Station → Station
+leaving s = record { active = false; access = left (s .access) .access; body = s .body }
+
+-- the bit of its image that a terminal sends next
+unfoldable pub nextBit : Station → Bool
+nextBit s = getD (image (s .body)) (s .access .sent) true
+
+module _ (x1 x2 : ℕ) where
+  -- what an opportunity gives for one terminal
+  unfoldable pub turnAt : Bool → Station → Turn
+  turnAt e s = turn x1 x2 e (nextBit s) (s .access)
+
+  unfoldable pub hears : Bool → Station → Station
+  hears e s = cond (s .active) (record { active = true; access = turnAt e s .access; body = s .body }) s
+
+  -- the D that a terminal sends: 1 outside F7
+  unfoldable pub sendsD : Bool → Station → Bool
+  sendsD e s = cond (s .active) (turnAt e s .d) true
+
+  unfoldable pub allHear : Bool → List Station → List Station
+  allHear e [] = []
+  allHear e (s ∷ ss) = hears e s ∷ allHear e ss
+
+  -- all terminals together: 0 where any sends 0
+  unfoldable pub together : Bool → List Station → Bool
+  together e [] = true
+  together e (s ∷ ss) = cond (sendsD e s) (together e ss) false
+
+  unfoldable pub step : Channel → Action → Channel
+  step c (hand i k body) = record { stations = change (holding k body) i (c .stations); heardD = c .heardD; reading = c .reading }
+  step c (enter i) = record { stations = change entering i (c .stations); heardD = c .heardD; reading = c .reading }
+  step c (leave i) = record { stations = change leaving i (c .stations); heardD = c .heardD; reading = c .reading }
+  step c clear = record { stations = c .stations; heardD = c .heardD; reading = cleared }
+  step c (opportunity e bit on) =
+      record {
+        stations = allHear e (c .stations);
+        heardD = bit;
+        reading = cond on (next (c .reading) bit) (c .reading);
+      }
+
+  unfoldable pub run : Channel → List Action → Channel
+  run c [] = c
+  run c (a ∷ more) = run (step c a) more
+
+-- a terminal outside F7 with no frame
+abbrev pub freshStation : Station
+freshStation = record { active = false; access = fresh; body = [] }
+
+-- n fresh terminals
+unfoldable pub freshStations : ℕ → List Station
+freshStations zero = []
+freshStations (suc n) = freshStation ∷ freshStations n
+
+-- "A fresh bus": the last D heard is 1
+unfoldable pub freshChannel : ℕ → Channel
+freshChannel n = record { stations = freshStations n; heardD = true; reading = cleared }

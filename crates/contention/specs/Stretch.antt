@@ -1,0 +1,82 @@
+-- Stretches and what document 01, "Lists and stretches", says of the D opportunities in them.
+use mathlib.Core.Bool.{Bool, true, false, cond, _&&_, not}
+use mathlib.Core.List.{List, [], _∷_, _++_}
+use mathlib.Core.Path.{_≡_}
+use Prim.Native.Nat.{ℕ, zero, suc, _+_, _≤_, _<_}
+use lib.Dec.{eqb, ltb}
+use lib.ListN.{length, getD}
+use Rattle.dchannel.specs.Access.{lowOf, sending}
+use Rattle.dchannel.specs.Reading.{Said, said}
+use Rattle.contention.specs.Channel.{Station, Channel, Action, freshStation, freshChannel, turnAt, sendsD, together, step, run, hears}
+use Rattle.contention.specs.Channel.Action.{hand, enter, leave, clear, opportunity}
+
+module _ (x1 x2 : ℕ) where
+  -- What a stretch allows of one action: the E of an opportunity is the last D (no hit), its D is what the terminals send together (no
+  -- INFO 1), and the reader is on (the network end is in G3); nobody leaves F7, and the reader is not cleared.
+  abbrev pub Calm : Channel → Action → Type 0
+  Calm c (hand i k body) = Unit
+  Calm c (enter i) = Unit
+  Calm c (leave i) = ⊥
+  Calm c clear = ⊥
+  Calm c (opportunity e bit on) = (e ≡ c .heardD) × (bit ≡ together x1 x2 (c .heardD) (c .stations)) × (on ≡ true)
+
+  -- an opportunity of a stretch, and the channel after it
+  abbrev pub undisturbed : Channel → Action
+  undisturbed c = opportunity (c .heardD) (together x1 x2 (c .heardD) (c .stations)) true
+
+  unfoldable pub onward : Channel → Channel
+  onward c = step x1 x2 c (undisturbed c)
+
+  -- a stretch: each action of the list is calm where it comes
+  unfoldable pub Stretch : Channel → List Action → Type 0
+  Stretch c [] = Unit
+  Stretch c (a ∷ more) = Calm c a × Stretch (step x1 x2 c a) more
+
+  -- the channels as E comes, one for each D opportunity of a list, in order
+  unfoldable pub opportunities : Channel → List Action → List Channel
+  opportunities c [] = []
+  opportunities c (hand i k body ∷ more) = opportunities (step x1 x2 c (hand i k body)) more
+  opportunities c (enter i ∷ more) = opportunities (step x1 x2 c (enter i)) more
+  opportunities c (leave i ∷ more) = opportunities (step x1 x2 c (leave i)) more
+  opportunities c (clear ∷ more) = opportunities (step x1 x2 c clear) more
+  opportunities c (opportunity e bit on ∷ more) = c ∷ opportunities (step x1 x2 c (opportunity e bit on)) more
+
+-- the terminal at an index, as E comes
+unfoldable pub station : ℕ → Channel → Station
+station i c = getD (c .stations) i freshStation
+
+-- "It waits at a D opportunity when, as E comes, it is in F7, holds a frame and that frame's class is at the normal level"
+pub record Waits (k i : ℕ) (c : Channel) : Type 0 where
+  pub in-F7 : station i c .active ≡ true
+  pub holds : station i c .access .held ≡ k
+  pub normal : lowOf k (station i c .access) ≡ false
+
+module _ (x1 x2 : ℕ) where
+  -- the terminal's frame of class k is completed at this E
+  pub record Completes (k i : ℕ) (c : Channel) : Type 0 where
+    pub in-F7 : station i c .active ≡ true
+    pub done : turnAt x1 x2 (c .heardD) (station i c) .done ≡ k
+
+  -- "A frame is begun where a sending's first bit leaves"
+  pub record Begins (i : ℕ) (c : Channel) : Type 0 where
+    pub in-F7 : station i c .active ≡ true
+    pub idle : station i c .access .sent ≡ 0
+    pub first : turnAt x1 x2 (c .heardD) (station i c) .access .sent ≡ 1
+
+  -- what the reader says at this opportunity's D
+  unfoldable pub saidAt : Channel → Said
+  saidAt c = said (c .reading) (together x1 x2 (c .heardD) (c .stations))
+
+-- how many terminals pass a test
+unfoldable pub counted : (Station → Bool) → List Station → ℕ
+counted f [] = 0
+counted f (s ∷ ss) = cond (f s) 1 0 + counted f ss
+
+-- how many terminals are in F7
+unfoldable pub activeCount : List Station → ℕ
+activeCount [] = 0
+activeCount (s ∷ ss) = cond (s .active) 1 0 + activeCount ss
+
+-- every frame image held is at most L bits
+abbrev pub ImagesAtMost : ℕ → Channel → Type 0
+ImagesAtMost L c = (i : ℕ) → station i c .access .length ≤ L

@@ -1,0 +1,1 @@
+// Eight terminals on one D channel: definitions and theorems alone (specs/), no code.

@@ -1,0 +1,157 @@
+// Prints some images, and what the reader says to bit strings; the last and longest of these is read from standard input.
+use dchannel::image::Imaged;
+use dchannel::reader::Answer;
+use dchannel::reader::Reader;
+use libc::STDIN_FILENO;
+use libc::STDOUT_FILENO;
+
+fn text(t: &[u8]) {
+    io::write_all(STDOUT_FILENO, t);
+}
+
+fn number(n: usize) {
+    io::print_decimal(STDOUT_FILENO, n as u64);
+}
+
+// Octets in hexadecimal.
+fn octets(o: &[u8]) {
+    let mut i: usize = 0;
+    while i < o.len() {
+        io::print_hex(STDOUT_FILENO, o[i] as u64, 2);
+        i += 1;
+    }
+}
+
+// The first of them.
+fn first(o: &[u8], count: usize) {
+    if count <= o.len() {
+        octets(&o[..count]);
+    }
+}
+
+fn bit(b: bool) {
+    if b {
+        text(b"1");
+    } else {
+        text(b"0");
+    }
+}
+
+// The first bits of packed octets.
+fn bits(o: &[u8], count: u16) {
+    let mut i: u16 = 0;
+    while i < count {
+        bit(dchannel::image::bit_at(o, i));
+        i += 1;
+    }
+}
+
+// A line for an image: its length in bits and, where asked, the bits; or the number of the refusal.
+fn image(body: &[u8], out: &mut [u8], shown: bool) {
+    let answer = dchannel::image::image(body, out);
+    match answer {
+        Imaged::Bits(n) => {
+            number(n as usize);
+            if shown {
+                text(b" ");
+                bits(out, n);
+            }
+        }
+        Imaged::Refused(k) => {
+            text(b"refused ");
+            number(k as usize);
+        }
+    }
+    text(b"\n");
+}
+
+// A line for what the reader answers to the bit at a place, unless it is nothing.
+fn answer(place: usize, answer: Answer, heard: &[u8]) {
+    match answer {
+        Answer::Nothing => {}
+        Answer::Heard(n) => {
+            number(place);
+            text(b" heard ");
+            first(heard, n as usize);
+            text(b"\n");
+        }
+        Answer::Torn => {
+            number(place);
+            text(b" torn\n");
+        }
+        Answer::Refused(k) => {
+            number(place);
+            text(b" refused ");
+            number(k as usize);
+            text(b"\n");
+        }
+    }
+}
+
+// What a cleared reader answers to the digits of a bit string, each with the digit's place.
+fn answers(digits: &[u8], heard: &mut [u8]) -> Reader {
+    let mut reader = Reader::clear();
+    let mut i: usize = 0;
+    while i < digits.len() {
+        let read = reader.read(digits[i] == b'1', heard);
+        reader = read.reader;
+        let said = read.answer;
+        answer(i, said, heard);
+        i += 1;
+    }
+    reader
+}
+
+// The same, and whether the reader is in range in the end.
+fn read(digits: &[u8], heard: &mut [u8]) {
+    if answers(digits, heard).in_range() {
+        text(b"in range\n");
+    } else {
+        text(b"out of range\n");
+    }
+}
+
+fn images() {
+    let mut out = [0u8; 322];
+    let longest = [255u8; 267];
+    image(b"\x00", &mut out, true);
+    image(b"\xff", &mut out, true);
+    image(b"\x01", &mut out, true);
+    image(b"\x80\x0f", &mut out, true);
+    image(&longest[..266], &mut out, false);
+    image(&longest, &mut out, false);
+    image(&longest[..0], &mut out, false);
+    let mut short = [0u8; 321];
+    image(&longest[..266], &mut short, false);
+}
+
+fn readings() {
+    let mut heard = [0u8; 266];
+    text(b"an image of 00\n");
+    read(b"011111100000000001111110", &mut heard);
+    text(b"two images of ff with a shared 0 between the flags\n");
+    read(
+        b"0111111011111011101111110111111011111011101111110",
+        &mut heard,
+    );
+    text(b"seven 1s after seven bits and after eight\n");
+    read(b"0111111000000001111111", &mut heard);
+    read(b"01111110000000001111111", &mut heard);
+    text(b"nine bits between flags\n");
+    read(b"0111111000000000001111110", &mut heard);
+    text(b"six 1s and a 0 first\n");
+    read(b"11111100000000001111110", &mut heard);
+    text(b"a short buffer\n");
+    let mut short = [0u8; 265];
+    read(b"0", &mut short);
+}
+
+fn main() {
+    images();
+    readings();
+    let mut digits = io::large_buffer();
+    let mut heard = [0u8; 266];
+    let n = io::read_full(STDIN_FILENO, &mut digits);
+    text(b"standard input\n");
+    read(&digits[..n], &mut heard);
+}

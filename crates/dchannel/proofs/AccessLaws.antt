@@ -1,0 +1,543 @@
+-- The sentences of document 01, "D access (6.1)", about one terminal's access, each a lemma over every record, for normal levels x1
+-- of class 1 and x2 of class 2.
+use mathlib.Core.Bool.{Bool, true, false, cond, true≢false}
+use mathlib.Core.Path.{_≡_, refl, sym, ap, _∙_, subst}
+use mathlib.Core.Logic.{_↔_}
+use mathlib.Core.List.{List, [], _∷_, _++_}
+use Prim.Native.Nat.{ℕ, _+_, _≤_, _<_}
+use native.Mathlib.Omega.{arith}
+use native.Mathlib.Numerals.{add-one}
+use lib.Dec.{ltb, leb, eqb}
+use lib.ListN.{length, getD, take, replicate, length-append}
+use lib.Seq.{getD-at, append-snoc, take-suc}
+use borrow.Author.Tests.{ltb-true, ltb-false, leb-true, leb-false, eqb-true, eqb-false, lt-ltb, le-ltb, le-leb, lt-leb, eq-eqb, ne-eqb}
+use Rattle.dchannel.specs.Bits.{same}
+use Rattle.dchannel.specs.Image.{image}
+use Rattle.dchannel.specs.Access.{fresh, entered, countAfter, lowAfter, afterE, sending, lowOf, threshold, mayStart, sends, stops, completes, idles, turn}
+use Rattle.dchannel.specs.Handing.{left}
+use Rattle.dchannel.specs.Ones.{endingOnes}
+use Rattle.dchannel.proofs.ByCases.{by-test}
+use Rattle.dchannel.proofs.OnesLaws.{ending-one}
+use Rattle.dchannel.proofs.ImageLaws.{length-image}
+use Rattle.dchannel.specs.declared.access.Access.{Access}
+use Rattle.dchannel.specs.declared.access.Turn.{Turn}
+
+pub same-refl : (b : Bool) → same b b ≡ true
+same-refl true = refl
+same-refl false = refl
+
+pub same-equal : (b c : Bool) → same b c ≡ true → b ≡ c
+same-equal true c e = sym e
+same-equal false true e = e
+same-equal false false e = refl
+
+pub same-differ : (b c : Bool) → same b c ≡ false → b ≡ c → ⊥
+same-differ b c e q = true≢false (sym (same-refl c) ∙ subst (λ (x : Bool). same x c ≡ false) q e)
+
+pub differ-same : (b c : Bool) → (b ≡ c → ⊥) → same b c ≡ false
+differ-same true true d = absurd (d refl)
+differ-same true false d = refl
+differ-same false true d = refl
+differ-same false false d = absurd (d refl)
+
+-- The five ways of an opportunity, with what decides between them
+module _ (x1 x2 : ℕ) (e next : Bool) (a : Access) where
+  pub goes-on : 0 < a .sent → e ≡ a .last → a .sent < a .length → turn x1 x2 e next a ≡ sends next (afterE x1 x2 e a)
+  unfolding turn
+  goes-on s q l = rw (lt-ltb 0 (a .sent) s, q, same-refl (a .last), lt-leb (a .length) (a .sent) l)
+
+  pub completes-it : 0 < a .sent → e ≡ a .last → a .length ≤ a .sent → turn x1 x2 e next a ≡ completes (afterE x1 x2 e a)
+  unfolding turn
+  completes-it s q l = rw (lt-ltb 0 (a .sent) s, q, same-refl (a .last), le-leb (a .length) (a .sent) l)
+
+  pub stops-it : 0 < a .sent → (e ≡ a .last → ⊥) → turn x1 x2 e next a ≡ stops (afterE x1 x2 e a)
+  unfolding turn
+  stops-it s d = rw (lt-ltb 0 (a .sent) s, differ-same e (a .last) d)
+
+  pub starts-it : a .sent ≡ 0 → mayStart x1 x2 (afterE x1 x2 e a) ≡ true → turn x1 x2 e next a ≡ sends next (afterE x1 x2 e a)
+  unfolding turn
+  starts-it s m = rw (le-ltb 0 (a .sent) (omega arith), m)
+
+  pub idles-it : a .sent ≡ 0 → mayStart x1 x2 (afterE x1 x2 e a) ≡ false → turn x1 x2 e next a ≡ idles (afterE x1 x2 e a)
+  unfolding turn
+  idles-it s m = rw (le-ltb 0 (a .sent) (omega arith), m)
+
+  -- every property of an opportunity, by these ways
+  pub by-ways {ℓ} : (P : Turn → Type ℓ)
+      → (0 < a .sent → e ≡ a .last → a .sent < a .length → P (sends next (afterE x1 x2 e a)))
+      → (0 < a .sent → e ≡ a .last → a .length ≤ a .sent → P (completes (afterE x1 x2 e a)))
+      → (0 < a .sent → (e ≡ a .last → ⊥) → P (stops (afterE x1 x2 e a)))
+      → (a .sent ≡ 0 → mayStart x1 x2 (afterE x1 x2 e a) ≡ true → P (sends next (afterE x1 x2 e a)))
+      → (a .sent ≡ 0 → mayStart x1 x2 (afterE x1 x2 e a) ≡ false → P (idles (afterE x1 x2 e a)))
+      → P (turn x1 x2 e next a)
+  unfolding turn
+  by-ways P go complete stop start idle =
+      by-test (sending a)
+      (λ s.
+      rw s
+      (by-test (same e (a .last))
+      (λ q.
+      rw q
+      (by-test (leb (a .length) (a .sent))
+      (λ l. rw l (complete (ltb-true 0 (a .sent) s) (same-equal e (a .last) q) (leb-true (a .length) (a .sent) l)))
+      (λ l. rw l (go (ltb-true 0 (a .sent) s) (same-equal e (a .last) q) (leb-false (a .length) (a .sent) l)))))
+      (λ q. rw q (stop (ltb-true 0 (a .sent) s) (same-differ e (a .last) q)))))
+      (λ s.
+      rw s
+      (by-test (mayStart x1 x2 (afterE x1 x2 e a)) (λ m. rw m (start (omega (arith, ltb-false 0 (a .sent) s)) m))
+      (λ m. rw m (idle (omega (arith, ltb-false 0 (a .sent) s)) m))))
+
+-- C: "A terminal in F7 counts running 1s of E as C"; it "need not pass 11", x2 + 1
+pub count-zero : (x2 c : ℕ) → countAfter x2 false c ≡ 0
+unfolding countAfter
+count-zero x2 c = refl
+
+pub count-one : (x2 c : ℕ) → c ≤ x2 → countAfter x2 true c ≡ c + 1
+unfolding countAfter
+count-one x2 c h = rw (lt-ltb c (x2 + 1) (omega arith))
+
+pub count-stays : (x2 c : ℕ) → x2 + 1 ≤ c → countAfter x2 true c ≡ x2 + 1
+unfolding countAfter
+count-stays x2 c h = rw (le-ltb c (x2 + 1) h)
+
+pub count-most : (x2 : ℕ) (e : Bool) (c : ℕ) → countAfter x2 e c ≤ x2 + 1
+unfolding countAfter
+count-most x2 false c = omega arith
+count-most x2 true c =
+    by-test (ltb c (x2 + 1)) (λ t. rw t (omega (arith, ltb-true c (x2 + 1) t))) (λ t. rw t (omega arith))
+
+pub count-up : (x2 : ℕ) (e : Bool) (c : ℕ) → countAfter x2 e c ≤ c + 1
+unfolding countAfter
+count-up x2 false c = omega arith
+count-up x2 true c =
+    by-test (ltb c (x2 + 1)) (λ t. rw t (omega arith)) (λ t. rw t (omega (arith, ltb-false c (x2 + 1) t)))
+
+-- of two terminals that hear the same E, the one that is behind stays behind or draws level
+pub count-mono : (x2 : ℕ) (e : Bool) (b c : ℕ) → b ≤ c → countAfter x2 e b ≤ countAfter x2 e c
+count-mono x2 false b c h = omega (arith, count-zero x2 b)
+count-mono x2 true b c h =
+    by-test (leb c x2)
+    (λ t. let l : c ≤ x2 = leb-true c x2 t in omega (arith, count-one x2 b (omega arith), count-one x2 c l))
+    (λ t. let l : x2 < c = leb-false c x2 t in omega (arith, count-most x2 true b, count-stays x2 c (omega arith)))
+
+count-bit : (x2 : ℕ) (bs : List Bool) (e : Bool) (c : ℕ) → c ≤ endingOnes bs → countAfter x2 e c ≤ endingOnes (bs ++ (e ∷ []))
+count-bit x2 bs true c h = omega (arith, count-up x2 true c, ending-one bs)
+count-bit x2 bs false c h = omega (arith, count-zero x2 c)
+
+-- a C that is at most the 1s that end what has been heard stays so
+pub count-ending : (x2 : ℕ) (bits : List Bool) (s c : ℕ) → s < length bits → c ≤ endingOnes (take s bits)
+    → countAfter x2 (getD bits s true) c ≤ endingOnes (take (s + 1) bits)
+count-ending x2 bits s c l h = rw (add-one s, take-suc bits s true l) (count-bit x2 (take s bits) (getD bits s true) c h)
+
+-- C is "0 on entering F7"; the frame and the levels stay
+pub entering : (a : Access)
+    → (entered a .count ≡ 0) × (entered a .held ≡ a .held) × (entered a .low1 ≡ a .low1) × (entered a .low2 ≡ a .low2)
+unfolding entered
+entering a = (refl, refl, refl, refl)
+
+-- whatever the terminal does, C is the one that E leaves: it runs while sending too, and neither a stop nor a completion touches it
+pub turn-count : (x1 x2 : ℕ) (e next : Bool) (a : Access) → turn x1 x2 e next a .access .count ≡ countAfter x2 e (a .count)
+unfolding sends completes stops idles afterE
+turn-count x1 x2 e next a =
+    by-ways x1 x2 e next a (λ t. t .access .count ≡ countAfter x2 e (a .count)) (λ s q l. refl) (λ s q l. refl) (λ s d. refl) (λ s m. refl)
+    (λ s m. refl)
+
+-- The levels: a low one "returns to normal when C equals the low value" ..
+pub level-returns : (x c : ℕ) (low : Bool) → c ≡ x + 1 → lowAfter x c low ≡ false
+unfolding lowAfter
+level-returns x c low h = rw (eq-eqb c (x + 1) h)
+
+-- .. and only then
+pub level-stays : (x c : ℕ) (low : Bool) → (c ≡ x + 1 → ⊥) → lowAfter x c low ≡ low
+unfolding lowAfter
+level-stays x c low h = rw (ne-eqb c (x + 1) h)
+
+pub level-normal : (x c : ℕ) → lowAfter x c false ≡ false
+unfolding lowAfter
+level-normal x c = by-test (eqb c (x + 1)) (λ t. rw t) (λ t. rw t)
+
+pub level-returns-only : (x c : ℕ) → lowAfter x c true ≡ false → c ≡ x + 1
+level-returns-only x c h =
+    by-test (eqb c (x + 1)) (λ t. eqb-true c (x + 1) t)
+    (λ t. absurd (true≢false (sym (level-stays x c true (eqb-false c (x + 1) t)) ∙ h)))
+
+-- both levels after an opportunity: they follow C, but for a completed class, which goes low
+pub turn-low1 : (x1 x2 : ℕ) (e next : Bool) (a : Access)
+    → turn x1 x2 e next a .access .low1 ≡ cond (eqb (turn x1 x2 e next a .done) 1) true (lowAfter x1 (countAfter x2 e (a .count)) (a .low1))
+unfolding sends completes stops idles afterE
+turn-low1 x1 x2 e next a =
+    by-ways x1 x2 e next a (λ t. t .access .low1 ≡ cond (eqb (t .done) 1) true (lowAfter x1 (countAfter x2 e (a .count)) (a .low1)))
+    (λ s q l. refl) (λ s q l. refl) (λ s d. refl) (λ s m. refl) (λ s m. refl)
+
+pub turn-low2 : (x1 x2 : ℕ) (e next : Bool) (a : Access)
+    → turn x1 x2 e next a .access .low2 ≡ cond (eqb (turn x1 x2 e next a .done) 2) true (lowAfter x2 (countAfter x2 e (a .count)) (a .low2))
+unfolding sends completes stops idles afterE
+turn-low2 x1 x2 e next a =
+    by-ways x1 x2 e next a (λ t. t .access .low2 ≡ cond (eqb (t .done) 2) true (lowAfter x2 (countAfter x2 e (a .count)) (a .low2)))
+    (λ s q l. refl) (λ s q l. refl) (λ s d. refl) (λ s m. refl) (λ s m. refl)
+
+-- D is 1 unless a bit is sent, and then it is the image's bit
+pub turn-d : (x1 x2 : ℕ) (e next : Bool) (a : Access) → turn x1 x2 e next a .d ≡ cond (sending (turn x1 x2 e next a .access)) next true
+unfolding sends completes stops idles afterE
+turn-d x1 x2 e next a =
+    by-ways x1 x2 e next a (λ t. t .d ≡ cond (sending (t .access)) next true) (λ s q l. rw (lt-ltb 0 (a .sent + 1) (omega arith))) (λ s q l. refl)
+    (λ s d. refl) (λ s m. rw (lt-ltb 0 (a .sent + 1) (omega arith))) (λ s m. rw s)
+
+-- while it sends, the bit that left last is remembered for its echo
+pub turn-last : (x1 x2 : ℕ) (e next : Bool) (a : Access) → 0 < turn x1 x2 e next a .access .sent
+    → turn x1 x2 e next a .access .last ≡ turn x1 x2 e next a .d
+unfolding sends completes stops idles afterE
+turn-last x1 x2 e next a =
+    by-ways x1 x2 e next a (λ t. 0 < t .access .sent → t .access .last ≡ t .d) (λ s q l h. refl) (λ s q l h. refl) (λ s d h. refl)
+    (λ s m h. refl) (λ s m h. absurd (omega arith))
+
+-- A start. The level may be taken as E comes, or after it: at C equal to the low value either lets the terminal start
+low-passes : (x c : ℕ) (low : Bool) → c ≡ x + 1 → leb (x + cond low 1 0) c ≡ true
+low-passes x c true h = le-leb (x + 1) c (omega arith)
+low-passes x c false h = le-leb (x + 0) c (omega arith)
+
+same-threshold : (x c : ℕ) (low : Bool) → leb (x + cond (lowAfter x c low) 1 0) c ≡ leb (x + cond low 1 0) c
+same-threshold x c low =
+    by-test (eqb c (x + 1))
+    (λ t. low-passes x c (lowAfter x c low) (eqb-true c (x + 1) t) ∙ sym (low-passes x c low (eqb-true c (x + 1) t)))
+    (λ t. rw (level-stays x c low (eqb-false c (x + 1) t)))
+
+pub may-start : (x1 x2 : ℕ) (e : Bool) (a : Access)
+    → mayStart x1 x2 (afterE x1 x2 e a)
+    ≡ cond (eqb (a .held) 0) false (leb (threshold x1 x2 (a .held) (lowOf (a .held) a)) (countAfter x2 e (a .count)))
+unfolding mayStart afterE threshold lowOf
+may-start x1 x2 e a =
+    by-test (eqb (a .held) 1) (λ t. rw (t, same-threshold x1 (countAfter x2 e (a .count)) (a .low1)))
+    (λ t. rw (t, same-threshold x2 (countAfter x2 e (a .count)) (a .low2)))
+
+-- what a start needs: no sending as E comes, a frame, and C, after E, at or above the threshold of its class at its level
+pub record Ready (x1 x2 : ℕ) (e : Bool) (a : Access) : Type 0 where
+  pub free : a .sent ≡ 0
+  pub holds : a .held ≡ 0 → ⊥
+  pub reached : threshold x1 x2 (a .held) (lowOf (a .held) a) ≤ countAfter x2 e (a .count)
+
+-- a start: the first bit leaves
+abbrev pub Starts : ℕ → ℕ → Bool → Bool → Access → Type 0
+Starts x1 x2 e next a = (a .sent ≡ 0) × (turn x1 x2 e next a .access .sent ≡ 1)
+
+pub ready-may : (x1 x2 : ℕ) (e : Bool) (a : Access) → Ready x1 x2 e a → mayStart x1 x2 (afterE x1 x2 e a) ≡ true
+ready-may x1 x2 e a r =
+    may-start x1 x2 e a
+    ∙ rw (
+      ne-eqb (a .held) 0 (r .holds),
+      le-leb (threshold x1 x2 (a .held) (lowOf (a .held) a)) (countAfter x2 e (a .count)) (r .reached),
+    )
+
+pub may-ready : (x1 x2 : ℕ) (e : Bool) (a : Access) → a .sent ≡ 0 → mayStart x1 x2 (afterE x1 x2 e a) ≡ true → Ready x1 x2 e a
+may-ready x1 x2 e a s m =
+    let n : ℕ = threshold x1 x2 (a .held) (lowOf (a .held) a) in
+    let c : ℕ = countAfter x2 e (a .count) in
+    let q : cond (eqb (a .held) 0) false (leb n c) ≡ true = sym (may-start x1 x2 e a) ∙ m in
+    by-test (eqb (a .held) 0) (λ t. absurd (true≢false (sym q ∙ rw t)))
+    (λ t. record { free = s; holds = eqb-false (a .held) 0 t; reached = leb-true n c (rw t at q) })
+
+pub start-needs : (x1 x2 : ℕ) (e next : Bool) (a : Access) → Starts x1 x2 e next a → Ready x1 x2 e a
+unfolding idles afterE
+start-needs x1 x2 e next a s =
+    by-test (mayStart x1 x2 (afterE x1 x2 e a)) (λ m. may-ready x1 x2 e a (s .0) m)
+    (λ m. let z : a .sent ≡ 1 = rw (idles-it x1 x2 e next a (s .0) m) at (s .1) in absurd (omega (arith, s .0)))
+
+pub start-happens : (x1 x2 : ℕ) (e next : Bool) (a : Access) → Ready x1 x2 e a → Starts x1 x2 e next a
+unfolding sends afterE
+start-happens x1 x2 e next a r = (r .free, rw (starts-it x1 x2 e next a (r .free) (ready-may x1 x2 e a r)) (omega (arith, r .free)))
+
+-- the thresholds: x1 and x2, and one more at the low level
+pub threshold-class1 : (x1 x2 : ℕ) (low : Bool) → threshold x1 x2 1 low ≡ x1 + cond low 1 0
+unfolding threshold
+threshold-class1 x1 x2 low = refl
+
+pub threshold-class2 : (x1 x2 : ℕ) (low : Bool) → threshold x1 x2 2 low ≡ x2 + cond low 1 0
+unfolding threshold
+threshold-class2 x1 x2 low = refl
+
+pub threshold-least : (x1 x2 k : ℕ) (low : Bool) → x1 ≤ x2 → x1 ≤ threshold x1 x2 k low
+unfolding threshold
+threshold-least x1 x2 k low h = by-test (eqb k 1) (λ t. rw t (omega arith)) (λ t. rw t (omega arith))
+
+-- nobody starts before C has reached x1
+pub start-count : (x1 x2 : ℕ) (e next : Bool) (a : Access) → x1 ≤ x2 → Starts x1 x2 e next a → x1 ≤ countAfter x2 e (a .count)
+start-count x1 x2 e next a h s =
+    omega (arith, start-needs x1 x2 e next a s .reached, threshold-least x1 x2 (a .held) (lowOf (a .held) a) h)
+
+-- "It starts when C has reached 8 (class 1) or 10 (class 2); at the low level 9 or 11"
+pub start-at : (x1 x2 : ℕ) (e next : Bool) (a : Access) (n : ℕ) → threshold x1 x2 (a .held) (lowOf (a .held) a) ≡ n → a .sent ≡ 0
+    → (a .held ≡ 0 → ⊥) → Starts x1 x2 e next a ↔ n ≤ countAfter x2 e (a .count)
+start-at x1 x2 e next a n t s h =
+    (λ w. rw t at (start-needs x1 x2 e next a w .reached), λ w. start-happens x1 x2 e next a (record { free = s; holds = h; reached = rw t w }))
+
+pub class1-normal : (e next : Bool) (a : Access) → a .sent ≡ 0 → a .held ≡ 1 → a .low1 ≡ false
+    → Starts 8 10 e next a ↔ 8 ≤ countAfter 10 e (a .count)
+unfolding threshold lowOf
+class1-normal e next a s h l = start-at 8 10 e next a 8 (rw (h, l)) s (λ z. omega arith)
+
+pub class1-low : (e next : Bool) (a : Access) → a .sent ≡ 0 → a .held ≡ 1 → a .low1 ≡ true
+    → Starts 8 10 e next a ↔ 9 ≤ countAfter 10 e (a .count)
+unfolding threshold lowOf
+class1-low e next a s h l = start-at 8 10 e next a 9 (rw (h, l)) s (λ z. omega arith)
+
+pub class2-normal : (e next : Bool) (a : Access) → a .sent ≡ 0 → a .held ≡ 2 → a .low2 ≡ false
+    → Starts 8 10 e next a ↔ 10 ≤ countAfter 10 e (a .count)
+unfolding threshold lowOf
+class2-normal e next a s h l = start-at 8 10 e next a 10 (rw (h, l)) s (λ z. omega arith)
+
+pub class2-low : (e next : Bool) (a : Access) → a .sent ≡ 0 → a .held ≡ 2 → a .low2 ≡ true
+    → Starts 8 10 e next a ↔ 11 ≤ countAfter 10 e (a .count)
+unfolding threshold lowOf
+class2-low e next a s h l = start-at 8 10 e next a 11 (rw (h, l)) s (λ z. omega arith)
+
+-- the first bit of a start goes to the D of the same opportunity
+pub start-bit : (x1 x2 : ℕ) (e next : Bool) (a : Access) → Starts x1 x2 e next a → turn x1 x2 e next a .d ≡ next
+start-bit x1 x2 e next a s = turn-d x1 x2 e next a ∙ rw (s .1)
+
+-- A stop. "A sent bit unequal to its echo stops the sending; the frame is held and starts over": D is 1, C and the levels follow E alone
+pub record Stopped (x1 x2 : ℕ) (e : Bool) (a : Access) (t : Turn) : Type 0 where
+  pub held : t .access .held ≡ a .held
+  pub length : t .access .length ≡ a .length
+  pub sent : t .access .sent ≡ 0
+  pub d : t .d ≡ true
+  pub done : t .done ≡ 0
+  pub count : t .access .count ≡ countAfter x2 e (a .count)
+  pub low1 : t .access .low1 ≡ lowAfter x1 (countAfter x2 e (a .count)) (a .low1)
+  pub low2 : t .access .low2 ≡ lowAfter x2 (countAfter x2 e (a .count)) (a .low2)
+
+pub stop : (x1 x2 : ℕ) (e next : Bool) (a : Access) → 0 < a .sent → (e ≡ a .last → ⊥) → Stopped x1 x2 e a (turn x1 x2 e next a)
+unfolding stops afterE
+stop x1 x2 e next a s q =
+    rw (stops-it x1 x2 e next a s q)
+    (record { held = refl; length = refl; sent = refl; d = refl; done = refl; count = refl; low1 = refl; low2 = refl })
+
+-- a frame is held until it is completed
+pub held-kept : (x1 x2 : ℕ) (e next : Bool) (a : Access) → turn x1 x2 e next a .done ≡ 0 → turn x1 x2 e next a .access .held ≡ a .held
+unfolding sends completes stops idles afterE
+held-kept x1 x2 e next a =
+    by-ways x1 x2 e next a (λ t. t .done ≡ 0 → t .access .held ≡ a .held) (λ s q l z. refl) (λ s q l z. sym z) (λ s d z. refl) (λ s m z. refl)
+    (λ s m z. refl)
+
+pub length-kept : (x1 x2 : ℕ) (e next : Bool) (a : Access) → 0 < a .held → turn x1 x2 e next a .done ≡ 0
+    → turn x1 x2 e next a .access .length ≡ a .length
+unfolding sends completes stops idles afterE
+length-kept x1 x2 e next a h =
+    by-ways x1 x2 e next a (λ t. t .done ≡ 0 → t .access .length ≡ a .length) (λ s q l z. refl) (λ s q l z. absurd (omega arith)) (λ s d z. refl)
+    (λ s m z. refl) (λ s m z. refl)
+
+-- A completion. "The frame is completed when the echo of its last bit agrees", all its bits having left; it is no longer held, and D is 1
+pub record Completed (x1 x2 : ℕ) (e : Bool) (a : Access) (t : Turn) : Type 0 where
+  pub done : t .done ≡ a .held
+  pub held : t .access .held ≡ 0
+  pub sent : t .access .sent ≡ 0
+  pub d : t .d ≡ true
+  pub count : t .access .count ≡ countAfter x2 e (a .count)
+
+pub complete : (x1 x2 : ℕ) (e next : Bool) (a : Access) → 0 < a .sent → e ≡ a .last → a .length ≤ a .sent
+    → Completed x1 x2 e a (turn x1 x2 e next a)
+unfolding completes afterE
+complete x1 x2 e next a s q l =
+    rw (completes-it x1 x2 e next a s q l) (record { done = refl; held = refl; sent = refl; d = refl; count = refl })
+
+-- .. and only then
+pub record LastEcho (e : Bool) (a : Access) (done : ℕ) : Type 0 where
+  pub was-sending : 0 < a .sent
+  pub all-sent : a .length ≤ a .sent
+  pub echo : e ≡ a .last
+  pub class : done ≡ a .held
+
+pub completion-only : (x1 x2 : ℕ) (e next : Bool) (a : Access) → (turn x1 x2 e next a .done ≡ 0 → ⊥)
+    → LastEcho e a (turn x1 x2 e next a .done)
+unfolding sends completes stops idles afterE
+completion-only x1 x2 e next a =
+    by-ways x1 x2 e next a (λ t. (t .done ≡ 0 → ⊥) → LastEcho e a (t .done)) (λ s q l h. absurd (h refl))
+    (λ s q l h. record { was-sending = s; all-sent = l; echo = q; class = refl }) (λ s d h. absurd (h refl)) (λ s m h. absurd (h refl))
+    (λ s m h. absurd (h refl))
+
+-- .. which is the echo of the last bit, where no more bits have left than the image has
+pub completion-last : (x1 x2 : ℕ) (e next : Bool) (a : Access) → a .sent ≤ a .length → (turn x1 x2 e next a .done ≡ 0 → ⊥)
+    → a .sent ≡ a .length
+completion-last x1 x2 e next a s h = omega (arith, completion-only x1 x2 e next a h)
+
+-- "that class then goes low", and no other: the other one follows C
+pub class1-lowers : (x1 x2 : ℕ) (e next : Bool) (a : Access) → turn x1 x2 e next a .done ≡ 1
+    → (turn x1 x2 e next a .access .low1 ≡ true)
+    × (turn x1 x2 e next a .access .low2 ≡ lowAfter x2 (countAfter x2 e (a .count)) (a .low2))
+class1-lowers x1 x2 e next a h = (turn-low1 x1 x2 e next a ∙ rw h, turn-low2 x1 x2 e next a ∙ rw h)
+
+pub class2-lowers : (x1 x2 : ℕ) (e next : Bool) (a : Access) → turn x1 x2 e next a .done ≡ 2
+    → (turn x1 x2 e next a .access .low2 ≡ true)
+    × (turn x1 x2 e next a .access .low1 ≡ lowAfter x1 (countAfter x2 e (a .count)) (a .low1))
+class2-lowers x1 x2 e next a h = (turn-low2 x1 x2 e next a ∙ rw h, turn-low1 x1 x2 e next a ∙ rw h)
+
+-- a class goes low only at its completion
+lowers-only : (x c n k : ℕ) (low : Bool) → low ≡ false → cond (eqb n k) true (lowAfter x c low) ≡ true → n ≡ k
+lowers-only x c n k low l h =
+    by-test (eqb n k) (λ t. eqb-true n k t) (λ t. absurd (true≢false (sym (rw (t, l) at h) ∙ level-normal x c)))
+
+pub class1-lowers-only : (x1 x2 : ℕ) (e next : Bool) (a : Access) → a .low1 ≡ false → turn x1 x2 e next a .access .low1 ≡ true
+    → turn x1 x2 e next a .done ≡ 1
+class1-lowers-only x1 x2 e next a l h =
+    lowers-only x1 (countAfter x2 e (a .count)) (turn x1 x2 e next a .done) 1 (a .low1) l (sym (turn-low1 x1 x2 e next a) ∙ h)
+
+pub class2-lowers-only : (x1 x2 : ℕ) (e next : Bool) (a : Access) → a .low2 ≡ false → turn x1 x2 e next a .access .low2 ≡ true
+    → turn x1 x2 e next a .done ≡ 2
+class2-lowers-only x1 x2 e next a l h =
+    lowers-only x2 (countAfter x2 e (a .count)) (turn x1 x2 e next a .done) 2 (a .low2) l (sym (turn-low2 x1 x2 e next a) ∙ h)
+
+-- a class at the low level "returns to normal when C equals the low value", and only there
+returns-only : (x c n k : ℕ) (low : Bool) → low ≡ true → cond (eqb n k) true (lowAfter x c low) ≡ false → c ≡ x + 1
+returns-only x c n k low l h =
+    by-test (eqb n k) (λ t. absurd (true≢false (rw t at h))) (λ t. level-returns-only x c (rw (t, l) at h))
+
+pub class1-returns : (x1 x2 : ℕ) (e next : Bool) (a : Access) → countAfter x2 e (a .count) ≡ x1 + 1
+    → (turn x1 x2 e next a .done ≡ 1 → ⊥) → turn x1 x2 e next a .access .low1 ≡ false
+class1-returns x1 x2 e next a c h =
+    turn-low1 x1 x2 e next a ∙ rw (ne-eqb (turn x1 x2 e next a .done) 1 h, level-returns x1 (countAfter x2 e (a .count)) (a .low1) c)
+
+pub class1-returns-only : (x1 x2 : ℕ) (e next : Bool) (a : Access) → a .low1 ≡ true → turn x1 x2 e next a .access .low1 ≡ false
+    → countAfter x2 e (a .count) ≡ x1 + 1
+class1-returns-only x1 x2 e next a l h =
+    returns-only x1 (countAfter x2 e (a .count)) (turn x1 x2 e next a .done) 1 (a .low1) l (sym (turn-low1 x1 x2 e next a) ∙ h)
+
+pub class2-returns : (x1 x2 : ℕ) (e next : Bool) (a : Access) → countAfter x2 e (a .count) ≡ x2 + 1
+    → (turn x1 x2 e next a .done ≡ 2 → ⊥) → turn x1 x2 e next a .access .low2 ≡ false
+class2-returns x1 x2 e next a c h =
+    turn-low2 x1 x2 e next a ∙ rw (ne-eqb (turn x1 x2 e next a .done) 2 h, level-returns x2 (countAfter x2 e (a .count)) (a .low2) c)
+
+pub class2-returns-only : (x1 x2 : ℕ) (e next : Bool) (a : Access) → a .low2 ≡ true → turn x1 x2 e next a .access .low2 ≡ false
+    → countAfter x2 e (a .count) ≡ x2 + 1
+class2-returns-only x1 x2 e next a l h =
+    returns-only x2 (countAfter x2 e (a .count)) (turn x1 x2 e next a .done) 2 (a .low2) l (sym (turn-low2 x1 x2 e next a) ∙ h)
+
+-- "Leaving F7 drops a held frame and sets both levels to normal"
+pub leaving : (a : Access)
+    → (left a .dropped ≡ a .held) × (left a .access .held ≡ 0) × (left a .access .low1 ≡ false) × (left a .access .low2 ≡ false)
+unfolding left
+leaving a = (refl, refl, refl, refl)
+
+-- A whole sending. One opportunity of a terminal with the image `bits` in hand
+unfoldable pub step : ℕ → ℕ → List Bool → Bool → Access → Turn
+step x1 x2 bits e a = turn x1 x2 e (getD bits (a .sent) true) a
+
+-- over a list of E: the D bits, the completed classes, and the record after it
+unfoldable pub sentBits : ℕ → ℕ → List Bool → List Bool → Access → List Bool
+sentBits x1 x2 bits [] a = []
+sentBits x1 x2 bits (e ∷ es) a = step x1 x2 bits e a .d ∷ sentBits x1 x2 bits es (step x1 x2 bits e a .access)
+
+unfoldable pub dones : ℕ → ℕ → List Bool → List Bool → Access → List ℕ
+dones x1 x2 bits [] a = []
+dones x1 x2 bits (e ∷ es) a = step x1 x2 bits e a .done ∷ dones x1 x2 bits es (step x1 x2 bits e a .access)
+
+unfoldable pub run : ℕ → ℕ → List Bool → List Bool → Access → Access
+run x1 x2 bits [] a = a
+run x1 x2 bits (e ∷ es) a = run x1 x2 bits es (step x1 x2 bits e a .access)
+
+-- while a sending is under way: the bits `past` have left, b last of them, and `ahead` are to come
+record Underway (bits past ahead : List Bool) (b : Bool) (a : Access) : Type 0 where
+  whole : bits ≡ past ++ ahead
+  started : 0 < length past
+  sent : a .sent ≡ length past
+  size : a .length ≡ length bits
+  last : a .last ≡ b
+
+module _ (x1 x2 : ℕ) (bits : List Bool) where
+  goes : (past ahead : List Bool) (b c : Bool) (a : Access) → Underway bits past (c ∷ ahead) b a
+      → step x1 x2 bits b a ≡ sends c (afterE x1 x2 b a)
+  unfolding step
+  goes past ahead b c a u =
+      goes-on x1 x2 b (getD bits (a .sent) true) a (omega (arith, u .sent, u .started)) (sym (u .last))
+      (omega (arith, u .sent, u .size, ap length (u .whole), length-append past (c ∷ ahead)))
+      ∙ rw (u .whole, getD-at past c ahead true (a .sent) (sym (u .sent)))
+
+  goes-under : (past ahead : List Bool) (b c : Bool) (a : Access) → Underway bits past (c ∷ ahead) b a
+      → Underway bits (past ++ (c ∷ [])) ahead c (sends c (afterE x1 x2 b a) .access)
+  unfolding sends afterE
+  goes-under past ahead b c a u =
+      record {
+        whole = u .whole ∙ sym (append-snoc past c ahead);
+        started = omega (arith, length-append past (c ∷ []));
+        sent = omega (arith, u .sent, length-append past (c ∷ []));
+        size = u .size;
+        last = refl;
+      }
+
+  ends : (past : List Bool) (b : Bool) (a : Access) → Underway bits past [] b a → step x1 x2 bits b a ≡ completes (afterE x1 x2 b a)
+  unfolding step
+  ends past b a u =
+      completes-it x1 x2 b (getD bits (a .sent) true) a (omega (arith, u .sent, u .started)) (sym (u .last))
+      (omega (arith, u .sent, u .size, ap length (u .whole), length-append past []))
+
+  sent-rest : (ahead past : List Bool) (b : Bool) (a : Access) → Underway bits past ahead b a
+      → sentBits x1 x2 bits (b ∷ ahead) a ≡ ahead ++ (true ∷ [])
+  unfolding sentBits sends completes
+  sent-rest [] past b a u = rw (ends past b a u)
+  sent-rest (c ∷ ahead) past b a u =
+      rw (goes past ahead b c a u)
+      (ap (λ (l : List Bool). c ∷ l) (sent-rest ahead (past ++ (c ∷ [])) c (sends c (afterE x1 x2 b a) .access) (goes-under past ahead b c a u)))
+
+  done-rest : (ahead past : List Bool) (b : Bool) (a : Access) → Underway bits past ahead b a
+      → dones x1 x2 bits (b ∷ ahead) a ≡ replicate (length ahead) 0 ++ (a .held ∷ [])
+  unfolding dones sends completes afterE
+  done-rest [] past b a u = rw (ends past b a u)
+  done-rest (c ∷ ahead) past b a u =
+      rw (goes past ahead b c a u)
+      (ap (λ (l : List ℕ). 0 ∷ l) (done-rest ahead (past ++ (c ∷ [])) c (sends c (afterE x1 x2 b a) .access) (goes-under past ahead b c a u)))
+
+  -- it ends as a completion of the frame that was held
+  run-rest : (ahead past : List Bool) (b : Bool) (a : Access) → Underway bits past ahead b a
+      → (c : Access) × (c .held ≡ a .held) × (run x1 x2 bits (b ∷ ahead) a ≡ completes c .access)
+  unfolding run sends afterE
+  run-rest [] past b a u = (afterE x1 x2 b a, refl, ap (λ (t : Turn). t .access) (ends past b a u))
+  run-rest (c ∷ ahead) past b a u =
+      let w = run-rest ahead (past ++ (c ∷ [])) c (sends c (afterE x1 x2 b a) .access) (goes-under past ahead b c a u) in
+      (w .0, w .1, ap (λ (t : Turn). run x1 x2 bits (c ∷ ahead) (t .access)) (goes past ahead b c a u) ∙ w .2)
+
+-- the start of it
+starts-step : (x1 x2 : ℕ) (c : Bool) (ahead : List Bool) (e : Bool) (a : Access) → Ready x1 x2 e a
+    → step x1 x2 (c ∷ ahead) e a ≡ sends c (afterE x1 x2 e a)
+unfolding step
+starts-step x1 x2 c ahead e a r =
+    starts-it x1 x2 e (getD (c ∷ ahead) (a .sent) true) a (r .free) (ready-may x1 x2 e a r)
+    ∙ ap (λ (n : ℕ). sends (getD (c ∷ ahead) n true) (afterE x1 x2 e a)) (r .free)
+
+starts-under : (x1 x2 : ℕ) (c : Bool) (ahead : List Bool) (e : Bool) (a : Access) → Ready x1 x2 e a → a .length ≡ length (c ∷ ahead)
+    → Underway (c ∷ ahead) (c ∷ []) ahead c (sends c (afterE x1 x2 e a) .access)
+unfolding sends afterE
+starts-under x1 x2 c ahead e a r l = record { whole = refl; started = omega arith; sent = omega (arith, r .free); size = l; last = refl }
+
+-- A terminal that is ready, and from then on hears exactly the bits that it has sent, sends its bits whole, completes nothing before,
+-- and completes its class at the echo of the last bit; the frame is then no longer held, and its class is low
+pub record Whole (x1 x2 : ℕ) (bits : List Bool) (e : Bool) (a : Access) : Type 0 where
+  pub sent-bits : sentBits x1 x2 bits (e ∷ bits) a ≡ bits ++ (true ∷ [])
+  pub completions : dones x1 x2 bits (e ∷ bits) a ≡ replicate (length bits) 0 ++ (a .held ∷ [])
+  pub not-held : run x1 x2 bits (e ∷ bits) a .held ≡ 0
+  pub low1 : a .held ≡ 1 → run x1 x2 bits (e ∷ bits) a .low1 ≡ true
+  pub low2 : a .held ≡ 2 → run x1 x2 bits (e ∷ bits) a .low2 ≡ true
+
+pub sends-whole : (x1 x2 : ℕ) (bits : List Bool) (e : Bool) (a : Access) → 0 < length bits → a .length ≡ length bits → Ready x1 x2 e a
+    → Whole x1 x2 bits e a
+unfolding sentBits dones run sends completes afterE
+sends-whole x1 x2 [] e a n l r = absurd (omega arith)
+sends-whole x1 x2 (c ∷ ahead) e a n l r =
+    let u : Underway (c ∷ ahead) (c ∷ []) ahead c (sends c (afterE x1 x2 e a) .access) = starts-under x1 x2 c ahead e a r l in
+    let w = run-rest x1 x2 (c ∷ ahead) ahead (c ∷ []) c (sends c (afterE x1 x2 e a) .access) u in
+    let z : run x1 x2 (c ∷ ahead) (e ∷ c ∷ ahead) a ≡ completes (w .0) .access =
+    ap (λ (t : Turn). run x1 x2 (c ∷ ahead) (c ∷ ahead) (t .access)) (starts-step x1 x2 c ahead e a r) ∙ w .2
+    in
+    record {
+      sent-bits =
+          rw (starts-step x1 x2 c ahead e a r)
+          (ap (λ (k : List Bool). c ∷ k) (sent-rest x1 x2 (c ∷ ahead) ahead (c ∷ []) c (sends c (afterE x1 x2 e a) .access) u));
+      completions =
+          rw (starts-step x1 x2 c ahead e a r)
+          (ap (λ (k : List ℕ). 0 ∷ k) (done-rest x1 x2 (c ∷ ahead) ahead (c ∷ []) c (sends c (afterE x1 x2 e a) .access) u));
+      not-held = ap (λ (c : Access). c .held) z;
+      low1 = λ h. ap (λ (c : Access). c .low1) z ∙ rw (eq-eqb (w .0 .held) 1 (w .1 ∙ h));
+      low2 = λ h. ap (λ (c : Access). c .low2) z ∙ rw (eq-eqb (w .0 .held) 2 (w .1 ∙ h));
+    }
+
+-- .. so it is with the image of every body
+pub image-whole : (x1 x2 : ℕ) (body : List ℕ) (e : Bool) (a : Access) → a .length ≡ length (image body) → Ready x1 x2 e a
+    → Whole x1 x2 (image body) e a
+image-whole x1 x2 body e a l r = sends-whole x1 x2 (image body) e a (omega (arith, length-image body)) l r

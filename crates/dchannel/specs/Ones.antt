@@ -1,0 +1,20 @@
+-- Runs of 1s in a list of bits.
+use mathlib.Core.Bool.{Bool, true, false}
+use mathlib.Core.List.{List, [], _∷_}
+use Prim.Native.Nat.{ℕ, suc, _≤_}
+
+-- how many 1s stand directly before what follows the list, k of them standing before it
+unfoldable pub onesAfter : ℕ → List Bool → ℕ
+onesAfter k [] = k
+onesAfter k (true ∷ bs) = onesAfter (suc k) bs
+onesAfter k (false ∷ bs) = onesAfter 0 bs
+
+-- the number of 1s that end a list
+unfoldable pub endingOnes : List Bool → ℕ
+endingOnes bs = onesAfter 0 bs
+
+-- no more than m 1s in a row, with the k 1s that stand before the list
+abbrev pub Runs : ℕ → ℕ → List Bool → Type 0
+Runs m k [] = Unit {0}
+Runs m k (true ∷ bs) = (suc k ≤ m) × Runs m (suc k) bs
+Runs m k (false ∷ bs) = Runs m 0 bs
