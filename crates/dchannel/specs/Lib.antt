@@ -1,5 +1,4 @@
--- The D channel of one unit (document 01, "D access (6.1)"): images, a terminal's access, the network end's reader over raw bits, and
--- what the code carries of them (Packing, Pen, Counters).
+-- The D channel of one unit (document 01, "D access (6.1)"): images, a terminal's access, the network end's reader over raw bits.
 pub mod Bits
 pub mod Ones
 pub mod Image
@@ -7,7 +6,3 @@ pub mod Access
 pub mod Handing
 pub mod Ranges
 pub mod Reading
-pub mod Counters
-pub mod ReaderRange
-pub mod Packing
-pub mod Pen

@@ -1,5 +1,2 @@
-// The D channel of one unit: frame images, a terminal's access, the network end's reader.
+// The D channel of one unit: a terminal's access to it. The definitions of frame images and of the network end's reader are in specs/.
 pub mod access;
-mod bits;
-pub mod image;
-pub mod reader;
