@@ -1,0 +1,7 @@
+-- Theorems about the definitions (RangesKept, Laws), and lemmas.
+pub mod Periods
+pub mod NetworkEnd
+pub mod Terminals
+pub mod Senses
+pub mod RangesKept
+pub mod Laws

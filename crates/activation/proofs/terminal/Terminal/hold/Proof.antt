@@ -1,0 +1,41 @@
+use borrow.Author.Tests.{eq-eqb, ne-eqb}
+use Rattle.activation.specs.Terminal.{handedOver, holding}
+use borrow.Author.Needs.{needs}
+use Rattle.activation.proofs.terminal.Terminal.hold.Statement.{statement}
+use Rattle.activation.proofs.terminal.Terminal.hold.Tie as tie
+
+in-range-requires : tie.Need-in-range-requires
+in-range-requires c κs = search needs
+
+hold-requires : tie.Need-hold-requires
+hold-requires c κs = search needs
+
+unchanged-requires : tie.Need-unchanged-requires
+unchanged-requires c κs = search needs
+
+unchanged-requires-2 : tie.Need-unchanged-requires-2
+unchanged-requires-2 c κs = search needs
+
+returns : tie.Need-returns
+unfolding handedOver holding
+returns c = simp (c .before .before .hold .ensures, eq-eqb _ _ (c .before .before .before .if2 .taken), c .before .before .before .before .before .if1 .taken, ← c .before .before .before .before .before .before .in-range .ensures)
+
+returns-2 : tie.Need-returns-2
+unfolding handedOver holding
+returns-2 c = simp (c .unchanged .ensures, ne-eqb _ _ (c .before .if2 .left), c .before .before .before .if1 .taken, ← c .before .before .before .before .in-range .ensures)
+
+returns-3 : tie.Need-returns-3
+unfolding handedOver holding
+returns-3 c = simp (c .unchanged2 .ensures, c .before .if1 .left, ← c .before .before .in-range .ensures)
+
+pub hold-spec : {M : Type 1} → statement M
+hold-spec =
+    tie.close
+    (tie.spec
+    in-range-requires
+    hold-requires
+    unchanged-requires
+    unchanged-requires-2
+    returns
+    returns-2
+    returns-3)

@@ -1,0 +1,47 @@
+use mathlib.Core.Path.{_∙_, sym}
+use Rattle.activation.proofs.Terminals.{ready-now}
+use borrow.Author.Tests.{eq-eqb, ne-eqb}
+use Rattle.activation.specs.Terminal.{switchedOff}
+use borrow.Author.Needs.{needs}
+use Rattle.activation.proofs.terminal.Terminal.off.Statement.{statement}
+use Rattle.activation.proofs.terminal.Terminal.off.Tie as tie
+
+ready-requires : tie.Need-ready-requires
+ready-requires c κs = search needs
+
+unchanged-requires : tie.Need-unchanged-requires
+unchanged-requires c κs = search needs
+
+no-timer-requires : tie.Need-no-timer-requires
+no-timer-requires c κs = search needs
+
+happens-requires : tie.Need-happens-requires
+happens-requires c κs = ready-now _ _ (sym (c .before .before .before .before .ready .ensures) ∙ c .before .before .before .if1 .taken)
+
+unchanged-requires-2 : tie.Need-unchanged-requires-2
+unchanged-requires-2 c κs = search needs
+
+returns : tie.Need-returns
+unfolding switchedOff
+returns c = simp (c .unchanged .ensures, eq-eqb _ _ (c .before .if2 .taken), c .before .before .before .if1 .taken, ← c .before .before .before .before .ready .ensures)
+
+returns-2 : tie.Need-returns-2
+unfolding switchedOff
+returns-2 c = simp (c .happens .ensures, c .before .no-timer .ensures, ne-eqb _ _ (c .before .before .if2 .left), c .before .before .before .before .if1 .taken, ← c .before .before .before .before .before .ready .ensures)
+
+returns-3 : tie.Need-returns-3
+unfolding switchedOff
+returns-3 c = simp (c .unchanged2 .ensures, c .before .if1 .left, ← c .before .before .ready .ensures)
+
+pub off-spec : {M : Type 1} → statement M
+off-spec =
+    tie.close
+    (tie.spec
+    ready-requires
+    unchanged-requires
+    no-timer-requires
+    happens-requires
+    unchanged-requires-2
+    returns
+    returns-2
+    returns-3)

@@ -1,0 +1,15 @@
+use borrow.Author.Tests.{eq-eqb, ne-eqb}
+use Rattle.activation.specs.Timers.{due}
+use Rattle.activation.proofs.timers.due.Statement.{statement}
+use Rattle.activation.proofs.timers.due.Tie as tie
+
+returns : tie.Need-returns
+unfolding due
+returns c = simp (eq-eqb _ _ (c .if1 .taken))
+
+returns-2 : tie.Need-returns-2
+unfolding due
+returns-2 c = simp (ne-eqb _ _ (c .if1 .left))
+
+pub due-spec : {M : Type 1} → statement M
+due-spec = tie.close (tie.spec returns returns-2)

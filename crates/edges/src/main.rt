@@ -1,0 +1,38 @@
+// The edges of document 01 that are checked by running: a body of 266 octets is taken, one of 267 refused. The others stand in
+// specs/Edges.antt.
+use dchannel::access::Access;
+use dchannel::access::Class;
+use hdlc::image::Imaged;
+use hdlc::image::image;
+use libc::STDOUT_FILENO;
+
+fn say(text: &[u8]) {
+    io::write_all(STDOUT_FILENO, text);
+}
+
+// The answer of the image call, and then of handing the frame over.
+fn show(answer: Imaged) {
+    match answer {
+        Imaged::Bits(n) => {
+            say(b"image of ");
+            io::print_decimal(STDOUT_FILENO, n as u64);
+            say(b" bits, reply ");
+            let handed = Access::fresh().hold(Class::One, n);
+            io::print_decimal(STDOUT_FILENO, handed.reply as u64);
+        }
+        Imaged::Refused(k) => {
+            say(b"refused ");
+            io::print_decimal(STDOUT_FILENO, k as u64);
+        }
+    }
+    say(b"\n");
+}
+
+fn main() {
+    let body = [255u8; 267];
+    let mut out = [0u8; 322];
+    say(b"266 octets: ");
+    show(image(&body[..266], &mut out));
+    say(b"267 octets: ");
+    show(image(&body, &mut out));
+}

@@ -1,0 +1,47 @@
+-- How each note is printed (document 01, "Bench book and report"): its name and what its value is.
+use mathlib.Core.List.{List, [] as []ᴸ, _∷_ as _∷ᴸ_}
+use Prim.Native.Nat.{ℕ}
+use Prim.Native.Char.{Char, code}
+use Prim.Native.String.{String, [], _∷_}
+use lib.ListN.{getD}
+
+-- The ASCII codes of a text.
+abbrev pub ascii : String → List ℕ
+ascii [] = []ᴸ
+ascii (c ∷ s) = code c ∷ᴸ ascii s
+
+-- What stands in a note's value: `-`; a word; the body in hexadecimal; a decimal number.
+pub data Value : Type 0 where
+  absent body number : Value
+  word : List ℕ → Value
+
+pub record Printed : Type 0 where
+  pub name : List ℕ
+  pub value : Value
+
+abbrev pub plain : String → Printed
+plain name = record { name = ascii name; value = absent }
+
+-- The notes in the order of their codes, from 1; a number that is no code has none.
+unfoldable pub printed : List Printed
+printed =
+    plain "PH-ACT"
+    ∷ᴸ plain "PH-DEACT"
+    ∷ᴸ plain "MPH-ACT"
+    ∷ᴸ plain "MPH-DEACT"
+    ∷ᴸ plain "MPH-EI"
+    ∷ᴸ plain "MPH-EI1"
+    ∷ᴸ plain "MPH-EI2"
+    ∷ᴸ record { name = ascii "MPH-II"; value = word (ascii "connected") }
+    ∷ᴸ record { name = ascii "MPH-II"; value = word (ascii "disconnected") }
+    ∷ᴸ record { name = ascii "heard"; value = body }
+    ∷ᴸ plain "torn"
+    ∷ᴸ plain "done1"
+    ∷ᴸ plain "done2"
+    ∷ᴸ plain "dropped1"
+    ∷ᴸ plain "dropped2"
+    ∷ᴸ record { name = ascii "refused"; value = number }
+    ∷ᴸ []ᴸ
+
+unfoldable pub printedAs : ℕ → Printed
+printedAs note = getD (plain "" ∷ᴸ printed) note (plain "")
