@@ -1,5 +1,5 @@
 -- What the definitions come to, for their readers and for the crates above.
-use mathlib.Core.Path.{_≡_, refl, sym, ap, _∙_, subst}
+use mathlib.Core.Path.{_≡_, refl}
 use mathlib.Core.Bool.{Bool, true, false, cond}
 use mathlib.Core.List.{List, [], _∷_, _++_, map}
 use Prim.Native.Nat.{ℕ, zero, suc, _+_, _≤_, min}
@@ -10,13 +10,13 @@ use borrow.Author.Tests.{ne-eqb}
 use lib.ListN.{length, length-append, length-take, take}
 use Rattle.tables.specs.Notes.{DROPPED1, DROPPED2, packed, noted}
 use Rattle.tables.specs.Cells.{cellIn, cellOf}
-use Rattle.tables.proofs.Everywhere.{in-table, in-row}
+use Rattle.tables.proofs.Everywhere.{in-table}
 use Rattle.tables.specs.Table62.{table62}
 use Rattle.tables.specs.Table63.{table63}
 use Rattle.activation.specs.Timers.{due, timerAfter}
 use Rattle.activation.specs.Network.{unchanged, acts, moved, happens, andThen}
 use Rattle.activation.specs.Terminal.{droppedNote}
-use Rattle.activation.specs.declared.alignment.Alignment.{Alignment}
+use Rattle.period.specs.declared.alignment.Alignment.{Alignment}
 use Rattle.tables.specs.declared.cell.Cell.{Cell}
 use Rattle.tables.specs.declared.cell.Cell.the-variants.{To, Stay, Impossible, Absent}
 use Rattle.activation.specs.declared.network.Network.{Network}

@@ -2,6 +2,5 @@
 pub mod Periods
 pub mod NetworkEnd
 pub mod Terminals
-pub mod Senses
 pub mod RangesKept
 pub mod Laws

@@ -1,26 +1,26 @@
 -- Two events of the network end, one after the other, of which one has no notes: the notes are the other's.
-use mathlib.Core.Path.{_≡_, refl, sym, ap, _∙_, subst}
+use mathlib.Core.Path.{_≡_, refl, ap, _∙_}
 use mathlib.Core.Bool.{Bool, true, false, cond}
-use mathlib.Core.List.{List, [], _∷_, _++_, append-nil}
+use mathlib.Core.List.{[], append-nil}
 use Prim.Native.Nat.{ℕ, _≤_}
 use borrow.Author.Tests.{leb-true}
-use lib.Dec.{T, eqb}
+use lib.Dec.{T}
 use Rattle.dchannel.proofs.ByCases.{both, clash}
 use Rattle.tables.proofs.Everywhere.{in-row, in-table}
 use Rattle.tables.specs.Notes.{packed, noted}
-use Rattle.tables.specs.Cells.{cellIn, cellOf}
+use Rattle.tables.specs.Cells.{cellOf}
 use Rattle.tables.specs.Table63.{table63, t2Expiry, info1}
-use Rattle.activation.specs.Counts.{periodsInRange}
+use Rattle.period.specs.Counts.{periodsInRange}
 use Rattle.activation.specs.Timers.{due}
-use Rattle.activation.specs.Alignment.{gained, lost, followed}
-use Rattle.activation.specs.Hearing.{heardUp, lossUp}
+use Rattle.period.specs.Alignment.{gained, lost, followed}
+use Rattle.period.specs.Hearing.{heardUp, lossUp}
 use Rattle.activation.specs.Network.{unchanged, acts, happens, andThen, t1Due, t2Due, alignedBy, heardAs, ready, networkInRange}
-use Rattle.activation.specs.declared.alignment.Alignment.{Alignment}
-use Rattle.activation.specs.declared.alignment.Followed.{Followed}
+use Rattle.period.specs.declared.alignment.Alignment.{Alignment}
+use Rattle.period.specs.declared.alignment.Followed.{Followed}
 use Rattle.tables.specs.declared.cell.Cell.{Cell}
 use Rattle.tables.specs.declared.cell.Cell.the-variants.{To, Stay, Impossible, Absent}
-use Rattle.activation.specs.declared.counts.Periods.{Periods}
-use Rattle.activation.specs.declared.hearing.Upward.{Upward}
+use Rattle.period.specs.declared.counts.Periods.{Periods}
+use Rattle.period.specs.declared.hearing.Upward.{Upward}
 use Rattle.activation.specs.declared.network.Network.{Network}
 use Rattle.activation.specs.declared.network.NetworkStep.{NetworkStep}
 use Rattle.tables.proofs.Rows.{notesOf, quiet, quiet-is, tidy, tidy-is, no-cells}

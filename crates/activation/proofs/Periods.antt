@@ -3,8 +3,8 @@ use mathlib.Core.Path.{_≡_, refl}
 use mathlib.Core.Bool.{Bool, true, false, cond}
 use Prim.Native.Nat.{ℕ, _+_}
 use lib.Dec.{ltb}
-use Rattle.activation.specs.Alignment.{becomes, framedPeriod, unframedPeriod, followed}
-use Rattle.activation.specs.declared.alignment.Alignment.{Alignment}
+use Rattle.period.specs.Alignment.{becomes, framedPeriod, followed}
+use Rattle.period.specs.declared.alignment.Alignment.{Alignment}
 
 kept : (b c : Bool) (x y z : Alignment) → cond b (becomes x) (cond c (becomes y) (becomes z)) .lost ≡ false
 kept true c x y z = refl

@@ -1,39 +1,38 @@
 -- Every call leaves every field in its range.
-use mathlib.Core.Path.{_≡_, refl, sym, _∙_, subst}
+use mathlib.Core.Path.{_≡_, refl}
 use mathlib.Core.Bool.{Bool, true, false, cond}
-use Prim.Native.Nat.{ℕ, _+_, _≤_, _<_}
+use Prim.Native.Nat.{_*_, ℕ, _+_, _≤_, _<_}
 use native.Mathlib.Omega.{arith}
 use lib.Dec.{ltb, leb, eqb, T}
-use borrow.Author.Tests.{le-ltb, lt-ltb, ltb-true, ltb-false, leb-true, leb-false, le-leb}
-use Rattle.dchannel.proofs.ByCases.{by-test, both, neither}
+use borrow.Author.Tests.{le-ltb, ltb-false, leb-true, leb-false, le-leb}
+use Rattle.dchannel.proofs.ByCases.{both, neither}
 use Rattle.tables.specs.Cells.{cellOf}
-use Rattle.activation.specs.Counts.{periodsInRange, nextPeriod, opportunitiesInRange, fourMore, allRun}
+use Rattle.period.specs.Counts.{periodsInRange, nextPeriod, opportunitiesInRange, fourMore, allRun}
 use Rattle.activation.specs.Timers.{due, timerAfter}
-use Rattle.activation.specs.Alignment.{gained, lost, becomes, loses, unaligned, inAlignment, framedPeriod, unframedPeriod, followed, alignmentInRange}
+use Rattle.period.specs.Alignment.{gained, lost, unaligned, framedPeriod, unframedPeriod, followed, alignmentInRange}
 use Rattle.tables.proofs.Everywhere.{in-table}
 use Rattle.tables.specs.Table62.{table62}
 use Rattle.tables.specs.Table63.{table63}
-use Rattle.activation.specs.Hearing.{heardUp, lossUp, heardDown}
+use Rattle.period.specs.Hearing.{heardUp, lossUp, heardDown}
 use Rattle.activation.specs.Network as network
 use Rattle.activation.specs.Terminal as terminal
-use Rattle.dchannel.specs.Access.{entered}
-use Rattle.dchannel.specs.Handing.{handed, left}
+use Rattle.dchannel.specs.Handing.{handed}
 use Rattle.dchannel.specs.Ranges.{accessInRange}
 use Rattle.dchannel.proofs.RangesKept.{entered-in-range, left-in-range, handed-in-range}
 use Rattle.dchannel.specs.declared.access.Access.{Access}
 use Rattle.dchannel.specs.declared.access.Class.{Class}
-use Rattle.activation.specs.declared.alignment.Alignment.{Alignment}
-use Rattle.activation.specs.declared.alignment.Followed.{Followed}
+use Rattle.period.specs.declared.alignment.Alignment.{Alignment}
+use Rattle.period.specs.declared.alignment.Followed.{Followed}
 use Rattle.tables.specs.declared.cell.Cell.{Cell}
 use Rattle.tables.specs.declared.cell.Cell.the-variants.{To, Stay, Impossible, Absent}
-use Rattle.activation.specs.declared.hearing.Downward.{Downward}
-use Rattle.activation.specs.declared.hearing.Upward.{Upward}
+use Rattle.period.specs.declared.hearing.Downward.{Downward}
+use Rattle.period.specs.declared.hearing.Upward.{Upward}
 use Rattle.activation.specs.declared.network.Network.{Network}
 use Rattle.activation.specs.declared.network.NetworkStep.{NetworkStep}
 use Rattle.activation.specs.declared.terminal.Terminal.{Terminal}
 use Rattle.activation.specs.declared.terminal.TerminalStep.{TerminalStep}
-use Rattle.activation.specs.declared.counts.Periods.{Periods}
-use Rattle.activation.specs.declared.counts.Opportunities.{Opportunities}
+use Rattle.period.specs.declared.counts.Periods.{Periods}
+use Rattle.period.specs.declared.counts.Opportunities.{Opportunities}
 
 -- one property in both branches
 pub in-both {ℓ} : {A : Type 0} (P : A → Type ℓ) (b : Bool) {x y : A} → (b ≡ true → P x) → (b ≡ false → P y) → P (cond b x y)
@@ -46,10 +45,14 @@ unfolding nextPeriod
 next-in-range p h =
     in-both (λ q. periodsInRange q ≡ true) (allRun p) (λ e. h) (λ e. le-leb (p .0 + 1) 4000000 (omega (arith, leb-false 4000000 (p .0) e)))
 
-pub four-more-in-range : (o : Opportunities) → opportunitiesInRange o ≡ true → opportunitiesInRange (fourMore o) ≡ true
+-- Where the opportunities are at most four for each period, they stay so, and in range, when a period more is run.
+pub four-more-in-range : (p : Periods) (o : Opportunities) → allRun p ≡ false → o .0 ≤ 4 * p .0
+    → (fourMore o .0 ≤ 4 * (p .0 + 1)) × (opportunitiesInRange (fourMore o) ≡ true)
 unfolding fourMore
-four-more-in-range o h =
-    in-both (λ q. opportunitiesInRange q ≡ true) (leb (o .0) 15999996) (λ e. le-leb (o .0 + 4) 16000000 (omega (arith, leb-true (o .0) 15999996 e))) (λ e. h)
+four-more-in-range p o r h =
+    let m : p .0 < 4000000 = leb-false 4000000 (p .0) r in
+    let e : opportunitiesInRange o ≡ true = le-leb (o .0) 16000000 (omega arith) in
+    rw e (omega arith, le-leb (o .0 + 4) 16000000 (omega arith))
 
 -- Alignment, whatever it was.
 abbrev Kept : Followed → Type 0

@@ -1,23 +1,23 @@
 -- A terminal's notes, and the period of a call.
-use mathlib.Core.Path.{_≡_, refl, sym, ap, _∙_}
-use mathlib.Core.Bool.{Bool, true, false, cond}
+use mathlib.Core.Path.{_≡_, sym, ap, _∙_}
+use mathlib.Core.Bool.{true}
 use mathlib.Core.List.{List, [], _∷_, _++_}
-use Prim.Native.Nat.{ℕ, suc, _+_, _≤_, min}
+use Prim.Native.Nat.{ℕ, _+_, _≤_, min}
 use native.Mathlib.Nat.{min-le-right}
 use native.Mathlib.Numerals.{add-one}
 use lib.Dec.{T}
-use lib.ListN.{length, length-take, take}
+use lib.ListN.{length-take}
 use borrow.Author.Tests.{leb-true}
 use Rattle.dchannel.proofs.ByCases.{both}
 use Rattle.tables.proofs.Everywhere.{in-table}
 use Rattle.tables.specs.Notes.{packed, noted}
 use Rattle.tables.specs.Cells.{cellOf}
-use Rattle.activation.specs.Counts.{periodsInRange}
+use Rattle.period.specs.Counts.{periodsInRange}
 use Rattle.tables.specs.Table62.{table62}
 use Rattle.activation.specs.Terminal.{ready, terminalInRange}
 use Rattle.tables.specs.declared.cell.Cell.{Cell}
-use Rattle.tables.specs.declared.cell.Cell.the-variants.{To, Stay, Impossible, Absent}
-use Rattle.activation.specs.declared.counts.Periods.{Periods}
+use Rattle.tables.specs.declared.cell.Cell.the-variants.{To}
+use Rattle.period.specs.declared.counts.Periods.{Periods}
 use Rattle.tables.specs.declared.notes.Notes.{Notes}
 use Rattle.activation.specs.declared.terminal.Terminal.{Terminal}
 use Rattle.tables.proofs.Rows.{notesOf, tidy, tidy-is}

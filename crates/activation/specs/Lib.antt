@@ -1,8 +1,4 @@
--- What a single unit does: counts, timers, alignment, what a heard line is, the network end, a terminal.
-pub mod Counts
+-- The network end and a terminal: an event finds its cell in table 6-2 or 6-3, and the cell says what becomes of the record.
 pub mod Timers
-pub mod Alignment
-pub mod Hearing
-pub mod Sensing
 pub mod Network
 pub mod Terminal

@@ -1,21 +1,21 @@
 -- The network end (document 01, "Activation" and "Order inside a period"): an event finds its cell in table 6-3, and the cell says what
 -- becomes of the record.
-use mathlib.Core.Bool.{Bool, true, false, cond}
-use mathlib.Core.List.{List, [], _∷_, _++_}
+use mathlib.Core.Bool.{Bool, false, cond}
+use mathlib.Core.List.{[], _++_}
 use Prim.Native.Nat.{ℕ, _+_}
-use lib.Dec.{ltb, leb, eqb}
+use lib.Dec.{ltb, leb}
 use Rattle.tables.specs.Notes.{packed, noted}
 use Rattle.tables.specs.Cells.{START, STOP, START-T2, NEVER, cellOf}
 use Rattle.tables.specs.Table63.{table63, T1-DUE, T2-DUE, DR}
-use Rattle.activation.specs.Counts.{mostPeriods, periodsInRange}
+use Rattle.period.specs.Counts.{mostPeriods, periodsInRange}
 use Rattle.activation.specs.Timers.{T1, T2, due, timerAfter}
-use Rattle.activation.specs.Alignment.{gained, lost, unaligned, followed, alignmentInRange}
-use Rattle.activation.specs.Hearing.{heardUp, lossUp}
-use Rattle.activation.specs.declared.alignment.Followed.{Followed}
+use Rattle.period.specs.Alignment.{gained, lost, unaligned, followed, alignmentInRange}
+use Rattle.period.specs.Hearing.{heardUp, lossUp}
+use Rattle.period.specs.declared.alignment.Followed.{Followed}
 use Rattle.tables.specs.declared.cell.Cell.{Cell}
 use Rattle.tables.specs.declared.cell.Cell.the-variants.{To, Stay, Impossible, Absent}
-use Rattle.activation.specs.declared.counts.Periods.{Periods}
-use Rattle.activation.specs.declared.hearing.Upward.{Upward}
+use Rattle.period.specs.declared.counts.Periods.{Periods}
+use Rattle.period.specs.declared.hearing.Upward.{Upward}
 use Rattle.activation.specs.declared.network.Network.{Network}
 use Rattle.activation.specs.declared.network.NetworkStep.{NetworkStep}
 
@@ -58,7 +58,7 @@ andThen s f =
       reply = 0;
     }
 
--- Every field is in its range: a timer is at most one that was started in the last period.
+-- Every field is in its range. The latest timer is one started when 4,000,000 periods have been run.
 unfoldable pub networkInRange : Network → Bool
 networkInRange n =
     cond (ltb (n .state) 1) false
@@ -95,10 +95,11 @@ t2Due now n =
 unfoldable pub timersDue : Periods → Network → NetworkStep
 timersDue now n = cond (ready now n) (andThen (t1Due (now .0) n) (t2Due (now .0))) (unchanged 1 n)
 
--- A period is heard: alignment follows it; then come the event of loss, if any, and what the line is.
+-- The record with the alignment that a period leaves.
 unfoldable pub alignedBy : Followed → Network → Network
 alignedBy f n = record { t1 = n .t1; t2 = n .t2; state = n .state; alignment = f .alignment }
 
+-- A period is heard: alignment follows it; then come the event of loss, if any, and what the line is.
 unfoldable pub heardAs : Upward → Followed → ℕ → Network → NetworkStep
 heardAs line f now n = andThen (happens 0 (lossUp f) now (alignedBy f n)) (happens 0 (heardUp line f) now)
 

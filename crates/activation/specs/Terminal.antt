@@ -1,9 +1,9 @@
 -- A terminal (document 01, "Activation", "Order inside a period" and "D access (6.1)"): an event finds its cell in table 6-2, and the
 -- cell says what becomes of the record.
-use mathlib.Core.Bool.{Bool, true, false, cond}
+use mathlib.Core.Bool.{Bool, false, cond}
 use mathlib.Core.List.{List, [], _∷_, _++_}
 use Prim.Native.Nat.{ℕ, _+_}
-use lib.Dec.{ltb, leb, eqb}
+use lib.Dec.{ltb, eqb}
 use Rattle.dchannel.specs.Access.{normal2, entered}
 use Rattle.dchannel.specs.Access as dchannel
 use Rattle.dchannel.specs.Handing.{handed, left}
@@ -14,16 +14,16 @@ use Rattle.dchannel.specs.declared.access.Handed.{Handed}
 use Rattle.tables.specs.Notes.{DROPPED1, DROPPED2, packed, noted}
 use Rattle.tables.specs.Cells.{START, STOP, cellOf}
 use Rattle.tables.specs.Table62.{table62, ON, OFF, AR, T3-DUE}
-use Rattle.activation.specs.Counts.{mostPeriods, periodsInRange}
+use Rattle.period.specs.Counts.{mostPeriods, periodsInRange}
 use Rattle.activation.specs.Timers.{T3, due, timerAfter}
-use Rattle.activation.specs.Alignment.{gained, lost, unaligned, followed, alignmentInRange}
-use Rattle.activation.specs.Hearing.{heardDown}
-use Rattle.activation.specs.declared.alignment.Alignment.{Alignment}
-use Rattle.activation.specs.declared.alignment.Followed.{Followed}
+use Rattle.period.specs.Alignment.{gained, lost, unaligned, followed, alignmentInRange}
+use Rattle.period.specs.Hearing.{heardDown}
+use Rattle.period.specs.declared.alignment.Alignment.{Alignment}
+use Rattle.period.specs.declared.alignment.Followed.{Followed}
 use Rattle.tables.specs.declared.cell.Cell.{Cell}
 use Rattle.tables.specs.declared.cell.Cell.the-variants.{To, Stay, Impossible, Absent}
-use Rattle.activation.specs.declared.counts.Periods.{Periods}
-use Rattle.activation.specs.declared.hearing.Downward.{Downward}
+use Rattle.period.specs.declared.counts.Periods.{Periods}
+use Rattle.period.specs.declared.hearing.Downward.{Downward}
 use Rattle.activation.specs.declared.terminal.Terminal.{Terminal}
 use Rattle.activation.specs.declared.terminal.TerminalStep.{TerminalStep}
 
@@ -74,7 +74,7 @@ acts k Absent now t = unchanged k t
 unfoldable pub happens : ℕ → ℕ → ℕ → Terminal → TerminalStep
 happens k event now t = acts k (cellOf table62 event (t .state)) now t
 
--- Every field is in its range: T3 is at most one that was started in the last period.
+-- Every field is in its range. The latest T3 is one started when 4,000,000 periods have been run.
 unfoldable pub terminalInRange : Terminal → Bool
 terminalInRange t =
     cond (ltb (t .state) 1) false
@@ -105,7 +105,7 @@ switchedOff now t = cond (ready now t) (cond (eqb (t .state) 1) (unchanged 5 t) 
 unfoldable pub requested : Periods → Terminal → TerminalStep
 requested now t = cond (ready now t) (happens 5 AR (now .0) t) (unchanged 1 t)
 
--- A frame whose image has n bits is handed over: refusal 6 outside F7, then 7 and 8.
+-- What the access answers to a hand-over, taken into the record.
 unfoldable pub holding : Handed → Terminal → TerminalStep
 holding h t =
     record {
@@ -114,6 +114,7 @@ holding h t =
       reply = h .reply;
     }
 
+-- A frame whose image has n bits is handed over: refusal 6 outside F7, then 7 and 8.
 unfoldable pub handedOver : Class → ℕ → Terminal → TerminalStep
 handedOver class n t =
     cond (terminalInRange t) (cond (eqb (t .state) 7) (holding (handed class n (t .access)) t) (unchanged 6 t)) (unchanged 1 t)

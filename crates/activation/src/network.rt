@@ -1,17 +1,17 @@
 // The network end: states G1 to G4, alignment, T1 and T2.
 ghost use mathlib.Core.Path.{_≡_};
 ghost use Prim.Native.Nat.{_≤_};
-ghost use Rattle.activation.specs.Alignment.{gained, lost, followed};
+ghost use Rattle.period.specs.Alignment.{gained, lost, followed};
 ghost use Rattle.activation.specs.Network as spec;
-use super::alignment::Alignment;
-use super::alignment::Followed;
-use super::counts::Periods;
-use super::hearing::Upward;
-use super::hearing::loss_up;
 use super::timers::T1;
 use super::timers::T2;
 use super::timers::due;
 use super::timers::timer_after;
+use period::alignment::Alignment;
+use period::alignment::Followed;
+use period::counts::Periods;
+use period::hearing::Upward;
+use period::hearing::loss_up;
 use tables::cell::Cell;
 use tables::cell::NO_NOTES;
 use tables::cell::START;
@@ -23,7 +23,7 @@ use tables::table_6_3::T1_DUE;
 use tables::table_6_3::T2_DUE;
 use tables::table_6_3::cell;
 
-// The largest number of a timer: one that was started in the last period.
+// The latest T1 and T2: those started when 4,000,000 periods have been run.
 const LAST_T1: u32 = 4_120_000;
 
 const LAST_T2: u32 = 4_000_200;

@@ -2,17 +2,17 @@
 ghost use mathlib.Core.Path.{_≡_};
 ghost use mathlib.Core.List.{_++_};
 ghost use Prim.Native.Nat.{_≤_};
-ghost use Rattle.activation.specs.Alignment.{gained, lost, followed};
+ghost use Rattle.period.specs.Alignment.{gained, lost, followed};
 ghost use Rattle.tables.specs.Notes.{packed, noted};
 ghost use Rattle.activation.specs.Terminal as spec;
-use super::alignment::Alignment;
-use super::counts::Periods;
-use super::hearing::Downward;
 use super::timers::T3;
 use super::timers::due;
 use super::timers::timer_after;
 use dchannel::access::Access;
 use dchannel::access::Class;
+use period::alignment::Alignment;
+use period::counts::Periods;
+use period::hearing::Downward;
 use tables::cell::Cell;
 use tables::cell::NO_NOTES;
 use tables::cell::START;
@@ -26,7 +26,7 @@ use tables::table_6_2::ON;
 use tables::table_6_2::T3_DUE;
 use tables::table_6_2::cell;
 
-// The largest number of T3: one that was started in the last period.
+// The latest T3: one started when 4,000,000 periods have been run.
 const LAST_T3: u32 = 4_120_000;
 // The states that the calls below look at.
 const F1: u8 = 1;

@@ -2,6 +2,7 @@
 use super::print::number;
 use super::print::say;
 use dchannel::access::Access;
+use dchannel::access::Class;
 
 // Tests (a), (b) and (c).
 pub(crate) fn tests() {
@@ -9,10 +10,10 @@ pub(crate) fn tests() {
     mismatches(1, true);
     mismatches(2, false);
     mismatches(2, true);
-    starts(b"IV.2.2 b class ", 1, false);
-    starts(b"IV.2.2 b class ", 2, false);
-    starts(b"IV.2.2 c class ", 1, true);
-    starts(b"IV.2.2 c class ", 2, true);
+    starts_over(1);
+    starts_over(2);
+    starts_again(1);
+    starts_again(2);
     returns(1);
     returns(2);
 }
@@ -62,13 +63,34 @@ fn mismatch(class: u8, low: bool, sent: bool) {
     say(b"\n");
 }
 
-// (b), (c): how many 1s of the echo go before the start.
-fn starts(test: &[u8], class: u8, low: bool) {
-    say(test);
+// (b): after a wrong echo, how many 1s of the echo go before the start.
+fn starts_over(class: u8) {
+    let stopped = holding(class, false, 9, true).turn(false, false).access;
+    say(b"IV.2.2 b class ");
     number(class);
-    level(low);
+    level(false);
     say(b" starts after ");
-    number(ones(holding(class, low, 0, true)));
+    number(ones(stopped));
+    say(b"\n");
+}
+
+// The record after a frame of the class has been sent: the echo of its last bit, a 0, agrees.
+fn done(class: u8) -> Access {
+    holding(class, false, 24, false).turn(false, false).access
+}
+
+// (c): after a sent frame, how many 1s of the echo go before the next one's start.
+fn starts_again(class: u8) {
+    let again = if class == 1 {
+        done(class).hold(Class::One, 24).access
+    } else {
+        done(class).hold(Class::Two, 24).access
+    };
+    say(b"IV.2.2 c class ");
+    number(class);
+    level(true);
+    say(b" starts after ");
+    number(ones(again));
     say(b"\n");
 }
 
@@ -77,15 +99,7 @@ fn returns(class: u8) {
     say(b"IV.2.2 c class ");
     number(class);
     say(b" low normal after ");
-    number(ones(Access {
-        length: 0,
-        sent: 0,
-        count: 0,
-        held: 0,
-        low1: class == 1,
-        low2: class == 2,
-        last: true,
-    }));
+    number(ones(done(class)));
     say(b"\n");
 }
 

@@ -1,15 +1,15 @@
 // Table IV-2: the network end. A row is its number, the state before and the stimulus, an event of table 6-3.
 use super::print::number;
 use super::print::say;
-use activation::alignment::Alignment;
-use activation::counts::Periods;
-use activation::hearing::Upward;
 use activation::network::Network;
-use activation::sensing::SensedUp;
-use activation::sensing::sense_up;
 use line::fields::Four;
 use line::info::info1;
 use line::info::info3;
+use period::alignment::Alignment;
+use period::counts::Periods;
+use period::hearing::Upward;
+use period::sensing::SensedUp;
+use period::sensing::sense_up;
 use tables::table_6_3::AR;
 use tables::table_6_3::DR;
 use tables::table_6_3::INFO_0;
@@ -96,6 +96,7 @@ fn met(state: u8, event: u8) -> Network {
     let step = match event {
         AR..=DR => at_rest(state).request(event, Periods(NOW)),
         T1_DUE..=T2_DUE => timed(state, event).timer_due(Periods(NOW)),
+        INFO_1 => at_rest(state).hear(in_info_1(), Periods(NOW)),
         _ => hearing(state).hear(upward(event), Periods(NOW)),
     };
     step.network
@@ -144,7 +145,6 @@ fn hearing(state: u8) -> Network {
 // What the stimulus's line shows: for a loss, a single pulse.
 fn upward(event: u8) -> Upward {
     match event {
-        INFO_1 => in_info_1(),
         INFO_3 => in_info_3(),
         LOSS => in_a_pulse(),
         _ => shown(&[0u8; 48]),

@@ -1,17 +1,17 @@
 // Table IV-3: a terminal. A row is its number, the state before and the stimulus, an event of table 6-2. Row 40 is empty.
 use super::print::number;
 use super::print::say;
-use activation::alignment::Alignment;
-use activation::counts::Periods;
-use activation::hearing::Downward;
-use activation::sensing::SensedDown;
-use activation::sensing::sense_down;
 use activation::terminal::Terminal;
 use activation::terminal::TerminalStep;
 use dchannel::access::Access;
 use line::fields::Four;
 use line::info::info2;
 use line::info::info4;
+use period::alignment::Alignment;
+use period::counts::Periods;
+use period::hearing::Downward;
+use period::sensing::SensedDown;
+use period::sensing::sense_down;
 use tables::table_6_2::AR;
 use tables::table_6_2::INFO_0;
 use tables::table_6_2::INFO_2;

@@ -3,18 +3,18 @@
 use mathlib.Core.Bool.{Bool, true, cond, _&&_}
 use mathlib.Core.Path.{_≡_, refl, sym, ap, _∙_}
 use mathlib.Core.List.{List, [], _∷_}
-use Prim.Native.Nat.{ℕ, zero, suc, _+_, _*_, _≤_, _<_}
+use Prim.Native.Nat.{ℕ, zero, suc, _+_, _≤_, _<_}
 use native.Mathlib.Omega.{arith}
 use lib.Dec.{eqb}
 use lib.ListN.{length, getD}
 use borrow.Author.Tests.{eqb-true, eq-eqb, ne-eqb}
 use Rattle.dchannel.proofs.ByCases.{by-test}
 use Rattle.dchannel.specs.Access.{entered}
-use Rattle.dchannel.specs.Handing.{takenUp, left}
-use Rattle.contention.specs.Channel.{Station, Channel, Action, freshStation, mayHold, holding, entering, change, turnAt, hears, sendsD, step, run}
+use Rattle.dchannel.specs.Handing.{takenUp}
+use Rattle.contention.specs.Channel.{Station, Channel, Action, freshStation, mayHold, holding, entering, change, turnAt, hears, sendsD, step}
 use Rattle.contention.specs.Channel.Action.{hand, enter, leave, clear, opportunity}
-use Rattle.contention.specs.Stretch.{Stretch, opportunities, station, Waits, Completes, activeCount, ImagesAtMost}
-use Rattle.contention.specs.Claims.{at, start, opps, CompletedWithin, holdsOne, onesHeld, onesTaken, WaitEndsClassTwo}
+use Rattle.contention.specs.Stretch.{Stretch, opportunities, station, Completes}
+use Rattle.contention.specs.Claims.{at, start, holdsOne, onesHeld, onesTaken, WaitEndsClassTwo}
 use Rattle.contention.proofs.Terminal.{Outcome, outcome, completed, went-on, stopped, started, idled, outside, level}
 use Rattle.contention.proofs.InvariantKept.{length-allHear, station-hears, entering-active, entering-outside}
 use Rattle.contention.proofs.Trace.{counted-le, counted-lt}

@@ -1,5 +1,5 @@
 -- One terminal at one D opportunity: what can come of it, as five outcomes, and what a hand-over, an entry into F7 and a leave change.
-use mathlib.Core.Bool.{Bool, true, false, cond, false≢true, true≢false}
+use mathlib.Core.Bool.{Bool, true, false, cond, false≢true}
 use mathlib.Core.Path.{_≡_, refl, sym, ap, _∙_}
 use mathlib.Core.List.{List}
 use Prim.Native.Nat.{ℕ, zero, suc, _+_, _≤_, _<_}
@@ -9,8 +9,6 @@ use lib.Dec.{eqb, leb, ltb}
 use lib.ListN.{length}
 use borrow.Author.Tests.{ltb-true, ltb-false, leb-true, leb-false, eqb-false, eq-eqb, ne-eqb, lt-ltb, le-ltb}
 use Rattle.dchannel.specs.declared.access.Access.{Access}
-use Rattle.dchannel.specs.declared.access.Turn.{Turn}
-use Rattle.dchannel.specs.Bits.{same}
 use Rattle.dchannel.proofs.ByCases.{by-test}
 use Rattle.dchannel.specs.Access.{countAfter, lowAfter, afterE, threshold, lowOf, mayStart, sends, stops, completes, idles, turn}
 use Rattle.dchannel.proofs.AccessLaws.{by-ways, turn-count, turn-low1, turn-low2}

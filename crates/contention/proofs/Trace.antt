@@ -12,7 +12,7 @@ use borrow.Author.Tests.{leb-true, leb-false}
 use Rattle.dchannel.proofs.ByCases.{by-test}
 use Rattle.contention.specs.Channel.{Station, Channel, Action, freshStation, hears, sendsD, turnAt, together, step, run}
 use Rattle.contention.specs.Channel.Action.{hand, enter, leave, clear, opportunity}
-use Rattle.contention.specs.Stretch.{Calm, Stretch, onward, undisturbed, opportunities, station, counted, activeCount}
+use Rattle.contention.specs.Stretch.{Calm, Stretch, onward, opportunities, station, counted, activeCount}
 use Rattle.contention.specs.Claims.{at, start, opps}
 use Rattle.contention.specs.Invariant.{Invariant}
 use Rattle.contention.proofs.Terminal.{Outcome, outcome, completed, went-on, stopped, started, idled, outside, active-after}

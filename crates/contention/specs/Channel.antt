@@ -1,8 +1,8 @@
 -- The D channel alone: terminals, the last D that the network end heard, and its reader. What happens to it is a list of actions.
 -- x1 and x2 are the normal levels of class 1 and class 2.
-use mathlib.Core.Bool.{Bool, true, false, cond, not, _&&_, _||_}
-use mathlib.Core.List.{List, [], _∷_, _++_}
-use Prim.Native.Nat.{ℕ, zero, suc, _+_, _≤_}
+use mathlib.Core.Bool.{Bool, true, false, cond, _&&_, _||_}
+use mathlib.Core.List.{List, [], _∷_}
+use Prim.Native.Nat.{ℕ, zero, suc}
 use lib.Dec.{eqb, leb, ltb}
 use lib.ListN.{length, getD}
 use Rattle.dchannel.specs.declared.access.Access.{Access}
@@ -10,7 +10,7 @@ use Rattle.dchannel.specs.declared.access.Turn.{Turn}
 use Rattle.dchannel.specs.Image.{image, longestBody}
 use Rattle.dchannel.specs.Access.{fresh, entered, turn}
 use Rattle.dchannel.specs.Handing.{takenUp, left}
-use Rattle.dchannel.specs.Reading.{Reading, Said, cleared, said, next}
+use Rattle.dchannel.specs.Reading.{Reading, cleared, next}
 
 -- a terminal as the D channel sees it
 pub record Station : Type 0 where

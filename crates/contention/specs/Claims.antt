@@ -1,15 +1,14 @@
 -- Demand 3 for the D channel alone, as statements: for every list of actions from a fresh channel of any number of terminals, and
 -- every stretch of it. Opportunity t is the one at place t, from 0, of the stretch's D opportunities. A stretch is given by what goes
 -- before it and by itself; `stretch-in-list` (WholeList) has it as a part of a whole list.
-use mathlib.Core.Bool.{Bool, true, false, cond, _&&_}
-use mathlib.Core.List.{List, [], _∷_, _++_}
+use mathlib.Core.Bool.{Bool, cond, _&&_}
+use mathlib.Core.List.{List, [], _∷_}
 use mathlib.Core.Path.{_≡_}
-use Prim.Native.Nat.{ℕ, zero, suc, _+_, _*_, _≤_, _<_}
+use Prim.Native.Nat.{ℕ, _+_, _*_, _≤_, _<_}
 use lib.Dec.{eqb}
 use lib.ListN.{length, getD}
 use Rattle.dchannel.specs.Image.{image}
-use Rattle.dchannel.specs.Reading.{Said}
-use Rattle.dchannel.specs.Reading.Said.{nothing, torn, heard}
+use Rattle.dchannel.specs.Reading.Said.{torn, heard}
 use Rattle.contention.specs.Channel.{Station, Channel, Action, freshChannel, mayHold, step, run}
 use Rattle.contention.specs.Channel.Action.{hand, enter, leave, clear, opportunity}
 use Rattle.contention.specs.Stretch.{Stretch, opportunities, station, Waits, Completes, Begins, saidAt, counted, activeCount, ImagesAtMost}

@@ -1,13 +1,12 @@
 -- Stretches and what document 01, "Lists and stretches", says of the D opportunities in them.
-use mathlib.Core.Bool.{Bool, true, false, cond, _&&_, not}
-use mathlib.Core.List.{List, [], _∷_, _++_}
+use mathlib.Core.Bool.{Bool, true, false, cond}
+use mathlib.Core.List.{List, [], _∷_}
 use mathlib.Core.Path.{_≡_}
-use Prim.Native.Nat.{ℕ, zero, suc, _+_, _≤_, _<_}
-use lib.Dec.{eqb, ltb}
+use Prim.Native.Nat.{ℕ, _+_, _≤_}
 use lib.ListN.{length, getD}
-use Rattle.dchannel.specs.Access.{lowOf, sending}
+use Rattle.dchannel.specs.Access.{lowOf}
 use Rattle.dchannel.specs.Reading.{Said, said}
-use Rattle.contention.specs.Channel.{Station, Channel, Action, freshStation, freshChannel, turnAt, sendsD, together, step, run, hears}
+use Rattle.contention.specs.Channel.{Station, Channel, Action, freshStation, turnAt, together, step}
 use Rattle.contention.specs.Channel.Action.{hand, enter, leave, clear, opportunity}
 
 module _ (x1 x2 : ℕ) where

@@ -1,1 +1,1 @@
-// Eight terminals on one D channel: definitions and theorems alone (specs/), no code.
+// Terminals on one D channel: definitions (specs/) and theorems (proofs/) alone, no code.

@@ -13,7 +13,7 @@ use lib.Seq.{getD-at, append-snoc, take-suc}
 use borrow.Author.Tests.{ltb-true, ltb-false, leb-true, leb-false, eqb-true, eqb-false, lt-ltb, le-ltb, le-leb, lt-leb, eq-eqb, ne-eqb}
 use Rattle.dchannel.specs.Bits.{same}
 use Rattle.dchannel.specs.Image.{image}
-use Rattle.dchannel.specs.Access.{fresh, entered, countAfter, lowAfter, afterE, sending, lowOf, threshold, mayStart, sends, stops, completes, idles, turn}
+use Rattle.dchannel.specs.Access.{entered, countAfter, lowAfter, afterE, sending, lowOf, threshold, mayStart, sends, stops, completes, idles, turn}
 use Rattle.dchannel.specs.Handing.{left}
 use Rattle.dchannel.specs.Ones.{endingOnes}
 use Rattle.dchannel.proofs.ByCases.{by-test}

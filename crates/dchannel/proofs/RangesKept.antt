@@ -1,10 +1,10 @@
 -- Every method keeps every field in its range.
 use mathlib.Core.Bool.{Bool, true, false, cond}
-use mathlib.Core.Path.{_≡_, refl, ap, sym, _∙_}
+use mathlib.Core.Path.{_≡_, refl}
 use Prim.Native.Nat.{ℕ, _+_, _≤_, _<_}
 use native.Mathlib.Omega.{arith}
 use lib.Dec.{ltb, leb, eqb}
-use borrow.Author.Tests.{lt-ltb, le-ltb, ltb-true, ltb-false, le-leb, leb-true, leb-false, eq-eqb, eqb-true}
+use borrow.Author.Tests.{lt-ltb, le-ltb, ltb-true, ltb-false, le-leb, leb-false}
 use Rattle.dchannel.proofs.ByCases.{by-test, both, neither, clash}
 use Rattle.dchannel.specs.Bits.{same}
 use Rattle.dchannel.specs.Access.{fresh, entered, countAfter, afterE, sending, mayStart, sends, stops, completes, idles, turn}

@@ -1,6 +1,6 @@
 -- One terminal's access to the D channel (document 01, "D access (6.1)"), for normal levels x1 of class 1 and x2 of class 2;
 -- each low level is one more.
-use mathlib.Core.Bool.{Bool, true, false, cond, not}
+use mathlib.Core.Bool.{Bool, true, false, cond}
 use Prim.Native.Nat.{ℕ, _+_}
 use lib.Dec.{ltb, leb, eqb}
 use Rattle.dchannel.specs.Bits.{same}
@@ -100,7 +100,7 @@ completes a =
 unfoldable pub idles : Access → Turn
 idles a = record { access = a; d = true; done = 0 }
 
--- One D opportunity in F7 with the E heard and the image's bit number `sent`, in the order of readings.md 1: C and levels; a
+-- One D opportunity in F7 with the E heard and the image's bit number `sent`, in the order of docs/DECISIONS.md, reading 1: C and levels; a
 -- sending stops, is completed or goes on; a terminal that was not sending as E came starts if it may.
 unfoldable pub turn : ℕ → ℕ → Bool → Bool → Access → Turn
 turn x1 x2 e next a =

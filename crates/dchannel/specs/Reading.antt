@@ -1,8 +1,8 @@
--- The network end's reader of D, over the raw bits that it has read (document 01, "D access (6.1)", second paragraph; readings.md 7
--- to 9).
+-- The network end's reader of D, over the raw bits that it has read (document 01, "D access (6.1)", second paragraph; docs/DECISIONS.md,
+-- readings 7 to 9).
 use mathlib.Core.Bool.{Bool, true, false, cond}
 use mathlib.Core.List.{List, [], _∷_, _++_}
-use Prim.Native.Nat.{ℕ, zero, suc, _*_, _/_, _%_}
+use Prim.Native.Nat.{ℕ, suc, _*_, _/_, _%_}
 use lib.Dec.{eqb, leb, ltb}
 use lib.ListN.{length, drop}
 use Rattle.dchannel.specs.Bits.{same, octets}

@@ -3,29 +3,26 @@ use mathlib.Core.Path.{_≡_, refl}
 use mathlib.Core.Bool.{Bool, true, false, cond, not}
 use mathlib.Core.List.{List, [], _∷_, _++_}
 use Prim.Native.Nat.{ℕ, zero, suc, _+_}
-use lib.Dec.{eqb, ltb, leb}
+use lib.Dec.{eqb}
 use lib.ListN.{length, getD, replicate}
 use Rattle.line.specs.Symbols.{none, plus, minus, same}
 use Rattle.line.specs.Framed.{firstPulse, framedIn, framedUp, hasPulse}
-use Rattle.line.specs.Info.{info0, info1, isInfo1}
+use Rattle.line.specs.Info.{info0, info1}
 use Rattle.dchannel.specs.Bits.{lowBits, bodyBits}
 use Rattle.dchannel.specs.Image.{flag, stuff, image}
 use Rattle.dchannel.specs.Access.{normal1, normal2, countAfter, lowAfter, afterE, lowOf, threshold, mayStart, sends, stops, completes, idles, turn}
-use Rattle.dchannel.specs.Handing.{isImageLength}
 use Rattle.dchannel.specs.Ranges.{heldInRange, lastInRange, accessInRange}
 use Rattle.dchannel.specs.Access as access
 use Rattle.dchannel.specs.declared.access.Access.{Access}
 use Rattle.dchannel.specs.declared.access.Turn.{Turn}
 use Rattle.tables.specs.Cells.{cellIn}
 use Rattle.activation.specs.Timers.{due, timerAfter}
-use Rattle.activation.specs.Alignment.{unaligned, inAlignment, followed, framedPeriod, unframedPeriod, alignmentInRange}
-use Rattle.activation.specs.Hearing.{heardUp, lossUp, heardDown}
+use Rattle.period.specs.Alignment.{unaligned, inAlignment, followed, alignmentInRange}
+use Rattle.period.specs.Hearing.{heardUp, lossUp}
 use Rattle.tables.specs.Notes.{noted}
-use Rattle.activation.specs.Sensing.{shownUp}
+use Rattle.period.specs.Sensing.{shownUp}
 use Rattle.activation.specs.Network as network
 use Rattle.activation.specs.Terminal as terminal
-use Rattle.activation.specs.declared.network.Network.{Network}
-use Rattle.activation.specs.declared.terminal.Terminal.{Terminal}
 
 -- whether bits are the given ones, written as 0 and 1
 abbrev bits : List ℕ → List Bool

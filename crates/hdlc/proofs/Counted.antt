@@ -1,25 +1,25 @@
 -- The counters say exactly what the reader over raw bits says, for every list of bits.
-use mathlib.Core.Bool.{Bool, true, false, cond, not}
+use mathlib.Core.Bool.{Bool, true, false, cond}
 use mathlib.Core.List.{List, [], _∷_, _++_, append-assoc}
 use mathlib.Core.Path.{_≡_, refl, ap, sym, subst, _∙_}
 use Prim.Native.Nat.{ℕ, zero, suc, _+_, _-_, _*_, _/_, _%_, _≤_, _<_}
 use native.Mathlib.Numerals.{add-one}
 use native.Mathlib.Omega.{arith}
 use lib.Dec.{ltb, leb, eqb}
-use lib.ListN.{length, take, drop, getD, set, replicate, length-append, length-take, length-set, length-replicate}
+use lib.ListN.{length, take, drop, replicate, length-append, length-take, length-set}
 use lib.Seq.{getD-take, ext-getD}
-use borrow.Author.Tests.{lt-ltb, le-ltb, ltb-true, ltb-false, le-leb, lt-leb, leb-true, eq-eqb, ne-eqb, eqb-true, eqb-false}
+use borrow.Author.Tests.{lt-ltb, le-ltb, ltb-true, ltb-false, le-leb, lt-leb, leb-true, eq-eqb, eqb-true}
 use Rattle.dchannel.proofs.ByCases.{by-test, both, clash, below}
 use Rattle.dchannel.specs.Bits.{number, octets}
 use Rattle.hdlc.proofs.Octets.{length-octets, getD-octets}
-use Rattle.dchannel.specs.Image.{flag, longestBody}
+use Rattle.dchannel.specs.Image.{longestBody}
 use Rattle.dchannel.specs.Reading.{Reading, Said, unstuff, reversed, nothing, torn, heard, cleared, startsWith, contents, between, aborted, says, said, next}
 use Rattle.hdlc.proofs.RawBits.{lead, runOf, zeroOf, dataOf, data-one, data-zero, data-inserted, data-lead, data-flag, contents-drop, startsWith-flag, startsWith-ones}
-use Rattle.hdlc.specs.Counters.{mostBits, clearedReader, openedReader, oneMore, shifted, counts, takes, run, counted, fills, stored, betweenFlags, abortedAfter, answered, readBit, readOctets}
+use Rattle.hdlc.specs.Counters.{mostBits, clearedReader, oneMore, counts, takes, run, counted, fills, stored, betweenFlags, abortedAfter, answered, readBit, readOctets}
 use Rattle.hdlc.proofs.Held.{Whole, Held, eighth, held-none, whole-prefix, held-put, held-on}
 use Rattle.hdlc.specs.declared.reader.Reader.{Reader}
 use Rattle.hdlc.specs.declared.reader.Answer.{Answer}
-use Rattle.hdlc.specs.declared.reader.Answer.the-variants.{Nothing, Heard, Torn, Refused}
+use Rattle.hdlc.specs.declared.reader.Answer.the-variants.{Nothing, Heard, Torn}
 
 -- the reader's answer for what the reader over raw bits says
 abbrev pub answerTo : Said → Answer

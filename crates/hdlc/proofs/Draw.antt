@@ -1,13 +1,13 @@
 -- What the functions of the image's writer need, over plain variables.
 use mathlib.Core.Bool.{Bool, true, false, cond}
-use mathlib.Core.List.{List, [], _∷_, _++_, append-assoc}
+use mathlib.Core.List.{List, [], _∷_, _++_}
 use mathlib.Core.Path.{_≡_, refl, ap, sym, subst, _∙_}
-use Prim.Native.Nat.{ℕ, zero, suc, _+_, _-_, _*_, _/_, _%_, _^_, _≤_, _<_, min}
+use Prim.Native.Nat.{ℕ, zero, suc, _+_, _-_, _*_, _%_, _≤_, _<_}
 use native.Mathlib.Numerals.{add-one}
 use native.Mathlib.Omega.{arith}
 use lib.Dec.{ltb, leb, eqb}
-use lib.ListN.{length, take, drop, getD, replicate, length-append, length-take}
-use lib.Seq.{length-take-le, take-suc, take-length}
+use lib.ListN.{length, take, getD, replicate}
+use lib.Seq.{length-take-le, take-suc}
 use borrow.Author.Tests.{ltb-true, ltb-false, leb-true, ne-eqb, eq-eqb}
 use Rattle.dchannel.proofs.ByCases.{by-test, neither}
 use Rattle.dchannel.specs.Bits.{lowBits, bodyBits}

@@ -1,21 +1,21 @@
 -- The image's writer gives the packed image.
 use mathlib.Core.Bool.{Bool, true, false, cond}
-use mathlib.Core.List.{List, [], _∷_, _++_, append-assoc, append-nil}
+use mathlib.Core.List.{List, [], _∷_, _++_, append-nil}
 use mathlib.Core.Path.{_≡_, refl, ap, sym, subst, _∙_}
 use Prim.Native.Nat.{ℕ, zero, suc, _+_, _-_, _*_, _/_, _%_, _^_, _≤_, _<_}
 use native.Mathlib.Nat.{div-div-eq-div-mul, div-one, zero-div, pow-succ'}
 use native.Mathlib.Numerals.{add-one}
 use native.Mathlib.Omega.{arith}
-use lib.Dec.{ltb, leb, eqb}
-use lib.ListN.{length, take, drop, getD, set, replicate, length-append, length-drop, length-set, length-replicate, List·getD-append}
+use lib.Dec.{ltb, eqb}
+use lib.ListN.{length, take, drop, getD, replicate, length-append, length-drop, length-set, length-replicate, List·getD-append}
 use lib.Seq.{append-snoc, drop-nil, getD-append-add, getD-drop, getD-take, getD-set-other, ext-getD, take-suc}
-use borrow.Author.Tests.{lt-ltb, le-ltb, ltb-true, ltb-false, eqb-true, eqb-false, eq-eqb, ne-eqb}
+use borrow.Author.Tests.{lt-ltb, le-ltb, ltb-true, ltb-false, eqb-true, eq-eqb, ne-eqb}
 use Rattle.dchannel.proofs.ByCases.{by-test, below}
 use Rattle.dchannel.specs.Bits.{lowBits, bodyBits, number, octets}
-use Rattle.dchannel.specs.Image.{flag, stuff, image}
+use Rattle.dchannel.specs.Image.{stuff, image}
 use Rattle.hdlc.specs.Counters.{shifted}
 use Rattle.hdlc.proofs.Octets.{length-octets, getD-octets}
-use Rattle.hdlc.proofs.Held.{Held, Whole, eighth, held-none, held-put, held-on}
+use Rattle.hdlc.proofs.Held.{Held, eighth, held-none, held-put, held-on}
 use Rattle.hdlc.specs.Packing.{imageRoom, octetsFor, packed, onto, bitOf, bitAt, isBodyLength, imagedOctets}
 use Rattle.hdlc.specs.Pen.{newPen, penAfter, inked, inkAfter, pens, inks, pens-append, inks-append}
 use Rattle.hdlc.specs.declared.image.Pen.{Pen}

@@ -1,13 +1,13 @@
 -- Every method keeps every field in its range.
 use mathlib.Core.Bool.{Bool, true, false, cond}
 use mathlib.Core.List.{List}
-use mathlib.Core.Path.{_≡_, refl, ap, sym, _∙_}
+use mathlib.Core.Path.{_≡_, refl}
 use Prim.Native.Nat.{ℕ, _+_, _≤_, _<_}
 use native.Mathlib.Omega.{arith}
 use lib.Dec.{ltb, leb, eqb}
 use lib.ListN.{length}
-use borrow.Author.Tests.{lt-ltb, le-ltb, ltb-true, ltb-false, le-leb, leb-true, leb-false, eq-eqb, eqb-true}
-use Rattle.dchannel.proofs.ByCases.{by-test, both, neither, clash}
+use borrow.Author.Tests.{lt-ltb, le-ltb, ltb-true, ltb-false, le-leb, leb-true, eq-eqb, eqb-true}
+use Rattle.dchannel.proofs.ByCases.{by-test, both, neither}
 use Rattle.dchannel.specs.Image.{longestBody}
 use Rattle.hdlc.specs.Counters.{mostBits, clearedReader, openedReader, oneMore, shifted, counts, takes, run, counted, readBit}
 use Rattle.hdlc.specs.ReaderRange.{openInRange, shutInRange, readerInRange}

@@ -1,5 +1,5 @@
 -- "Every field in its range", for the network end's reader.
-use mathlib.Core.Bool.{Bool, true, false, cond}
+use mathlib.Core.Bool.{Bool, false, cond}
 use lib.Dec.{ltb, leb, eqb}
 use Rattle.hdlc.specs.Counters.{mostBits}
 use Rattle.hdlc.specs.declared.reader.Reader.{Reader}

@@ -130,7 +130,7 @@ UnframedInfo0 = (framedDown info0 ≡ false) × (framedUp info0 ≡ false)
 abbrev pub UnframedInfo1 : Type 0
 UnframedInfo1 = (framedDown info1 ≡ false) × (framedUp info1 ≡ false)
 
--- INFO 1, and no frame, is INFO 1. A pulseless line is INFO 0; a frame has a pulse.
+-- INFO 1 is INFO 1, and no upward frame is. A pulseless line is INFO 0.
 abbrev pub Info1IsInfo1 : Type 0
 Info1IsInfo1 = isInfo1 info1 ≡ true
 

@@ -1,4 +1,4 @@
-// The notes of one unit's call (document 01, "Bench book and report"). specs/Notes.antt gives each code its name and value.
+// The notes of one unit's call (document 01, "Bench book and report"). specs/Names.antt gives each code its name and value.
 
 pub const PH_ACT: u8 = 1;
 
