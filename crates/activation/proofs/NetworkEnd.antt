@@ -5,7 +5,7 @@ use mathlib.Core.List.{[], append-nil}
 use Prim.Native.Nat.{ℕ, _≤_}
 use borrow.Author.Tests.{leb-true}
 use lib.Dec.{T}
-use Rattle.dchannel.proofs.ByCases.{both, clash}
+use Rattle.cases.proofs.ByCases.{both, clash}
 use Rattle.tables.proofs.Everywhere.{in-row, in-table}
 use Rattle.tables.specs.Notes.{packed, noted}
 use Rattle.tables.specs.Cells.{cellOf}

@@ -5,7 +5,7 @@ use Prim.Native.Nat.{_*_, ℕ, _+_, _≤_, _<_}
 use native.Mathlib.Omega.{arith}
 use lib.Dec.{ltb, leb, eqb, T}
 use borrow.Author.Tests.{le-ltb, ltb-false, leb-true, leb-false, le-leb}
-use Rattle.dchannel.proofs.ByCases.{both, neither}
+use Rattle.cases.proofs.ByCases.{both, neither}
 use Rattle.tables.specs.Cells.{cellOf}
 use Rattle.period.specs.Counts.{periodsInRange, nextPeriod, opportunitiesInRange, fourMore, allRun}
 use Rattle.activation.specs.Timers.{due, timerAfter}

@@ -8,7 +8,7 @@ use native.Mathlib.Numerals.{add-one}
 use lib.Dec.{T}
 use lib.ListN.{length-take}
 use borrow.Author.Tests.{leb-true}
-use Rattle.dchannel.proofs.ByCases.{both}
+use Rattle.cases.proofs.ByCases.{both}
 use Rattle.tables.proofs.Everywhere.{in-table}
 use Rattle.tables.specs.Notes.{packed, noted}
 use Rattle.tables.specs.Cells.{cellOf}

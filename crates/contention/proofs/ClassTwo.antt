@@ -8,7 +8,7 @@ use native.Mathlib.Omega.{arith}
 use lib.Dec.{eqb}
 use lib.ListN.{length, getD}
 use borrow.Author.Tests.{eqb-true, eq-eqb, ne-eqb}
-use Rattle.dchannel.proofs.ByCases.{by-test}
+use Rattle.cases.proofs.ByCases.{by-test}
 use Rattle.dchannel.specs.Access.{entered}
 use Rattle.dchannel.specs.Handing.{takenUp}
 use Rattle.contention.specs.Channel.{Station, Channel, Action, freshStation, mayHold, holding, entering, change, turnAt, hears, sendsD, step}

@@ -8,8 +8,8 @@ use native.Mathlib.Numerals.{add-one}
 use lib.Dec.{eqb}
 use lib.ListN.{length}
 use borrow.Author.Tests.{eqb-true, eqb-false}
-use Rattle.dchannel.specs.Image.{image}
-use Rattle.dchannel.proofs.ByCases.{by-test}
+use Rattle.hdlc.specs.Image.{image}
+use Rattle.cases.proofs.ByCases.{by-test}
 use Rattle.contention.specs.Channel.{Channel, Action}
 use Rattle.contention.specs.Stretch.{Stretch, station, Begins}
 use Rattle.contention.specs.Claims.{at, start, opps, HeardInOrder}

@@ -7,8 +7,8 @@ use native.Mathlib.Omega.{arith}
 use lib.Dec.{leb, ltb}
 use lib.ListN.{length, getD}
 use borrow.Author.Tests.{ltb-true, leb-true}
-use Rattle.dchannel.specs.Image.{image, IsBody, longestBody}
-use Rattle.dchannel.proofs.ByCases.{by-test}
+use Rattle.hdlc.specs.Image.{image, IsBody, longestBody}
+use Rattle.cases.proofs.ByCases.{by-test}
 use Rattle.contention.specs.Channel.{Station, Channel, Action, allOctets, isBody, step}
 use Rattle.contention.specs.Channel.Action.{hand, enter, leave, clear, opportunity}
 use Rattle.contention.specs.Stretch.{Stretch, opportunities}

@@ -10,13 +10,13 @@ use lib.Dec.{ltb}
 use lib.ListN.{length, getD, take}
 use lib.Seq.{take-length}
 use borrow.Author.Tests.{ltb-true, ltb-false}
-use Rattle.dchannel.specs.Image.{image}
-use Rattle.dchannel.proofs.ByCases.{by-test}
-use Rattle.dchannel.specs.Reading.{Reading, said, next}
-use Rattle.dchannel.specs.Reading.Said.{nothing, torn, heard}
-use Rattle.dchannel.proofs.ImageLaws.{image-starts, image-least}
-use Rattle.dchannel.proofs.ReadingLaws.{after, after-at, after-image, openedFresh, Quiet, quiet-opened, quiet-one, quiet-one-silent, Within, begun-within, within-start, within-silent, within-heard}
-use Rattle.dchannel.proofs.PrefixLaws.{prefix-free-bits}
+use Rattle.hdlc.specs.Image.{image}
+use Rattle.cases.proofs.ByCases.{by-test}
+use Rattle.hdlc.specs.Reading.{Reading, said, next}
+use Rattle.hdlc.specs.Reading.Said.{nothing, torn, heard}
+use Rattle.hdlc.proofs.ImageLaws.{image-starts, image-least}
+use Rattle.hdlc.proofs.ReadingLaws.{after, after-at, after-image, openedFresh, Quiet, quiet-opened, quiet-one, quiet-one-silent, Within, begun-within, within-start, within-silent, within-heard}
+use Rattle.hdlc.proofs.PrefixLaws.{prefix-free-bits}
 use Rattle.contention.specs.Channel.{Channel}
 use Rattle.contention.specs.Stretch.{station, Completes, Begins, saidAt}
 use Rattle.contention.specs.Invariant.{Invariant}

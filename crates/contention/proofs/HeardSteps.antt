@@ -4,8 +4,8 @@ use mathlib.Core.Path.{_≡_, sym, ap, _∙_}
 use Prim.Native.Nat.{ℕ, suc, _+_, _≤_, _<_}
 use native.Mathlib.Omega.{arith}
 use lib.ListN.{length}
-use Rattle.dchannel.specs.Image.{image}
-use Rattle.dchannel.specs.Reading.{said, next}
+use Rattle.hdlc.specs.Image.{image}
+use Rattle.hdlc.specs.Reading.{said, next}
 use Rattle.contention.specs.Channel.{Station, Channel, turnAt, hears, sendsD, step}
 use Rattle.contention.specs.Stretch.{station, Completes, Begins, saidAt}
 use Rattle.contention.specs.Invariant.{Invariant}

@@ -9,11 +9,11 @@ use lib.ListN.{length, getD, take}
 use lib.Seq.{take-suc}
 use borrow.Author.Tests.{eqb-true, eqb-false, leb-true, leb-false}
 use Rattle.dchannel.specs.declared.access.Access.{Access}
-use Rattle.dchannel.specs.Ones.{endingOnes}
-use Rattle.dchannel.proofs.ByCases.{by-test}
-use Rattle.dchannel.proofs.OnesLaws.{ending-one}
-use Rattle.dchannel.specs.Image.{image}
-use Rattle.dchannel.proofs.ImageLaws.{length-image, image-starts, image-endingOnes}
+use Rattle.hdlc.specs.Ones.{endingOnes}
+use Rattle.cases.proofs.ByCases.{by-test}
+use Rattle.hdlc.proofs.OnesLaws.{ending-one}
+use Rattle.hdlc.specs.Image.{image}
+use Rattle.hdlc.proofs.ImageLaws.{length-image, image-starts, image-endingOnes}
 use Rattle.dchannel.specs.Access.{entered, countAfter, lowOf}
 use Rattle.dchannel.specs.Handing.{takenUp, left}
 use Rattle.contention.specs.Channel.{Station, Channel, Action, freshStation, freshStations, freshChannel, change, allHear, mayHold, isBody, holding, entering, leaving, nextBit, turnAt, hears, sendsD, step, run}

@@ -6,7 +6,7 @@ use Prim.Native.Nat.{ℕ, zero, suc, _+_, _≤_, _<_}
 use native.Mathlib.Omega.{arith}
 use lib.Dec.{eqb, leb}
 use borrow.Author.Tests.{eqb-true, eqb-false, leb-true, leb-false}
-use Rattle.dchannel.proofs.ByCases.{by-test}
+use Rattle.cases.proofs.ByCases.{by-test}
 use Rattle.dchannel.specs.Access.{lowOf}
 use Rattle.contention.specs.Channel.{Station, Channel, Action, hears}
 use Rattle.contention.specs.Stretch.{Stretch, station, Waits, Completes}

@@ -9,8 +9,8 @@ use lib.Dec.{eqb, leb, ltb}
 use lib.ListN.{length}
 use borrow.Author.Tests.{ltb-true, ltb-false, leb-true, leb-false, eqb-false, eq-eqb, ne-eqb, lt-ltb, le-ltb}
 use Rattle.dchannel.specs.declared.access.Access.{Access}
-use Rattle.dchannel.proofs.ByCases.{by-test}
-use Rattle.dchannel.specs.Access.{countAfter, lowAfter, afterE, threshold, lowOf, mayStart, sends, stops, completes, idles, turn}
+use Rattle.cases.proofs.ByCases.{by-test}
+use Rattle.dchannel.specs.Access.{countAfter, lowAfter, afterE, threshold, lowOf, mayStart, sendsNext, stops, completes, idles, turn}
 use Rattle.dchannel.proofs.AccessLaws.{by-ways, turn-count, turn-low1, turn-low2}
 use Rattle.contention.specs.Channel.{Station, nextBit, turnAt, hears, sendsD}
 
@@ -118,7 +118,7 @@ module _ (x1 x2 : ℕ) (e : Bool) (s : Station) where
   sendsD-outside h = rw h
 
   turn-outcome : s .active ≡ true → Outcome x1 x2 e s (inF7 (turnAt x1 x2 e s .access) (s .body)) (turnAt x1 x2 e s .d) (turnAt x1 x2 e s .done)
-  unfolding turnAt completes sends stops idles afterE lowOf
+  unfolding turnAt completes sendsNext stops idles afterE lowOf
   turn-outcome act =
       by-ways x1 x2 e (nextBit s) (s .access) (λ t. Outcome x1 x2 e s (inF7 (t .access) (s .body)) (t .d) (t .done))
       (λ h a m. went-on (record { in-F7 = act; sending = h; agreed = a; more = m; sent-now = add-one (s .access .sent); held-now = refl; length-now = refl; last-now = refl; done-now = refl; d-now = refl }))
@@ -141,7 +141,7 @@ module _ (x1 x2 : ℕ) (e : Bool) (s : Station) where
   body-after = by-test (s .active) (λ act. rw (hears-active act)) (λ out. rw (hears-outside out))
 
   pub count-after : s .active ≡ true → hears x1 x2 e s .access .count ≡ countAfter x2 e (s .access .count)
-  unfolding turnAt completes sends stops idles afterE
+  unfolding turnAt completes sendsNext stops idles afterE
   count-after act =
       rw (hears-active act)
       (turn-count x1 x2 e (nextBit s) (s .access))
@@ -213,7 +213,7 @@ module _ (x2 : ℕ) where
 turn-low : (x1 x2 k : ℕ) (e next : Bool) (a : Access) → 1 ≤ k → k ≤ 2
     → lowOf k (turn x1 x2 e next a .access)
     ≡ cond (eqb (turn x1 x2 e next a .done) k) true (lowAfter (level x1 x2 k) (countAfter x2 e (a .count)) (lowOf k a))
-unfolding lowOf level afterE completes sends stops idles
+unfolding lowOf level afterE completes sendsNext stops idles
 turn-low x1 x2 zero e next a h l = absurd (omega arith)
 turn-low x1 x2 (suc zero) e next a h l = turn-low1 x1 x2 e next a
 turn-low x1 x2 (suc (suc zero)) e next a h l = turn-low2 x1 x2 e next a

@@ -9,8 +9,8 @@ use native.Mathlib.Omega.{arith}
 use lib.Dec.{leb}
 use lib.ListN.{length, getD}
 use borrow.Author.Tests.{leb-true, leb-false}
-use Rattle.dchannel.proofs.ByCases.{by-test}
-use Rattle.contention.specs.Channel.{Station, Channel, Action, freshStation, hears, sendsD, turnAt, together, step, run}
+use Rattle.cases.proofs.ByCases.{by-test}
+use Rattle.contention.specs.Channel.{Station, Channel, Action, freshStation, hears, sendsD, turnAt, combinedD, step, run}
 use Rattle.contention.specs.Channel.Action.{hand, enter, leave, clear, opportunity}
 use Rattle.contention.specs.Stretch.{Calm, Stretch, onward, opportunities, station, counted, activeCount}
 use Rattle.contention.specs.Claims.{at, start, opps}
@@ -91,7 +91,7 @@ anyone c = of (any-of (c .stations))
 module _ (x1 x2 : ℕ) where
   pub onward-station : (c : Channel) (j : ℕ) → station j (onward x1 x2 c) ≡ hears x1 x2 (c .heardD) (station j c)
   unfolding onward
-  onward-station c j = station-hears x1 x2 (c .heardD) (together x1 x2 (c .heardD) (c .stations)) true c j
+  onward-station c j = station-hears x1 x2 (c .heardD) (combinedD x1 x2 (c .heardD) (c .stations)) true c j
 
   calm-onward : (c : Channel) (e bit on : Bool) → Calm x1 x2 c (opportunity e bit on) → onward x1 x2 c ≡ step x1 x2 c (opportunity e bit on)
   unfolding onward
@@ -99,16 +99,16 @@ module _ (x1 x2 : ℕ) where
 
   -- ---- the D sent is the AND of the bits sent
 
-  together-zero : (e : Bool) (ss : List Station) (i : ℕ) → sendsD x1 x2 e (getD ss i freshStation) ≡ false → together x1 x2 e ss ≡ false
-  unfolding together sendsD
+  together-zero : (e : Bool) (ss : List Station) (i : ℕ) → sendsD x1 x2 e (getD ss i freshStation) ≡ false → combinedD x1 x2 e ss ≡ false
+  unfolding combinedD sendsD
   together-zero e [] i h = h
   together-zero e (s ∷ ss) zero h = rw h
   together-zero e (s ∷ ss) (suc i) h =
       by-test (sendsD x1 x2 e s) (λ q. rw q (together-zero e ss i h)) (λ q. rw q)
 
-  together-some : (e : Bool) (ss : List Station) → together x1 x2 e ss ≡ false
+  together-some : (e : Bool) (ss : List Station) → combinedD x1 x2 e ss ≡ false
       → (i : ℕ) × (sendsD x1 x2 e (getD ss i freshStation) ≡ false)
-  unfolding together
+  unfolding combinedD
   together-some e [] h = absurd (true≢false h)
   together-some e (s ∷ ss) h =
       by-test (sendsD x1 x2 e s)
@@ -136,7 +136,7 @@ zero-sender x1 x2 e s s′ d done (idled r) h = absurd (false≢true (sym h ∙ 
 zero-sender x1 x2 e s s′ d done (outside r) h = absurd (false≢true (sym h ∙ r .d-now))
 
 module _ (x1 x2 : ℕ) where
-  onward-heard : (c : Channel) → onward x1 x2 c .heardD ≡ together x1 x2 (c .heardD) (c .stations)
+  onward-heard : (c : Channel) → onward x1 x2 c .heardD ≡ combinedD x1 x2 (c .heardD) (c .stations)
   unfolding onward step
   onward-heard c = refl
 
@@ -193,7 +193,7 @@ module _ (x1 x2 : ℕ) where
 module _ (x1 x2 : ℕ) (h1 : 8 ≤ x1) (h2 : x1 + 2 ≤ x2) where
   pub invariant-onward : (c : Channel) → Invariant x2 c → Invariant x2 (onward x1 x2 c)
   unfolding onward
-  invariant-onward c inv = invariant-step x1 x2 h1 h2 c (opportunity (c .heardD) (together x1 x2 (c .heardD) (c .stations)) true) inv
+  invariant-onward c inv = invariant-step x1 x2 h1 h2 c (opportunity (c .heardD) (combinedD x1 x2 (c .heardD) (c .stations)) true) inv
 
   first-opportunity : (during : List Action) (c : Channel) → Invariant x2 c → Stretch x1 x2 c during
       → 0 < length (opportunities x1 x2 c during) → Quiet c (at (opportunities x1 x2 c during) 0)

@@ -10,7 +10,7 @@ use native.Mathlib.Omega.{arith}
 use lib.Dec.{eqb, leb}
 use lib.ListN.{length}
 use borrow.Author.Tests.{eqb-true, eqb-false, leb-true, leb-false}
-use Rattle.dchannel.proofs.ByCases.{by-test}
+use Rattle.cases.proofs.ByCases.{by-test}
 use Rattle.dchannel.specs.Access.{lowOf, threshold, countAfter}
 use Rattle.contention.specs.Channel.{Station, Channel, Action, turnAt, hears, sendsD, step, run}
 use Rattle.contention.specs.Stretch.{Stretch, station, Waits, Completes, activeCount, ImagesAtMost}

@@ -5,9 +5,9 @@ use Prim.Native.Nat.{ℕ, zero, suc, _+_, _-_, _≤_, _<_}
 use native.Mathlib.Omega.{arith}
 use lib.ListN.{length}
 use Rattle.dchannel.specs.declared.access.Access.{Access}
-use Rattle.dchannel.specs.Image.{image}
-use Rattle.dchannel.proofs.ByCases.{by-test}
-use Rattle.dchannel.proofs.ImageLaws.{image-starts, image-ends, image-endingOnes}
+use Rattle.hdlc.specs.Image.{image}
+use Rattle.cases.proofs.ByCases.{by-test}
+use Rattle.hdlc.proofs.ImageLaws.{image-starts, image-ends, image-endingOnes}
 use Rattle.dchannel.specs.Access.{lowOf}
 use Rattle.contention.specs.Channel.{Station, Channel, turnAt, hears, sendsD}
 use Rattle.contention.specs.Stretch.{station, Waits, Completes}

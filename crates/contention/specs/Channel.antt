@@ -7,10 +7,10 @@ use lib.Dec.{eqb, leb, ltb}
 use lib.ListN.{length, getD}
 use Rattle.dchannel.specs.declared.access.Access.{Access}
 use Rattle.dchannel.specs.declared.access.Turn.{Turn}
-use Rattle.dchannel.specs.Image.{image, longestBody}
+use Rattle.hdlc.specs.Image.{image, longestBody}
 use Rattle.dchannel.specs.Access.{fresh, entered, turn}
 use Rattle.dchannel.specs.Handing.{takenUp, left}
-use Rattle.dchannel.specs.Reading.{Reading, cleared, next}
+use Rattle.hdlc.specs.Reading.{Reading, cleared, next}
 
 -- a terminal as the D channel sees it
 pub record Station : Type 0 where
@@ -93,9 +93,9 @@ module _ (x1 x2 : ℕ) where
   allHear e (s ∷ ss) = hears e s ∷ allHear e ss
 
   -- all terminals together: 0 where any sends 0
-  unfoldable pub together : Bool → List Station → Bool
-  together e [] = true
-  together e (s ∷ ss) = cond (sendsD e s) (together e ss) false
+  unfoldable pub combinedD : Bool → List Station → Bool
+  combinedD e [] = true
+  combinedD e (s ∷ ss) = cond (sendsD e s) (combinedD e ss) false
 
   unfoldable pub step : Channel → Action → Channel
   step c (hand i k body) = record { stations = change (holding k body) i (c .stations); heardD = c .heardD; reading = c .reading }

@@ -7,8 +7,8 @@ use mathlib.Core.Path.{_≡_}
 use Prim.Native.Nat.{ℕ, _+_, _*_, _≤_, _<_}
 use lib.Dec.{eqb}
 use lib.ListN.{length, getD}
-use Rattle.dchannel.specs.Image.{image}
-use Rattle.dchannel.specs.Reading.Said.{torn, heard}
+use Rattle.hdlc.specs.Image.{image}
+use Rattle.hdlc.specs.Reading.Said.{torn, heard}
 use Rattle.contention.specs.Channel.{Station, Channel, Action, freshChannel, mayHold, step, run}
 use Rattle.contention.specs.Channel.Action.{hand, enter, leave, clear, opportunity}
 use Rattle.contention.specs.Stretch.{Stretch, opportunities, station, Waits, Completes, Begins, saidAt, counted, activeCount, ImagesAtMost}

@@ -5,8 +5,8 @@ use mathlib.Core.Path.{_≡_}
 use Prim.Native.Nat.{ℕ, _+_, _≤_}
 use lib.ListN.{length, getD}
 use Rattle.dchannel.specs.Access.{lowOf}
-use Rattle.dchannel.specs.Reading.{Said, said}
-use Rattle.contention.specs.Channel.{Station, Channel, Action, freshStation, turnAt, together, step}
+use Rattle.hdlc.specs.Reading.{Said, said}
+use Rattle.contention.specs.Channel.{Station, Channel, Action, freshStation, turnAt, combinedD, step}
 use Rattle.contention.specs.Channel.Action.{hand, enter, leave, clear, opportunity}
 
 module _ (x1 x2 : ℕ) where
@@ -17,11 +17,11 @@ module _ (x1 x2 : ℕ) where
   Calm c (enter i) = Unit
   Calm c (leave i) = ⊥
   Calm c clear = ⊥
-  Calm c (opportunity e bit on) = (e ≡ c .heardD) × (bit ≡ together x1 x2 (c .heardD) (c .stations)) × (on ≡ true)
+  Calm c (opportunity e bit on) = (e ≡ c .heardD) × (bit ≡ combinedD x1 x2 (c .heardD) (c .stations)) × (on ≡ true)
 
   -- an opportunity of a stretch, and the channel after it
   abbrev pub undisturbed : Channel → Action
-  undisturbed c = opportunity (c .heardD) (together x1 x2 (c .heardD) (c .stations)) true
+  undisturbed c = opportunity (c .heardD) (combinedD x1 x2 (c .heardD) (c .stations)) true
 
   unfoldable pub onward : Channel → Channel
   onward c = step x1 x2 c (undisturbed c)
@@ -64,7 +64,7 @@ module _ (x1 x2 : ℕ) where
 
   -- what the reader says at this opportunity's D
   unfoldable pub saidAt : Channel → Said
-  saidAt c = said (c .reading) (together x1 x2 (c .heardD) (c .stations))
+  saidAt c = said (c .reading) (combinedD x1 x2 (c .heardD) (c .stations))
 
 -- how many terminals pass a test
 unfoldable pub counted : (Station → Bool) → List Station → ℕ

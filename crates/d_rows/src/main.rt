@@ -1,9 +1,9 @@
 // Prints some images, and what the reader says to bit strings; the last and longest of these is read from standard input.
-use hdlc::image::Imaged;
-use hdlc::reader::Answer;
-use hdlc::reader::Reader;
 use libc::STDIN_FILENO;
 use libc::STDOUT_FILENO;
+use packing::image::Imaged;
+use packing::reader::Answer;
+use packing::reader::Reader;
 
 fn text(t: &[u8]) {
     io::write_all(STDOUT_FILENO, t);
@@ -41,14 +41,14 @@ fn bit(b: bool) {
 fn bits(o: &[u8], count: u16) {
     let mut i: u16 = 0;
     while i < count {
-        bit(hdlc::image::bit_at(o, i));
+        bit(packing::image::bit_at(o, i));
         i += 1;
     }
 }
 
 // A line for an image: its length in bits and, where asked, the bits; or the number of the refusal.
 fn image(body: &[u8], out: &mut [u8], shown: bool) {
-    let answer = hdlc::image::image(body, out);
+    let answer = packing::image::image(body, out);
     match answer {
         Imaged::Bits(n) => {
             number(n as usize);

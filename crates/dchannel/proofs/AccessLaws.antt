@@ -11,30 +11,30 @@ use lib.Dec.{ltb, leb, eqb}
 use lib.ListN.{length, getD, take, replicate, length-append}
 use lib.Seq.{getD-at, append-snoc, take-suc}
 use borrow.Author.Tests.{ltb-true, ltb-false, leb-true, leb-false, eqb-true, eqb-false, lt-ltb, le-ltb, le-leb, lt-leb, eq-eqb, ne-eqb}
-use Rattle.dchannel.specs.Bits.{same}
-use Rattle.dchannel.specs.Image.{image}
-use Rattle.dchannel.specs.Access.{entered, countAfter, lowAfter, afterE, sending, lowOf, threshold, mayStart, sends, stops, completes, idles, turn}
+use Rattle.hdlc.specs.Bits.{sameBit}
+use Rattle.hdlc.specs.Image.{image}
+use Rattle.dchannel.specs.Access.{entered, countAfter, lowAfter, afterE, sending, lowOf, threshold, mayStart, sendsNext, stops, completes, idles, turn}
 use Rattle.dchannel.specs.Handing.{left}
-use Rattle.dchannel.specs.Ones.{endingOnes}
-use Rattle.dchannel.proofs.ByCases.{by-test}
-use Rattle.dchannel.proofs.OnesLaws.{ending-one}
-use Rattle.dchannel.proofs.ImageLaws.{length-image}
+use Rattle.hdlc.specs.Ones.{endingOnes}
+use Rattle.cases.proofs.ByCases.{by-test}
+use Rattle.hdlc.proofs.OnesLaws.{ending-one}
+use Rattle.hdlc.proofs.ImageLaws.{length-image}
 use Rattle.dchannel.specs.declared.access.Access.{Access}
 use Rattle.dchannel.specs.declared.access.Turn.{Turn}
 
-pub same-refl : (b : Bool) → same b b ≡ true
+pub same-refl : (b : Bool) → sameBit b b ≡ true
 same-refl true = refl
 same-refl false = refl
 
-pub same-equal : (b c : Bool) → same b c ≡ true → b ≡ c
+pub same-equal : (b c : Bool) → sameBit b c ≡ true → b ≡ c
 same-equal true c e = sym e
 same-equal false true e = e
 same-equal false false e = refl
 
-pub same-differ : (b c : Bool) → same b c ≡ false → b ≡ c → ⊥
-same-differ b c e q = true≢false (sym (same-refl c) ∙ subst (λ (x : Bool). same x c ≡ false) q e)
+pub same-differ : (b c : Bool) → sameBit b c ≡ false → b ≡ c → ⊥
+same-differ b c e q = true≢false (sym (same-refl c) ∙ subst (λ (x : Bool). sameBit x c ≡ false) q e)
 
-pub differ-same : (b c : Bool) → (b ≡ c → ⊥) → same b c ≡ false
+pub differ-same : (b c : Bool) → (b ≡ c → ⊥) → sameBit b c ≡ false
 differ-same true true d = absurd (d refl)
 differ-same true false d = refl
 differ-same false true d = refl
@@ -42,7 +42,7 @@ differ-same false false d = absurd (d refl)
 
 -- The five ways of an opportunity, with what decides between them
 module _ (x1 x2 : ℕ) (e next : Bool) (a : Access) where
-  pub goes-on : 0 < a .sent → e ≡ a .last → a .sent < a .length → turn x1 x2 e next a ≡ sends next (afterE x1 x2 e a)
+  pub goes-on : 0 < a .sent → e ≡ a .last → a .sent < a .length → turn x1 x2 e next a ≡ sendsNext next (afterE x1 x2 e a)
   unfolding turn
   goes-on s q l = rw (lt-ltb 0 (a .sent) s, q, same-refl (a .last), lt-leb (a .length) (a .sent) l)
 
@@ -54,7 +54,7 @@ module _ (x1 x2 : ℕ) (e next : Bool) (a : Access) where
   unfolding turn
   stops-it s d = rw (lt-ltb 0 (a .sent) s, differ-same e (a .last) d)
 
-  pub starts-it : a .sent ≡ 0 → mayStart x1 x2 (afterE x1 x2 e a) ≡ true → turn x1 x2 e next a ≡ sends next (afterE x1 x2 e a)
+  pub starts-it : a .sent ≡ 0 → mayStart x1 x2 (afterE x1 x2 e a) ≡ true → turn x1 x2 e next a ≡ sendsNext next (afterE x1 x2 e a)
   unfolding turn
   starts-it s m = rw (le-ltb 0 (a .sent) (omega arith), m)
 
@@ -64,10 +64,10 @@ module _ (x1 x2 : ℕ) (e next : Bool) (a : Access) where
 
   -- every property of an opportunity, by these ways
   pub by-ways {ℓ} : (P : Turn → Type ℓ)
-      → (0 < a .sent → e ≡ a .last → a .sent < a .length → P (sends next (afterE x1 x2 e a)))
+      → (0 < a .sent → e ≡ a .last → a .sent < a .length → P (sendsNext next (afterE x1 x2 e a)))
       → (0 < a .sent → e ≡ a .last → a .length ≤ a .sent → P (completes (afterE x1 x2 e a)))
       → (0 < a .sent → (e ≡ a .last → ⊥) → P (stops (afterE x1 x2 e a)))
-      → (a .sent ≡ 0 → mayStart x1 x2 (afterE x1 x2 e a) ≡ true → P (sends next (afterE x1 x2 e a)))
+      → (a .sent ≡ 0 → mayStart x1 x2 (afterE x1 x2 e a) ≡ true → P (sendsNext next (afterE x1 x2 e a)))
       → (a .sent ≡ 0 → mayStart x1 x2 (afterE x1 x2 e a) ≡ false → P (idles (afterE x1 x2 e a)))
       → P (turn x1 x2 e next a)
   unfolding turn
@@ -75,7 +75,7 @@ module _ (x1 x2 : ℕ) (e next : Bool) (a : Access) where
       by-test (sending a)
       (λ s.
       rw s
-      (by-test (same e (a .last))
+      (by-test (sameBit e (a .last))
       (λ q.
       rw q
       (by-test (leb (a .length) (a .sent))
@@ -137,7 +137,7 @@ entering a = (refl, refl, refl, refl)
 
 -- whatever the terminal does, C is the one that E leaves: it runs while sending too, and neither a stop nor a completion touches it
 pub turn-count : (x1 x2 : ℕ) (e next : Bool) (a : Access) → turn x1 x2 e next a .access .count ≡ countAfter x2 e (a .count)
-unfolding sends completes stops idles afterE
+unfolding sendsNext completes stops idles afterE
 turn-count x1 x2 e next a =
     by-ways x1 x2 e next a (λ t. t .access .count ≡ countAfter x2 e (a .count)) (λ s q l. refl) (λ s q l. refl) (λ s d. refl) (λ s m. refl)
     (λ s m. refl)
@@ -164,21 +164,21 @@ level-returns-only x c h =
 -- both levels after an opportunity: they follow C, but for a completed class, which goes low
 pub turn-low1 : (x1 x2 : ℕ) (e next : Bool) (a : Access)
     → turn x1 x2 e next a .access .low1 ≡ cond (eqb (turn x1 x2 e next a .done) 1) true (lowAfter x1 (countAfter x2 e (a .count)) (a .low1))
-unfolding sends completes stops idles afterE
+unfolding sendsNext completes stops idles afterE
 turn-low1 x1 x2 e next a =
     by-ways x1 x2 e next a (λ t. t .access .low1 ≡ cond (eqb (t .done) 1) true (lowAfter x1 (countAfter x2 e (a .count)) (a .low1)))
     (λ s q l. refl) (λ s q l. refl) (λ s d. refl) (λ s m. refl) (λ s m. refl)
 
 pub turn-low2 : (x1 x2 : ℕ) (e next : Bool) (a : Access)
     → turn x1 x2 e next a .access .low2 ≡ cond (eqb (turn x1 x2 e next a .done) 2) true (lowAfter x2 (countAfter x2 e (a .count)) (a .low2))
-unfolding sends completes stops idles afterE
+unfolding sendsNext completes stops idles afterE
 turn-low2 x1 x2 e next a =
     by-ways x1 x2 e next a (λ t. t .access .low2 ≡ cond (eqb (t .done) 2) true (lowAfter x2 (countAfter x2 e (a .count)) (a .low2)))
     (λ s q l. refl) (λ s q l. refl) (λ s d. refl) (λ s m. refl) (λ s m. refl)
 
 -- D is 1 unless a bit is sent, and then it is the image's bit
 pub turn-d : (x1 x2 : ℕ) (e next : Bool) (a : Access) → turn x1 x2 e next a .d ≡ cond (sending (turn x1 x2 e next a .access)) next true
-unfolding sends completes stops idles afterE
+unfolding sendsNext completes stops idles afterE
 turn-d x1 x2 e next a =
     by-ways x1 x2 e next a (λ t. t .d ≡ cond (sending (t .access)) next true) (λ s q l. rw (lt-ltb 0 (a .sent + 1) (omega arith))) (λ s q l. refl)
     (λ s d. refl) (λ s m. rw (lt-ltb 0 (a .sent + 1) (omega arith))) (λ s m. rw s)
@@ -186,7 +186,7 @@ turn-d x1 x2 e next a =
 -- while it sends, the bit that left last is remembered for its echo
 pub turn-last : (x1 x2 : ℕ) (e next : Bool) (a : Access) → 0 < turn x1 x2 e next a .access .sent
     → turn x1 x2 e next a .access .last ≡ turn x1 x2 e next a .d
-unfolding sends completes stops idles afterE
+unfolding sendsNext completes stops idles afterE
 turn-last x1 x2 e next a =
     by-ways x1 x2 e next a (λ t. 0 < t .access .sent → t .access .last ≡ t .d) (λ s q l h. refl) (λ s q l h. refl) (λ s d h. refl)
     (λ s m h. refl) (λ s m h. absurd (omega arith))
@@ -243,7 +243,7 @@ start-needs x1 x2 e next a s =
     (λ m. let z : a .sent ≡ 1 = rw (idles-it x1 x2 e next a (s .0) m) at (s .1) in absurd (omega (arith, s .0)))
 
 pub start-happens : (x1 x2 : ℕ) (e next : Bool) (a : Access) → Ready x1 x2 e a → Starts x1 x2 e next a
-unfolding sends afterE
+unfolding sendsNext afterE
 start-happens x1 x2 e next a r = (r .free, rw (starts-it x1 x2 e next a (r .free) (ready-may x1 x2 e a r)) (omega (arith, r .free)))
 
 -- the thresholds: x1 and x2, and one more at the low level
@@ -313,14 +313,14 @@ stop x1 x2 e next a s q =
 
 -- a frame is held until it is completed
 pub held-kept : (x1 x2 : ℕ) (e next : Bool) (a : Access) → turn x1 x2 e next a .done ≡ 0 → turn x1 x2 e next a .access .held ≡ a .held
-unfolding sends completes stops idles afterE
+unfolding sendsNext completes stops idles afterE
 held-kept x1 x2 e next a =
     by-ways x1 x2 e next a (λ t. t .done ≡ 0 → t .access .held ≡ a .held) (λ s q l z. refl) (λ s q l z. sym z) (λ s d z. refl) (λ s m z. refl)
     (λ s m z. refl)
 
 pub length-kept : (x1 x2 : ℕ) (e next : Bool) (a : Access) → 0 < a .held → turn x1 x2 e next a .done ≡ 0
     → turn x1 x2 e next a .access .length ≡ a .length
-unfolding sends completes stops idles afterE
+unfolding sendsNext completes stops idles afterE
 length-kept x1 x2 e next a h =
     by-ways x1 x2 e next a (λ t. t .done ≡ 0 → t .access .length ≡ a .length) (λ s q l z. refl) (λ s q l z. absurd (omega arith)) (λ s d z. refl)
     (λ s m z. refl) (λ s m z. refl)
@@ -348,7 +348,7 @@ pub record LastEcho (e : Bool) (a : Access) (done : ℕ) : Type 0 where
 
 pub completion-only : (x1 x2 : ℕ) (e next : Bool) (a : Access) → (turn x1 x2 e next a .done ≡ 0 → ⊥)
     → LastEcho e a (turn x1 x2 e next a .done)
-unfolding sends completes stops idles afterE
+unfolding sendsNext completes stops idles afterE
 completion-only x1 x2 e next a =
     by-ways x1 x2 e next a (λ t. (t .done ≡ 0 → ⊥) → LastEcho e a (t .done)) (λ s q l h. absurd (h refl))
     (λ s q l h. record { was-sending = s; all-sent = l; echo = q; class = refl }) (λ s d h. absurd (h refl)) (λ s m h. absurd (h refl))
@@ -443,7 +443,7 @@ record Underway (bits past ahead : List Bool) (b : Bool) (a : Access) : Type 0 w
 
 module _ (x1 x2 : ℕ) (bits : List Bool) where
   goes : (past ahead : List Bool) (b c : Bool) (a : Access) → Underway bits past (c ∷ ahead) b a
-      → step x1 x2 bits b a ≡ sends c (afterE x1 x2 b a)
+      → step x1 x2 bits b a ≡ sendsNext c (afterE x1 x2 b a)
   unfolding step
   goes past ahead b c a u =
       goes-on x1 x2 b (getD bits (a .sent) true) a (omega (arith, u .sent, u .started)) (sym (u .last))
@@ -451,8 +451,8 @@ module _ (x1 x2 : ℕ) (bits : List Bool) where
       ∙ rw (u .whole, getD-at past c ahead true (a .sent) (sym (u .sent)))
 
   goes-under : (past ahead : List Bool) (b c : Bool) (a : Access) → Underway bits past (c ∷ ahead) b a
-      → Underway bits (past ++ (c ∷ [])) ahead c (sends c (afterE x1 x2 b a) .access)
-  unfolding sends afterE
+      → Underway bits (past ++ (c ∷ [])) ahead c (sendsNext c (afterE x1 x2 b a) .access)
+  unfolding sendsNext afterE
   goes-under past ahead b c a u =
       record {
         whole = u .whole ∙ sym (append-snoc past c ahead);
@@ -470,40 +470,40 @@ module _ (x1 x2 : ℕ) (bits : List Bool) where
 
   sent-rest : (ahead past : List Bool) (b : Bool) (a : Access) → Underway bits past ahead b a
       → sentBits x1 x2 bits (b ∷ ahead) a ≡ ahead ++ (true ∷ [])
-  unfolding sentBits sends completes
+  unfolding sentBits sendsNext completes
   sent-rest [] past b a u = rw (ends past b a u)
   sent-rest (c ∷ ahead) past b a u =
       rw (goes past ahead b c a u)
-      (ap (λ (l : List Bool). c ∷ l) (sent-rest ahead (past ++ (c ∷ [])) c (sends c (afterE x1 x2 b a) .access) (goes-under past ahead b c a u)))
+      (ap (λ (l : List Bool). c ∷ l) (sent-rest ahead (past ++ (c ∷ [])) c (sendsNext c (afterE x1 x2 b a) .access) (goes-under past ahead b c a u)))
 
   done-rest : (ahead past : List Bool) (b : Bool) (a : Access) → Underway bits past ahead b a
       → dones x1 x2 bits (b ∷ ahead) a ≡ replicate (length ahead) 0 ++ (a .held ∷ [])
-  unfolding dones sends completes afterE
+  unfolding dones sendsNext completes afterE
   done-rest [] past b a u = rw (ends past b a u)
   done-rest (c ∷ ahead) past b a u =
       rw (goes past ahead b c a u)
-      (ap (λ (l : List ℕ). 0 ∷ l) (done-rest ahead (past ++ (c ∷ [])) c (sends c (afterE x1 x2 b a) .access) (goes-under past ahead b c a u)))
+      (ap (λ (l : List ℕ). 0 ∷ l) (done-rest ahead (past ++ (c ∷ [])) c (sendsNext c (afterE x1 x2 b a) .access) (goes-under past ahead b c a u)))
 
   -- it ends as a completion of the frame that was held
   run-rest : (ahead past : List Bool) (b : Bool) (a : Access) → Underway bits past ahead b a
       → (c : Access) × (c .held ≡ a .held) × (run x1 x2 bits (b ∷ ahead) a ≡ completes c .access)
-  unfolding run sends afterE
+  unfolding run sendsNext afterE
   run-rest [] past b a u = (afterE x1 x2 b a, refl, ap (λ (t : Turn). t .access) (ends past b a u))
   run-rest (c ∷ ahead) past b a u =
-      let w = run-rest ahead (past ++ (c ∷ [])) c (sends c (afterE x1 x2 b a) .access) (goes-under past ahead b c a u) in
+      let w = run-rest ahead (past ++ (c ∷ [])) c (sendsNext c (afterE x1 x2 b a) .access) (goes-under past ahead b c a u) in
       (w .0, w .1, ap (λ (t : Turn). run x1 x2 bits (c ∷ ahead) (t .access)) (goes past ahead b c a u) ∙ w .2)
 
 -- the start of it
 starts-step : (x1 x2 : ℕ) (c : Bool) (ahead : List Bool) (e : Bool) (a : Access) → Ready x1 x2 e a
-    → step x1 x2 (c ∷ ahead) e a ≡ sends c (afterE x1 x2 e a)
+    → step x1 x2 (c ∷ ahead) e a ≡ sendsNext c (afterE x1 x2 e a)
 unfolding step
 starts-step x1 x2 c ahead e a r =
     starts-it x1 x2 e (getD (c ∷ ahead) (a .sent) true) a (r .free) (ready-may x1 x2 e a r)
-    ∙ ap (λ (n : ℕ). sends (getD (c ∷ ahead) n true) (afterE x1 x2 e a)) (r .free)
+    ∙ ap (λ (n : ℕ). sendsNext (getD (c ∷ ahead) n true) (afterE x1 x2 e a)) (r .free)
 
 starts-under : (x1 x2 : ℕ) (c : Bool) (ahead : List Bool) (e : Bool) (a : Access) → Ready x1 x2 e a → a .length ≡ length (c ∷ ahead)
-    → Underway (c ∷ ahead) (c ∷ []) ahead c (sends c (afterE x1 x2 e a) .access)
-unfolding sends afterE
+    → Underway (c ∷ ahead) (c ∷ []) ahead c (sendsNext c (afterE x1 x2 e a) .access)
+unfolding sendsNext afterE
 starts-under x1 x2 c ahead e a r l = record { whole = refl; started = omega arith; sent = omega (arith, r .free); size = l; last = refl }
 
 -- A terminal that is ready, and from then on hears exactly the bits that it has sent, sends its bits whole, completes nothing before,
@@ -517,21 +517,21 @@ pub record Whole (x1 x2 : ℕ) (bits : List Bool) (e : Bool) (a : Access) : Type
 
 pub sends-whole : (x1 x2 : ℕ) (bits : List Bool) (e : Bool) (a : Access) → 0 < length bits → a .length ≡ length bits → Ready x1 x2 e a
     → Whole x1 x2 bits e a
-unfolding sentBits dones run sends completes afterE
+unfolding sentBits dones run sendsNext completes afterE
 sends-whole x1 x2 [] e a n l r = absurd (omega arith)
 sends-whole x1 x2 (c ∷ ahead) e a n l r =
-    let u : Underway (c ∷ ahead) (c ∷ []) ahead c (sends c (afterE x1 x2 e a) .access) = starts-under x1 x2 c ahead e a r l in
-    let w = run-rest x1 x2 (c ∷ ahead) ahead (c ∷ []) c (sends c (afterE x1 x2 e a) .access) u in
+    let u : Underway (c ∷ ahead) (c ∷ []) ahead c (sendsNext c (afterE x1 x2 e a) .access) = starts-under x1 x2 c ahead e a r l in
+    let w = run-rest x1 x2 (c ∷ ahead) ahead (c ∷ []) c (sendsNext c (afterE x1 x2 e a) .access) u in
     let z : run x1 x2 (c ∷ ahead) (e ∷ c ∷ ahead) a ≡ completes (w .0) .access =
     ap (λ (t : Turn). run x1 x2 (c ∷ ahead) (c ∷ ahead) (t .access)) (starts-step x1 x2 c ahead e a r) ∙ w .2
     in
     record {
       sent-bits =
           rw (starts-step x1 x2 c ahead e a r)
-          (ap (λ (k : List Bool). c ∷ k) (sent-rest x1 x2 (c ∷ ahead) ahead (c ∷ []) c (sends c (afterE x1 x2 e a) .access) u));
+          (ap (λ (k : List Bool). c ∷ k) (sent-rest x1 x2 (c ∷ ahead) ahead (c ∷ []) c (sendsNext c (afterE x1 x2 e a) .access) u));
       completions =
           rw (starts-step x1 x2 c ahead e a r)
-          (ap (λ (k : List ℕ). 0 ∷ k) (done-rest x1 x2 (c ∷ ahead) ahead (c ∷ []) c (sends c (afterE x1 x2 e a) .access) u));
+          (ap (λ (k : List ℕ). 0 ∷ k) (done-rest x1 x2 (c ∷ ahead) ahead (c ∷ []) c (sendsNext c (afterE x1 x2 e a) .access) u));
       not-held = ap (λ (c : Access). c .held) z;
       low1 = λ h. ap (λ (c : Access). c .low1) z ∙ rw (eq-eqb (w .0 .held) 1 (w .1 ∙ h));
       low2 = λ h. ap (λ (c : Access). c .low2) z ∙ rw (eq-eqb (w .0 .held) 2 (w .1 ∙ h));

@@ -1,8 +1,3 @@
--- Theorems about the definitions: ImageLaws, PrefixLaws, ReadingLaws, AccessLaws, RangesKept; and lemmas.
-pub mod ByCases
-pub mod OnesLaws
-pub mod ImageLaws
-pub mod ReadingLaws
-pub mod PrefixLaws
+-- Theorems about a terminal's access: AccessLaws, RangesKept.
 pub mod AccessLaws
 pub mod RangesKept

@@ -5,9 +5,9 @@ use Prim.Native.Nat.{ℕ, _+_, _≤_, _<_}
 use native.Mathlib.Omega.{arith}
 use lib.Dec.{ltb, leb, eqb}
 use borrow.Author.Tests.{lt-ltb, le-ltb, ltb-true, ltb-false, le-leb, leb-false}
-use Rattle.dchannel.proofs.ByCases.{by-test, both, neither, clash}
-use Rattle.dchannel.specs.Bits.{same}
-use Rattle.dchannel.specs.Access.{fresh, entered, countAfter, afterE, sending, mayStart, sends, stops, completes, idles, turn}
+use Rattle.cases.proofs.ByCases.{by-test, both, neither, clash}
+use Rattle.hdlc.specs.Bits.{sameBit}
+use Rattle.dchannel.specs.Access.{fresh, entered, countAfter, afterE, sending, mayStart, sendsNext, stops, completes, idles, turn}
 use Rattle.dchannel.specs.Handing.{classNumber, isImageLength, takenUp, handed, left}
 use Rattle.dchannel.specs.Ranges.{heldInRange, lastInRange, accessInRange}
 use Rattle.dchannel.specs.declared.access.Access.{Access}
@@ -88,8 +88,8 @@ module _ (x2 : ℕ) where
     taken-fits k n e l i =
         record { count-fits = f .count-fits; sent-fits = omega arith; held-fits = simp (e, le-leb k 2 l, i); last-fits = refl }
 
-    sends-fits : (next : Bool) → a .sent < a .length → AccessFits x2 (sends next a .access)
-    unfolding sends heldInRange lastInRange
+    sends-fits : (next : Bool) → a .sent < a .length → AccessFits x2 (sendsNext next a .access)
+    unfolding sendsNext heldInRange lastInRange
     sends-fits true l = record { count-fits = f .count-fits; sent-fits = omega arith; held-fits = f .held-fits; last-fits = refl }
     sends-fits false l =
         record { count-fits = f .count-fits; sent-fits = omega arith; held-fits = f .held-fits; last-fits = lt-ltb 0 (a .sent + 1) (omega arith) }
@@ -133,11 +133,11 @@ module _ (x2 : ℕ) where
         let b : Access = afterE x1 x2 e a in
         let f : AccessFits x2 b = heard-fits a (access-fits x2 a h) x1 e in
         by-test (sending a)
-        (λ s. by-test (same e (a .last))
+        (λ s. by-test (sameBit e (a .last))
         (λ t. by-test (leb (a .length) (a .sent))
         (λ u. simp (s, t, u) (fits-access x2 (completes b .access) (completes-fits b f)))
-        (λ u. simp (s, t, u) (fits-access x2 (sends next b .access) (sends-fits b f next (heard-room x1 e (leb-false (a .length) (a .sent) u))))))
+        (λ u. simp (s, t, u) (fits-access x2 (sendsNext next b .access) (sends-fits b f next (heard-room x1 e (leb-false (a .length) (a .sent) u))))))
         (λ t. simp (s, t) (fits-access x2 (stops b .access) (stops-fits b f))))
         (λ s. by-test (mayStart x1 x2 b)
-        (λ t. simp (s, t) (fits-access x2 (sends next b .access) (sends-fits b f next (start-room x1 x2 b (f .held-fits) t (heard-idle x1 e (ltb-false 0 (a .sent) s))))))
+        (λ t. simp (s, t) (fits-access x2 (sendsNext next b .access) (sends-fits b f next (start-room x1 x2 b (f .held-fits) t (heard-idle x1 e (ltb-false 0 (a .sent) s))))))
         (λ t. simp (s, t) (fits-access x2 b f)))

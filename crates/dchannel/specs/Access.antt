@@ -3,7 +3,7 @@
 use mathlib.Core.Bool.{Bool, true, false, cond}
 use Prim.Native.Nat.{ℕ, _+_}
 use lib.Dec.{ltb, leb, eqb}
-use Rattle.dchannel.specs.Bits.{same}
+use Rattle.hdlc.specs.Bits.{sameBit}
 use Rattle.dchannel.specs.declared.access.Access.{Access}
 use Rattle.dchannel.specs.declared.access.Turn.{Turn}
 
@@ -61,8 +61,8 @@ unfoldable pub mayStart : ℕ → ℕ → Access → Bool
 mayStart x1 x2 a = cond (eqb (a .held) 0) false (leb (threshold x1 x2 (a .held) (lowOf (a .held) a)) (a .count))
 
 -- the next bit leaves
-unfoldable pub sends : Bool → Access → Turn
-sends next a =
+unfoldable pub sendsNext : Bool → Access → Turn
+sendsNext next a =
     record {
       access = record { length = a .length; sent = a .sent + 1; count = a .count; held = a .held; low1 = a .low1; low2 = a .low2; last = next };
       d = next;
@@ -105,5 +105,5 @@ idles a = record { access = a; d = true; done = 0 }
 unfoldable pub turn : ℕ → ℕ → Bool → Bool → Access → Turn
 turn x1 x2 e next a =
     cond (sending a)
-    (cond (same e (a .last)) (cond (leb (a .length) (a .sent)) (completes (afterE x1 x2 e a)) (sends next (afterE x1 x2 e a))) (stops (afterE x1 x2 e a)))
-    (cond (mayStart x1 x2 (afterE x1 x2 e a)) (sends next (afterE x1 x2 e a)) (idles (afterE x1 x2 e a)))
+    (cond (sameBit e (a .last)) (cond (leb (a .length) (a .sent)) (completes (afterE x1 x2 e a)) (sendsNext next (afterE x1 x2 e a))) (stops (afterE x1 x2 e a)))
+    (cond (mayStart x1 x2 (afterE x1 x2 e a)) (sendsNext next (afterE x1 x2 e a)) (idles (afterE x1 x2 e a)))

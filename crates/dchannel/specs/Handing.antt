@@ -3,8 +3,8 @@
 use mathlib.Core.Bool.{Bool, true, false, cond}
 use Prim.Native.Nat.{ℕ}
 use lib.Dec.{ltb, leb, eqb}
-use Rattle.dchannel.specs.Image.{longestImage}
-use Rattle.dchannel.specs.Access.{fresh, mayStart, sends, stops, completes, idles}
+use Rattle.hdlc.specs.Image.{longestImage}
+use Rattle.dchannel.specs.Access.{fresh, mayStart, sendsNext, stops, completes, idles}
 use Rattle.dchannel.specs.declared.access.Access.{Access}
 use Rattle.dchannel.specs.declared.access.Class.{Class}
 use Rattle.dchannel.specs.declared.access.Class.the-variants.{One, Two}
@@ -45,8 +45,8 @@ left a = record { access = fresh; dropped = a .held }
 
 -- a sending under way, after its E: `agrees` says whether the echo is the bit that left last
 unfoldable pub goesOn : Bool → Bool → Access → Turn
-goesOn agrees next a = cond agrees (cond (leb (a .length) (a .sent)) (completes a) (sends next a)) (stops a)
+goesOn agrees next a = cond agrees (cond (leb (a .length) (a .sent)) (completes a) (sendsNext next a)) (stops a)
 
 -- no sending under way, after the E
 unfoldable pub tries : ℕ → ℕ → Bool → Access → Turn
-tries x1 x2 next a = cond (mayStart x1 x2 a) (sends next a) (idles a)
+tries x1 x2 next a = cond (mayStart x1 x2 a) (sendsNext next a) (idles a)

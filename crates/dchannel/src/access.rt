@@ -3,8 +3,8 @@ ghost use mathlib.Core.Path.{_≡_};
 ghost use mathlib.Core.Bool.{true, cond};
 ghost use lib.Dec.{eqb};
 ghost use Prim.Native.Nat.{_<_};
-ghost use Rattle.dchannel.specs.Bits.{same};
-ghost use Rattle.dchannel.specs.Access.{normal1, normal2, fresh, entered, countAfter, lowAfter, afterE, threshold, lowOf, mayStart, sends, stops, completes, turn};
+ghost use Rattle.hdlc.specs.Bits.{sameBit};
+ghost use Rattle.dchannel.specs.Access.{normal1, normal2, fresh, entered, countAfter, lowAfter, afterE, threshold, lowOf, mayStart, sendsNext, stops, completes, turn};
 ghost use Rattle.dchannel.specs.Handing.{goesOn, tries};
 ghost use Rattle.dchannel.specs.Handing.{classNumber, isImageLength, takenUp, handed, left};
 ghost use Rattle.dchannel.specs.Ranges.{heldInRange, lastInRange, accessInRange};
@@ -83,7 +83,7 @@ fn is_image_length(length: u16) -> bool
 
 // Whether two bits are equal.
 fn same_bit(a: bool, b: bool) -> bool
-    ensures { λ r. ⌜ r ≡ same a b ⌝ }
+    ensures { λ r. ⌜ r ≡ sameBit a b ⌝ }
 {
     if a { b } else { !b }
 }
@@ -281,7 +281,7 @@ impl Access {
     // The next bit leaves.
     fn sends(self, next: bool) -> Turn
         requires { ⌜ self .sent < 65535 ⌝ }
-        ensures { λ r. ⌜ r ≡ sends next self ⌝ }
+        ensures { λ r. ⌜ r ≡ sendsNext next self ⌝ }
     {
         Turn {
             access: Access {

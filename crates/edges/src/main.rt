@@ -2,9 +2,9 @@
 // specs/Edges.antt.
 use dchannel::access::Access;
 use dchannel::access::Class;
-use hdlc::image::Imaged;
-use hdlc::image::image;
 use libc::STDOUT_FILENO;
+use packing::image::Imaged;
+use packing::image::image;
 
 fn say(text: &[u8]) {
     io::write_all(STDOUT_FILENO, text);

@@ -1,10 +1,5 @@
--- The reader's counters say what the reader over raw bits says (Counted), the packed octets are the image (Drawing), every method keeps
--- the ranges (RangesKept); and lemmas.
-pub mod Octets
-pub mod RawBits
-pub mod Held
-pub mod Counted
-pub mod RangesKept
-pub mod Drawing
-pub mod Returns
-pub mod Draw
+-- Theorems about images (ImageLaws, PrefixLaws) and about the reader over raw bits (ReadingLaws); and lemmas.
+pub mod OnesLaws
+pub mod ImageLaws
+pub mod ReadingLaws
+pub mod PrefixLaws

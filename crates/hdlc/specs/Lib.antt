@@ -1,5 +1,5 @@
--- What the code carries of an image and of the reader: counters, and octets in lent buffers.
-pub mod Counters
-pub mod ReaderRange
-pub mod Packing
-pub mod Pen
+-- Frames on the D channel as lists of bits (document 01, "D access (6.1)"): the image of a body, and the network end's reader over raw bits.
+pub mod Bits
+pub mod Ones
+pub mod Image
+pub mod Reading

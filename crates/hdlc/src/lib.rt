@@ -1,4 +1,1 @@
-// Frames on the D channel, octet by octet: a body's image packed into a buffer, and the network end's reader.
-mod bits;
-pub mod image;
-pub mod reader;
+// Frames on the D channel as lists of bits: definitions and laws. No code.

@@ -1,0 +1,2 @@
+-- Lemmas about tests, for every crate.
+pub mod ByCases

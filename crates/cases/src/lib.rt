@@ -1,0 +1,1 @@
+// Lemmas about tests that the proofs of every crate cite. No code.
