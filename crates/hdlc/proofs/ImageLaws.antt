@@ -1,18 +1,18 @@
 -- Laws of images and of the bits of octets (document 01, "D access (6.1)").
-use mathlib.Core.Bool.{Bool, true, false}
+use mathlib.Core.Bool.{Bool, true, false, cond}
 use mathlib.Core.Path.{_≡_, refl, ap}
 use mathlib.Core.List.{List, [], _∷_, _++_, append-assoc}
 use Prim.Native.Nat.{ℕ, zero, suc, _+_, _-_, _*_, _/_, _%_, _^_, _≤_, _<_}
 use native.Mathlib.Omega.{arith}
-use lib.Dec.{eqb}
+use lib.Dec.{eqb, leb, ltb}
 use lib.ListN.{length, getD, take, drop, replicate, length-append, length-replicate}
 use lib.Seq.{getD-at}
-use borrow.Author.Tests.{eqb-true, eqb-false, eq-eqb, ne-eqb}
+use borrow.Author.Tests.{eqb-true, eqb-false, eq-eqb, ne-eqb, ltb-true, lt-ltb, leb-true, le-leb}
 use Rattle.hdlc.specs.Bits.{lowBits, bodyBits, numberLowFirst, octets}
-use Rattle.hdlc.specs.Image.{flag, stuff, image, IsBody, longestBody, longestImage}
+use Rattle.hdlc.specs.Image.{flag, stuff, image, IsBody, longestBody, longestImage, allOctets, isBody}
 use Rattle.hdlc.specs.Reading.{unstuff}
 use Rattle.hdlc.specs.Ones.{endingOnes, Runs}
-use Rattle.cases.proofs.ByCases.{by-test}
+use Rattle.cases.proofs.ByCases.{by-test, both}
 use Rattle.hdlc.proofs.OnesLaws.{runs-append, runs-more, runs-take}
 
 -- "low-order bit first": reading the first n bits of a number below 2 ^ n gives it back
@@ -152,3 +152,31 @@ longest n e =
 -- "the longest has 2,569 bits": 266 octets 255
 pub image-longest : length (image (replicate longestBody 255)) ≡ longestImage
 image-longest = longest longestBody refl
+
+-- ---- the test of a body, both ways
+
+all-octets : (os : List ℕ) → allOctets os ≡ true → (i : ℕ) → getD os i 0 < 256
+unfolding allOctets
+all-octets [] h i = omega arith
+all-octets (o ∷ os) h zero = ltb-true o 256 (both (ltb o 256) (allOctets os) h .0)
+all-octets (o ∷ os) h (suc i) = all-octets os (both (ltb o 256) (allOctets os) h .1) i
+
+octets-all : (os : List ℕ) → ((i : ℕ) → getD os i 0 < 256) → allOctets os ≡ true
+unfolding allOctets
+octets-all [] h = refl
+octets-all (o ∷ os) h = rw (lt-ltb o 256 (h 0)) (octets-all os (λ i. h (suc i)))
+
+pub is-body : (body : List ℕ) → isBody body ≡ true → IsBody body
+unfolding isBody
+is-body body h =
+    let some = both (leb 1 (length body)) (cond (leb (length body) longestBody) (allOctets body) false) h in
+    let most = both (leb (length body) longestBody) (allOctets body) (some .1) in
+    record {
+      some-octet = leb-true 1 (length body) (some .0);
+      at-most = leb-true (length body) longestBody (most .0);
+      octet = all-octets body (most .1);
+    }
+
+pub body-is : (body : List ℕ) → IsBody body → isBody body ≡ true
+unfolding isBody
+body-is body b = rw (le-leb 1 (length body) (b .some-octet), le-leb (length body) longestBody (b .at-most)) (octets-all body (b .octet))

@@ -2,7 +2,7 @@
 use mathlib.Core.Bool.{Bool, true, false, cond}
 use mathlib.Core.List.{List, [], _∷_, _++_}
 use Prim.Native.Nat.{ℕ, suc, _≤_, _<_}
-use lib.Dec.{eqb}
+use lib.Dec.{eqb, leb, ltb}
 use lib.ListN.{length, getD}
 use Rattle.hdlc.specs.Bits.{bodyBits}
 
@@ -33,3 +33,11 @@ pub record IsBody (body : List ℕ) : Type 0 where
   pub some-octet : 1 ≤ length body
   pub at-most : length body ≤ longestBody
   pub octet : (i : ℕ) → getD body i 0 < 256
+
+-- the same as a test (`is-body`, `body-is` of ImageLaws)
+unfoldable pub allOctets : List ℕ → Bool
+allOctets [] = true
+allOctets (o ∷ os) = cond (ltb o 256) (allOctets os) false
+
+unfoldable pub isBody : List ℕ → Bool
+isBody body = cond (leb 1 (length body)) (cond (leb (length body) longestBody) (allOctets body) false) false
