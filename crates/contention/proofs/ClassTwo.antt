@@ -1,5 +1,5 @@
--- An extra claim: with at most F class 1 frames held or taken in the stretch, a class 2 frame that waits at the normal level is
--- completed within (n + 1 + F) times (L + 10) D opportunities, with x2 for 10.
+-- The class 2 wait (document 02, 2.11): the class 1 frames held, or taken in the stretch, are the only ones that go before besides those
+-- that class 1 waits for.
 use mathlib.Core.Bool.{Bool, true, cond, _&&_}
 use mathlib.Core.Path.{_≡_, refl, sym, ap, _∙_}
 use mathlib.Core.List.{List, [], _∷_}
@@ -13,12 +13,12 @@ use Rattle.dchannel.specs.Access.{entered}
 use Rattle.dchannel.specs.Handing.{takenUp}
 use Rattle.contention.specs.Channel.{Station, Channel, Action, freshStation, mayHold, holding, entering, change, turnAt, hears, sendsD, step}
 use Rattle.contention.specs.Channel.Action.{hand, enter, leave, clear, opportunity}
-use Rattle.contention.specs.Stretch.{Stretch, opportunities, station, Completes}
-use Rattle.contention.specs.Claims.{at, start, holdsOne, onesHeld, onesTaken, WaitEndsClassTwo}
+use Rattle.contention.specs.Stretch.{Stretch, opportunities, station, Completes, howMany}
+use Rattle.contention.specs.Claims.{at}
+use Rattle.contention.specs.ClassTwo.{holdsOne, onesHeld, onesTaken, ClassTwoFrom}
 use Rattle.contention.proofs.Terminal.{Outcome, outcome, completed, went-on, stopped, started, idled, outside, level}
-use Rattle.contention.proofs.InvariantKept.{length-allHear, station-hears, entering-active, entering-outside}
-use Rattle.contention.proofs.Trace.{counted-le, counted-lt}
-use Rattle.contention.specs.Stretch.{counted}
+use Rattle.contention.proofs.InvariantKept.{length-hears, station-hears, entering-active, entering-outside}
+use Rattle.contention.proofs.Trace.{howMany-le, howMany-lt}
 use Rattle.contention.proofs.Waiting.{completion}
 use Rattle.contention.proofs.Wait.{wait-ends-within}
 
@@ -27,8 +27,8 @@ use Rattle.contention.proofs.Wait.{wait-ends-within}
 module _ (f : Station → Station) (d : ℕ) where
   ones-change : (i : ℕ) (ss : List Station)
       → cond {A = ℕ} (holdsOne (f (getD ss i freshStation))) 1 0 ≤ d + cond (holdsOne (getD ss i freshStation)) 1 0
-      → counted holdsOne (change f i ss) ≤ d + counted holdsOne ss
-  unfolding counted change
+      → howMany holdsOne (change f i ss) ≤ d + howMany holdsOne ss
+  unfolding howMany change
   ones-change i [] h = omega arith
   ones-change zero (s ∷ ss) h = omega arith
   ones-change (suc i) (s ∷ ss) h = omega (arith, ones-change i ss h)
@@ -74,17 +74,17 @@ module _ (x1 x2 : ℕ) (c : Channel) where
         (eqb-true _ 1 (rw (station-hears x1 x2 e bit on c i) at h)))
 
     ones-hear : onesHeld (step x1 x2 c (opportunity e bit on)) ≤ onesHeld c
-    unfolding onesHeld step station
+    unfolding onesHeld station
     ones-hear =
-        counted-le holdsOne holdsOne (step x1 x2 c (opportunity e bit on) .stations) (c .stations) (sym (length-allHear x1 x2 e (c .stations))) one-before
+        howMany-le holdsOne holdsOne (step x1 x2 c (opportunity e bit on) .stations) (c .stations) (sym (length-hears x1 x2 e bit on c)) one-before
 
     -- a completed one is one less
     ones-less : (g : ℕ) → station g c .active ≡ true → turnAt x1 x2 e (station g c) .done ≡ 1
         → suc (onesHeld (step x1 x2 c (opportunity e bit on))) ≤ onesHeld c
-    unfolding onesHeld step station
+    unfolding onesHeld station
     ones-less g act q =
         let r = completion x1 x2 1 e (station g c) (hears x1 x2 e (station g c)) (sendsD x1 x2 e (station g c)) (turnAt x1 x2 e (station g c) .done) (omega arith) act q (outcome x1 x2 e (station g c)) in
-        counted-lt holdsOne holdsOne (step x1 x2 c (opportunity e bit on) .stations) (c .stations) (sym (length-allHear x1 x2 e (c .stations))) one-before refl g
+        howMany-lt holdsOne holdsOne (step x1 x2 c (opportunity e bit on) .stations) (c .stations) (sym (length-hears x1 x2 e bit on c)) one-before refl g
         (rw (station-hears x1 x2 e bit on c g) (ne-eqb (hears x1 x2 e (station g c) .access .held) 1 (λ z. omega (arith, r .held-now))))
         (eq-eqb (station g c .access .held) 1 (sym (r .done-now) ∙ q))
 
@@ -144,13 +144,11 @@ module _ (x1 x2 : ℕ) where
       )
   ones-spent (opportunity e bit on ∷ more) c (suc t) g st h d = ones-spent more (step x1 x2 c (opportunity e bit on)) t g (st .1) (omega arith) d
 
-module _ (x1 x2 terminals : ℕ) (before during : List Action) (h1 : 8 ≤ x1) (h2 : x1 + 2 ≤ x2) where
-  pub wait-ends-class-two : Stretch x1 x2 (start x1 x2 terminals before during) during → WaitEndsClassTwo x1 x2 terminals before during
-  unfolding level
-  wait-ends-class-two st n L F i p actives images ones w len =
-      let c = start x1 x2 terminals before during in
-      wait-ends-within x1 x2 terminals before during h1 h2 st 2 i (omega arith) (omega arith) n L actives images
-      (λ t. getD (onesFrom x1 x2 c during) t 0)
-      (λ t h. ones-fall x1 x2 during c t st h)
-      (λ t g h d _. ones-spent x1 x2 during c t g st h d)
-      F p (omega (arith, ones-most x1 x2 during c p st)) w len
+pub wait-ends-class-two : ClassTwoFrom
+unfolding level
+wait-ends-class-two x1 x2 c during h1 h2 start st n L ones i p actives images most w len =
+    wait-ends-within x1 x2 c during h1 h2 start st 2 i (omega arith) (omega arith) n L actives images
+    (λ t. getD (onesFrom x1 x2 c during) t 0)
+    (λ t h. ones-fall x1 x2 during c t st h)
+    (λ t g h d _. ones-spent x1 x2 during c t g st h d)
+    ones p (omega (arith, ones-most x1 x2 during c p st)) w len

@@ -5,17 +5,24 @@ use Prim.Native.Nat.{ℕ, zero, suc}
 use lib.ListN.{length}
 use Rattle.contention.specs.Channel.{Channel, Action, step}
 use Rattle.contention.specs.Stretch.{Stretch, undisturbed, opportunities}
-use Rattle.contention.specs.Claims.{Demand3}
+use Rattle.contention.specs.Claims.{start, Demand3From, Demand3}
+use Rattle.contention.proofs.InvariantKept.{invariant-run}
 use Rattle.contention.proofs.Level.{no-rival-twice}
 use Rattle.contention.proofs.Wait.{wait-ends}
 use Rattle.contention.proofs.HeardInOrder.{heard-in-order}
 
+-- from any channel that satisfies the invariant
+pub demand3-from : Demand3From
+demand3-from x1 x2 c during h1 h2 start stretch =
+    record {
+      no-rival-twice = no-rival-twice x1 x2 c during h1 h2 start stretch;
+      wait-ends = wait-ends x1 x2 c during h1 h2 start stretch;
+      heard-in-order = heard-in-order x1 x2 c during h1 h2 start stretch;
+    }
+
+-- after any list of actions from a fresh channel
 pub demand3 : Demand3
-demand3 x1 x2 terminals before during h1 h2 stretch = (
-  no-rival-twice x1 x2 terminals before during h1 h2 stretch,
-  wait-ends x1 x2 terminals before during h1 h2 stretch,
-  heard-in-order x1 x2 terminals before during h1 h2 stretch,
-)
+demand3 x1 x2 terminals before during h1 h2 = demand3-from x1 x2 (start x1 x2 terminals before) during h1 h2 (invariant-run x1 x2 h1 h2 terminals before)
 
 -- Stretches of every length follow every channel, so what the claims assume can be met.
 module _ (x1 x2 : ℕ) where

@@ -1,38 +1,20 @@
 -- From one D opportunity of a stretch to the next, with the reader: between them nothing is read.
-use mathlib.Core.Bool.{true, false≢true}
+use mathlib.Core.Bool.{true}
 use mathlib.Core.Path.{_≡_, refl, _∙_}
 use mathlib.Core.List.{List, [], _∷_}
 use Prim.Native.Nat.{ℕ, zero, suc, _+_, _≤_, _<_}
 use native.Mathlib.Omega.{arith}
-use lib.Dec.{leb, ltb}
-use lib.ListN.{length, getD}
-use borrow.Author.Tests.{ltb-true, leb-true}
-use Rattle.hdlc.specs.Image.{image, IsBody, longestBody}
+use lib.ListN.{length}
+use Rattle.hdlc.specs.Image.{image, IsBody}
+use Rattle.hdlc.proofs.ImageLaws.{is-body}
 use Rattle.cases.proofs.ByCases.{by-test}
-use Rattle.contention.specs.Channel.{Station, Channel, Action, allOctets, isBody, step}
+use Rattle.contention.specs.Channel.{Station, Channel, Action, step}
 use Rattle.contention.specs.Channel.Action.{hand, enter, leave, clear, opportunity}
-use Rattle.contention.specs.Stretch.{Stretch, opportunities}
+use Rattle.contention.specs.Stretch.{Stretch, opportunities, onward}
 use Rattle.contention.specs.Claims.{at}
 use Rattle.contention.specs.Invariant.{Sound, Invariant}
 use Rattle.contention.proofs.InvariantKept.{Quiet, sending-holds, invariant-step}
 use Rattle.contention.proofs.Trace.{opportunity-invariant, next-opportunity}
-use Rattle.contention.specs.Stretch.{onward}
-
--- the test of a body
-all-octets : (os : List ℕ) → allOctets os ≡ true → (i : ℕ) → getD os i 0 < 256
-unfolding allOctets
-all-octets [] h i = omega arith
-all-octets (o ∷ os) h zero = by-test (ltb o 256) (λ e. ltb-true o 256 e) (λ e. absurd (false≢true (rw e at h)))
-all-octets (o ∷ os) h (suc i) = by-test (ltb o 256) (λ e. all-octets os (rw e at h) i) (λ e. absurd (false≢true (rw e at h)))
-
-pub is-body : (body : List ℕ) → isBody body ≡ true → IsBody body
-unfolding isBody
-is-body body h =
-    by-test (leb 1 (length body))
-    (λ e. by-test (leb (length body) longestBody)
-    (λ f. record { some-octet = leb-true 1 (length body) e; at-most = leb-true (length body) longestBody f; octet = all-octets body (simp (e, f) at h) })
-    (λ f. absurd (false≢true (simp (e, f) at h))))
-    (λ e. absurd (false≢true (rw e at h)))
 
 -- what a terminal that sends has: a frame, with its image's length
 pub record Frame (s : Station) : Type 0 where

@@ -5,18 +5,18 @@ use mathlib.Core.List.{List, [], _∷_}
 use Prim.Native.Nat.{ℕ, zero, suc, _+_, _≤_, _<_}
 use native.Mathlib.Omega.{arith}
 use lib.Dec.{eqb, leb}
-use lib.ListN.{length, getD, take}
+use lib.ListN.{length, getD, take, replicate, length-map, List·getD-map}
 use lib.Seq.{take-suc}
 use borrow.Author.Tests.{eqb-true, eqb-false, leb-true, leb-false}
 use Rattle.dchannel.specs.declared.access.Access.{Access}
 use Rattle.hdlc.specs.Ones.{endingOnes}
 use Rattle.cases.proofs.ByCases.{by-test}
 use Rattle.hdlc.proofs.OnesLaws.{ending-one}
-use Rattle.hdlc.specs.Image.{image}
+use Rattle.hdlc.specs.Image.{image, isBody}
 use Rattle.hdlc.proofs.ImageLaws.{length-image, image-starts, image-endingOnes}
 use Rattle.dchannel.specs.Access.{entered, countAfter, lowOf}
 use Rattle.dchannel.specs.Handing.{takenUp, left}
-use Rattle.contention.specs.Channel.{Station, Channel, Action, freshStation, freshStations, freshChannel, change, allHear, mayHold, isBody, holding, entering, leaving, nextBit, turnAt, hears, sendsD, step, run}
+use Rattle.contention.specs.Channel.{Station, Channel, Action, freshStation, freshChannel, change, mayHold, holding, entering, leaving, nextBit, turnAt, hears, sendsD, step, run}
 use Rattle.contention.specs.Channel.Action.{hand, enter, leave, clear, opportunity}
 use Rattle.contention.specs.Stretch.{station}
 use Rattle.contention.specs.Invariant.{Sound, Invariant}
@@ -39,22 +39,15 @@ length-change f zero (s ∷ ss) = refl
 length-change f (suc i) (s ∷ ss) = ap suc (length-change f i ss)
 
 module _ (x1 x2 : ℕ) where
-  pub hear-each : (e : Bool) (ss : List Station) (j : ℕ) → getD (allHear x1 x2 e ss) j freshStation ≡ hears x1 x2 e (getD ss j freshStation)
-  unfolding allHear hears
-  hear-each e [] j = refl
-  hear-each e (s ∷ ss) zero = refl
-  hear-each e (s ∷ ss) (suc j) = hear-each e ss j
-
-  pub length-allHear : (e : Bool) (ss : List Station) → length (allHear x1 x2 e ss) ≡ length ss
-  unfolding allHear
-  length-allHear e [] = refl
-  length-allHear e (s ∷ ss) = ap suc (length-allHear e ss)
-
   -- every terminal hears the E of an opportunity
   pub station-hears : (e bit on : Bool) (c : Channel) (j : ℕ)
       → station j (step x1 x2 c (opportunity e bit on)) ≡ hears x1 x2 e (station j c)
-  unfolding station step
-  station-hears e bit on c j = hear-each e (c .stations) j
+  unfolding station step hears
+  station-hears e bit on c j = List·getD-map (hears x1 x2 e) (c .stations) j freshStation
+
+  pub length-hears : (e bit on : Bool) (c : Channel) → length (step x1 x2 c (opportunity e bit on) .stations) ≡ length (c .stations)
+  unfolding step
+  length-hears e bit on c = length-map (c .stations) (hears x1 x2 e)
 
 -- ---- one terminal stays sound
 
@@ -492,15 +485,17 @@ module _ (x1 x2 : ℕ) (h1 : 8 ≤ x1) (h2 : x1 + 2 ≤ x2) (c : Channel) (inv :
             rw (is i, is j) (held-hears i j n z (sender x1 x2 e (station i c) (inv .sound i) (omega arith)));
       }
 
-fresh-station : (n j : ℕ) → getD (freshStations n) j freshStation ≡ freshStation
-unfolding freshStations
-fresh-station zero j = refl
-fresh-station (suc n) zero = refl
-fresh-station (suc n) (suc j) = fresh-station n j
+all-fresh : (n j : ℕ) → getD (replicate n freshStation) j freshStation ≡ freshStation
+all-fresh zero j = refl
+all-fresh (suc n) zero = refl
+all-fresh (suc n) (suc j) = all-fresh n j
+
+pub fresh-station : (n j : ℕ) → station j (freshChannel n) ≡ freshStation
+unfolding station freshChannel
+fresh-station n j = all-fresh n j
 
 -- The invariant holds of a fresh channel ..
 pub invariant-fresh : (x2 n : ℕ) → Invariant x2 (freshChannel n)
-unfolding station freshChannel
 invariant-fresh x2 n =
     record {
       sound = λ i. rw (fresh-station n i) (sound-fresh x2);

@@ -10,7 +10,7 @@ use Rattle.cases.proofs.ByCases.{by-test}
 use Rattle.dchannel.specs.Access.{lowOf}
 use Rattle.contention.specs.Channel.{Station, Channel, Action, hears}
 use Rattle.contention.specs.Stretch.{Stretch, station, Waits, Completes}
-use Rattle.contention.specs.Claims.{at, start, NoRivalTwice}
+use Rattle.contention.specs.Claims.{at, NoRivalTwice}
 use Rattle.contention.specs.Invariant.{Invariant}
 use Rattle.contention.proofs.Terminal.{active-after, level, level-least, threshold-low, threshold-of, low-stays, completed-low}
 use Rattle.contention.proofs.InvariantKept.{going, starting, Quiet, count-up}
@@ -124,25 +124,25 @@ module _ (x1 x2 k i j : ℕ) (k1 : 1 ≤ k) where
       }
 
 -- "no rival completes two frames of one class while an activated terminal waits at that class's normal level"
-module _ (x1 x2 terminals : ℕ) (before during : List Action) (h1 : 8 ≤ x1) (h2 : x1 + 2 ≤ x2) where
-  pub no-rival-twice : Stretch x1 x2 (start x1 x2 terminals before during) during → NoRivalTwice x1 x2 terminals before during
-  no-rival-twice st i j k p q ne k1 pq len done-p done-q waits open-frame =
+module _ (x1 x2 : ℕ) (c : Channel) (during : List Action) (h1 : 8 ≤ x1) (h2 : x1 + 2 ≤ x2) (start : Invariant x2 c) (st : Stretch x1 x2 c during) where
+  pub no-rival-twice : NoRivalTwice x1 x2 c during
+  no-rival-twice i j k p q ne k1 pq len done-p done-q waits open-frame =
       let r = completed-at x1 x2 (o q) (inv q len) k j k1 done-q in
       ahead q pq (omega arith) .rival-barred (r .sending) (sym (r .done-now) ∙ done-q .done)
     where
       o : ℕ → Channel
-      o t = opp x1 x2 terminals before during h1 h2 st t
+      o t = opp x1 x2 c during h1 h2 start st t
 
-      inv : (t : ℕ) → t < many x1 x2 terminals before during h1 h2 st → Invariant x2 (o t)
-      inv = invariant-at x1 x2 terminals before during h1 h2 st
+      inv : (t : ℕ) → t < many x1 x2 c during h1 h2 start st → Invariant x2 (o t)
+      inv = invariant-at x1 x2 c during h1 h2 start st
 
-      next-inv : (t : ℕ) → t < many x1 x2 terminals before during h1 h2 st → Invariant x2 (onward x1 x2 (o t))
-      next-inv = invariant-past x1 x2 terminals before during h1 h2 st
+      next-inv : (t : ℕ) → t < many x1 x2 c during h1 h2 start st → Invariant x2 (onward x1 x2 (o t))
+      next-inv = invariant-past x1 x2 c during h1 h2 start st
 
-      later-on : (t : ℕ) → suc t < many x1 x2 terminals before during h1 h2 st → Ahead x1 x2 k i j (onward x1 x2 (o t)) → Ahead x1 x2 k i j (o (suc t))
+      later-on : (t : ℕ) → suc t < many x1 x2 c during h1 h2 start st → Ahead x1 x2 k i j (onward x1 x2 (o t)) → Ahead x1 x2 k i j (o (suc t))
       later-on t h a =
           ahead-quiet x1 x2 k i j k1 (onward x1 x2 (o t)) (o (suc t)) (next-inv t (omega arith))
-          (quiet-at x1 x2 terminals before during h1 h2 st t h) a
+          (quiet-at x1 x2 c during h1 h2 start st t h) a
 
       ahead : (t : ℕ) → p < t → t ≤ q → Ahead x1 x2 k i j (o t)
       ahead zero l m = absurd (omega arith)

@@ -12,18 +12,13 @@ use borrow.Author.Tests.{leb-true, leb-false}
 use Rattle.cases.proofs.ByCases.{by-test}
 use Rattle.contention.specs.Channel.{Station, Channel, Action, freshStation, hears, sendsD, turnAt, combinedD, step, run}
 use Rattle.contention.specs.Channel.Action.{hand, enter, leave, clear, opportunity}
-use Rattle.contention.specs.Stretch.{Calm, Stretch, onward, opportunities, station, counted, activeCount}
-use Rattle.contention.specs.Claims.{at, start, opps}
+use Rattle.contention.specs.Stretch.{Calm, Stretch, onward, opportunities, station, howMany, activeCount}
+use Rattle.contention.specs.Claims.{at, opps}
 use Rattle.contention.specs.Invariant.{Invariant}
 use Rattle.contention.proofs.Terminal.{Outcome, outcome, completed, went-on, stopped, started, idled, outside, active-after}
-use Rattle.contention.proofs.InvariantKept.{Sender, sender, going, starting, sending-holds, Quiet, quiet-same, quiet-then, quiet-hand, quiet-enter, station-hears, length-allHear, invariant-step, invariant-run}
+use Rattle.contention.proofs.InvariantKept.{Sender, sender, going, starting, sending-holds, Quiet, quiet-same, quiet-then, quiet-hand, quiet-enter, station-hears, length-hears, invariant-step}
 
 -- ---- counting terminals
-
-pub active-counted : (ss : List Station) → activeCount ss ≡ counted (λ s. s .active) ss
-unfolding activeCount counted
-active-counted [] = refl
-active-counted (s ∷ ss) = rw (active-counted ss)
 
 -- a test's number, at most another's that it implies
 number-le : (a b : Bool) → (a ≡ true → b ≡ true) → cond {A = ℕ} a 1 0 ≤ cond b 1 0
@@ -34,27 +29,27 @@ number-lt : (a b : Bool) → a ≡ false → b ≡ true → suc (cond {A = ℕ} 
 number-lt a b h k = rw (h, k) (omega arith)
 
 module _ (f g : Station → Bool) where
-  pub counted-le : (ss ts : List Station) → length ts ≡ length ss
-      → ((i : ℕ) → f (getD ss i freshStation) ≡ true → g (getD ts i freshStation) ≡ true) → counted f ss ≤ counted g ts
-  unfolding counted
-  counted-le [] ts e h = omega arith
-  counted-le (s ∷ ss) [] e h = absurd (omega arith)
-  counted-le (s ∷ ss) (t ∷ ts) e h =
-      omega (arith, number-le (f s) (g t) (h 0), counted-le ss ts (omega arith) (λ i. h (suc i)))
+  pub howMany-le : (ss ts : List Station) → length ts ≡ length ss
+      → ((i : ℕ) → f (getD ss i freshStation) ≡ true → g (getD ts i freshStation) ≡ true) → howMany f ss ≤ howMany g ts
+  unfolding howMany
+  howMany-le [] ts e h = omega arith
+  howMany-le (s ∷ ss) [] e h = absurd (omega arith)
+  howMany-le (s ∷ ss) (t ∷ ts) e h =
+      omega (arith, number-le (f s) (g t) (h 0), howMany-le ss ts (omega arith) (λ i. h (suc i)))
 
   -- one more, where some terminal passes the second alone
-  pub counted-lt : (ss ts : List Station) → length ts ≡ length ss
+  pub howMany-lt : (ss ts : List Station) → length ts ≡ length ss
       → ((i : ℕ) → f (getD ss i freshStation) ≡ true → g (getD ts i freshStation) ≡ true)
       → g freshStation ≡ false → (j : ℕ) → f (getD ss j freshStation) ≡ false → g (getD ts j freshStation) ≡ true
-      → suc (counted f ss) ≤ counted g ts
-  unfolding counted
-  counted-lt [] [] e h z j p q = absurd (false≢true (sym z ∙ q))
-  counted-lt [] (t ∷ ts) e h z j p q = absurd (omega arith)
-  counted-lt (s ∷ ss) [] e h z j p q = absurd (omega arith)
-  counted-lt (s ∷ ss) (t ∷ ts) e h z zero p q =
-      omega (arith, number-lt (f s) (g t) p q, counted-le ss ts (omega arith) (λ i. h (suc i)))
-  counted-lt (s ∷ ss) (t ∷ ts) e h z (suc j) p q =
-      omega (arith, number-le (f s) (g t) (h 0), counted-lt ss ts (omega arith) (λ i. h (suc i)) z j p q)
+      → suc (howMany f ss) ≤ howMany g ts
+  unfolding howMany
+  howMany-lt [] [] e h z j p q = absurd (false≢true (sym z ∙ q))
+  howMany-lt [] (t ∷ ts) e h z j p q = absurd (omega arith)
+  howMany-lt (s ∷ ss) [] e h z j p q = absurd (omega arith)
+  howMany-lt (s ∷ ss) (t ∷ ts) e h z zero p q =
+      omega (arith, number-lt (f s) (g t) p q, howMany-le ss ts (omega arith) (λ i. h (suc i)))
+  howMany-lt (s ∷ ss) (t ∷ ts) e h z (suc j) p q =
+      omega (arith, number-le (f s) (g t) (h 0), howMany-lt ss ts (omega arith) (λ i. h (suc i)) z j p q)
 
 -- ---- somebody is sending, or nobody
 
@@ -178,16 +173,14 @@ module _ (x1 x2 : ℕ) where
   pub active-quiet : (c c′ : Channel) → Quiet c c′ → activeCount (c .stations) ≤ activeCount (c′ .stations)
   unfolding station
   active-quiet c c′ q =
-      rw (active-counted (c .stations), active-counted (c′ .stations))
-      (counted-le (λ s. s .active) (λ s. s .active) (c .stations) (c′ .stations) (q .as-many) (λ i. q .each i .stays))
+      howMany-le (λ s. s .active) (λ s. s .active) (c .stations) (c′ .stations) (q .as-many) (λ i. q .each i .stays)
 
   pub active-step : (c : Channel) (e bit on : Bool) → activeCount (c .stations) ≤ activeCount (step x1 x2 c (opportunity e bit on) .stations)
-  unfolding station step
+  unfolding station
   active-step c e bit on =
-      rw (active-counted (c .stations), active-counted (step x1 x2 c (opportunity e bit on) .stations))
-      (counted-le (λ s. s .active) (λ s. s .active) (c .stations) (step x1 x2 c (opportunity e bit on) .stations)
-      (length-allHear x1 x2 e (c .stations))
-      (λ i h. rw (station-hears x1 x2 e bit on c i) (active-after x1 x2 e (station i c) ∙ h)))
+      howMany-le (λ s. s .active) (λ s. s .active) (c .stations) (step x1 x2 c (opportunity e bit on) .stations)
+      (length-hears x1 x2 e bit on c)
+      (λ i h. rw (station-hears x1 x2 e bit on c i) (active-after x1 x2 e (station i c) ∙ h))
 
 -- ---- along a stretch
 module _ (x1 x2 : ℕ) (h1 : 8 ≤ x1) (h2 : x1 + 2 ≤ x2) where
@@ -290,27 +283,23 @@ module _ (x1 x2 : ℕ) (h1 : 8 ≤ x1) (h2 : x1 + 2 ≤ x2) where
   opportunity-active (opportunity e bit on ∷ more) c (suc t) inv st h =
       opportunity-active more (step x1 x2 c (opportunity e bit on)) t (invariant-step x1 x2 h1 h2 c (opportunity e bit on) inv) (st .1) (omega arith)
 
--- The opportunities of a stretch after a list of actions from a fresh channel, by their numbers.
-module _ (x1 x2 terminals : ℕ) (before during : List Action) (h1 : 8 ≤ x1) (h2 : x1 + 2 ≤ x2)
-    (st : Stretch x1 x2 (start x1 x2 terminals before during) during) where
+-- The opportunities of a stretch from a channel that satisfies the invariant, by their numbers.
+module _ (x1 x2 : ℕ) (c : Channel) (during : List Action) (h1 : 8 ≤ x1) (h2 : x1 + 2 ≤ x2) (inv : Invariant x2 c) (st : Stretch x1 x2 c during) where
   -- opportunity t, and how many there are
   abbrev pub opp : ℕ → Channel
-  opp t = at (opps x1 x2 terminals before during) t
+  opp t = at (opps x1 x2 c during) t
 
   abbrev pub many : ℕ
-  many = length (opps x1 x2 terminals before during)
-
-  pub start-invariant : Invariant x2 (start x1 x2 terminals before during)
-  start-invariant = invariant-run x1 x2 h1 h2 terminals before
+  many = length (opps x1 x2 c during)
 
   pub invariant-at : (t : ℕ) → t < many → Invariant x2 (opp t)
-  invariant-at t h = opportunity-invariant x1 x2 h1 h2 during (start x1 x2 terminals before during) t start-invariant h
+  invariant-at t h = opportunity-invariant x1 x2 h1 h2 during c t inv h
 
   pub invariant-past : (t : ℕ) → t < many → Invariant x2 (onward x1 x2 (opp t))
   invariant-past t h = invariant-onward x1 x2 h1 h2 (opp t) (invariant-at t h)
 
   pub quiet-at : (t : ℕ) → suc t < many → Quiet (onward x1 x2 (opp t)) (opp (suc t))
-  quiet-at t h = next-opportunity x1 x2 h1 h2 during (start x1 x2 terminals before during) t start-invariant st h
+  quiet-at t h = next-opportunity x1 x2 h1 h2 during c t inv st h
 
   -- from the stretch's second opportunity on, E is the AND of the bits sent
   pub echo-at : (t : ℕ) → suc t < many → Echo (opp (suc t))
@@ -318,5 +307,5 @@ module _ (x1 x2 terminals : ℕ) (before during : List Action) (h1 : 8 ≤ x1) (
       echo-quiet x1 x2 (onward x1 x2 (opp t)) (opp (suc t)) (invariant-past t (omega arith)) (quiet-at t h)
       (echo-onward x1 x2 (opp t) (invariant-at t (omega arith)))
 
-  pub active-at : (t : ℕ) → t < many → activeCount (opp t .stations) ≤ activeCount (run x1 x2 (start x1 x2 terminals before during) during .stations)
-  active-at t h = opportunity-active x1 x2 h1 h2 during (start x1 x2 terminals before during) t start-invariant st h
+  pub active-at : (t : ℕ) → t < many → activeCount (opp t .stations) ≤ activeCount (run x1 x2 c during .stations)
+  active-at t h = opportunity-active x1 x2 h1 h2 during c t inv st h

@@ -6,6 +6,7 @@ use mathlib.Core.Path.{_≡_, refl, sym, ap, _∙_}
 use mathlib.Core.List.{List}
 use mathlib.Core.Logic.{_⊎_, inl, inr}
 use Prim.Native.Nat.{ℕ, zero, suc, _+_, _*_, _≤_, _<_}
+use native.Mathlib.Nat.{add-zero}
 use native.Mathlib.Omega.{arith}
 use lib.Dec.{eqb, leb}
 use lib.ListN.{length}
@@ -13,13 +14,12 @@ use borrow.Author.Tests.{eqb-true, eqb-false, leb-true, leb-false}
 use Rattle.cases.proofs.ByCases.{by-test}
 use Rattle.dchannel.specs.Access.{lowOf, threshold, countAfter}
 use Rattle.contention.specs.Channel.{Station, Channel, Action, turnAt, hears, sendsD, step, run}
-use Rattle.contention.specs.Stretch.{Stretch, station, Waits, Completes, activeCount, ImagesAtMost}
-use Rattle.contention.specs.Claims.{at, waitBound, start, CompletedWithin, WaitEnds}
+use Rattle.contention.specs.Stretch.{Stretch, onward, station, Waits, Completes, howMany, activeCount, ImagesAtMost}
+use Rattle.contention.specs.Claims.{at, waitBound, CompletedWithin, WaitEnds}
 use Rattle.contention.specs.Invariant.{Invariant}
 use Rattle.contention.proofs.Terminal.{Outcome, completed, went-on, stopped, started, idled, outside, active-after, body-after, count-after, count-one, count-full, count-some, level, level-least, level-most, threshold-least, threshold-low, threshold-of, low-stays, normal-stays, completed-low}
-use Rattle.contention.proofs.InvariantKept.{and-true, going, starting, Quiet, count-up, length-allHear}
-use Rattle.contention.proofs.Trace.{active-counted, counted-le, counted-lt, Anyone, anyone, somebody, nobody, onward-station, Echo, sender-kept, opp, many, invariant-at, invariant-past, quiet-at, echo-at, active-at}
-use Rattle.contention.specs.Stretch.{counted, onward}
+use Rattle.contention.proofs.InvariantKept.{and-true, going, starting, Quiet, count-up, length-hears}
+use Rattle.contention.proofs.Trace.{howMany-le, howMany-lt, Anyone, anyone, somebody, nobody, onward-station, Echo, sender-kept, opp, many, invariant-at, invariant-past, quiet-at, echo-at, active-at}
 use Rattle.contention.proofs.Waiting.{outcome-at, SenderAt, sender-at, CompletedAt, completes-zero, zero-counts, waits-hears, waits-quiet, sending-count, idle-below, first-stays, first-zero, low-quiet, goes-on, completion-ends, idle-one}
 
 both-true : (a b : Bool) → a ≡ true → b ≡ true → (a && b) ≡ true
@@ -35,7 +35,7 @@ isLow k s = s .active && lowOf k (s .access)
 
 -- how many are
 unfoldable pub lows : ℕ → Channel → ℕ
-lows k c = counted (isLow k) (c .stations)
+lows k c = howMany (isLow k) (c .stations)
 
 -- who may send before a terminal that waits in class k with its C not behind: one at the normal level in class k, and for class 2 one
 -- with a class 1 frame
@@ -123,8 +123,8 @@ module _ (x1 x2 k : ℕ) (h1 : 8 ≤ x1) (h2 : x1 + 2 ≤ x2) (k1 : 1 ≤ k) (k2
   later m = hears x1 x2 (c .heardD) (station m c)
 
   onward-length : length (onward x1 x2 c .stations) ≡ length (c .stations)
-  unfolding onward step
-  onward-length = length-allHear x1 x2 (c .heardD) (c .stations)
+  unfolding onward
+  onward-length = length-hears x1 x2 (c .heardD) _ true c
 
   active-later : (j : ℕ) → station j c .active ≡ true → later j .active ≡ true
   active-later j h = active-after x1 x2 (c .heardD) (station j c) ∙ h
@@ -139,14 +139,14 @@ module _ (x1 x2 k : ℕ) (h1 : 8 ≤ x1) (h2 : x1 + 2 ≤ x2) (k1 : 1 ≤ k) (k2
 
   lows-kept : ((j : ℕ) → later j .access .count ≤ level x1 x2 k) → lows k c ≤ lows k (onward x1 x2 c)
   unfolding lows station
-  lows-kept most = counted-le (isLow k) (isLow k) (c .stations) (onward x1 x2 c .stations) onward-length (low-now most)
+  lows-kept most = howMany-le (isLow k) (isLow k) (c .stations) (onward x1 x2 c .stations) onward-length (low-now most)
 
   -- one more is low where a rival at the normal level completes a frame of the class
   lows-more : ((j : ℕ) → later j .access .count ≤ level x1 x2 k) → (g : ℕ) → lowOf k (station g c .access) ≡ false → station g c .access .held ≡ k
       → CompletedAt x1 x2 c inv g → suc (lows k c) ≤ lows k (onward x1 x2 c)
   unfolding lows station
   lows-more most g normal held r =
-      counted-lt (isLow k) (isLow k) (c .stations) (onward x1 x2 c .stations) onward-length (low-now most) refl g
+      howMany-lt (isLow k) (isLow k) (c .stations) (onward x1 x2 c .stations) onward-length (low-now most) refl g
       (second-false (station g c .active) (lowOf k (station g c .access)) normal)
       (rw (onward-station x1 x2 c g)
       (both-true (later g .active) (lowOf k (later g .access)) (active-later g (r .in-F7))
@@ -156,9 +156,8 @@ module _ (x1 x2 k : ℕ) (h1 : 8 ≤ x1) (h2 : x1 + 2 ≤ x2) (k1 : 1 ≤ k) (k2
 pub lows-others : (k : ℕ) (c : Channel) (i : ℕ) → Waits k i c → suc (lows k c) ≤ activeCount (c .stations)
 unfolding lows station
 lows-others k c i w =
-    rw (active-counted (c .stations))
-    (counted-lt (isLow k) (λ s. s .active) (c .stations) (c .stations) refl (λ j h. and-true _ _ h .0) refl i
-    (second-false (station i c .active) (lowOf k (station i c .access)) (w .normal)) (w .in-F7))
+    howMany-lt (isLow k) (λ s. s .active) (c .stations) (c .stations) refl (λ j h. and-true _ _ h .0) refl i
+    (second-false (station i c .active) (lowOf k (station i c .access)) (w .normal)) (w .in-F7)
 
 -- i waits at c and is not completed there; f′ class 1 frames are left afterwards
 module _ (x1 x2 k n L i : ℕ) (h1 : 8 ≤ x1) (h2 : x1 + 2 ≤ x2) (k1 : 1 ≤ k) (k2 : k ≤ 2) (f f′ : ℕ) (fall : f′ ≤ f)
@@ -353,7 +352,7 @@ module _ (x1 x2 k n L i : ℕ) (h1 : 8 ≤ x1) (h2 : x1 + 2 ≤ x2) (k1 : 1 ≤ 
 lows-quiet : (k : ℕ) (c c′ : Channel) → Quiet c c′ → lows k c ≤ lows k c′
 unfolding lows station
 lows-quiet k c c′ q =
-    counted-le (isLow k) (isLow k) (c .stations) (c′ .stations) (q .as-many)
+    howMany-le (isLow k) (isLow k) (c .stations) (c′ .stations) (q .as-many)
     (λ j h.
     let p = and-true (station j c .active) (lowOf k (station j c .access)) h in
     both-true (station j c′ .active) (lowOf k (station j c′ .access)) (q .each j .stays (p .0))
@@ -425,31 +424,29 @@ images-onward x1 x2 L c inv most i =
 
 -- nobody enters F7 at an opportunity
 active-onward : (x1 x2 : ℕ) (c : Channel) → activeCount (onward x1 x2 c .stations) ≤ activeCount (c .stations)
-unfolding station onward step
+unfolding station onward
 active-onward x1 x2 c =
-    rw (active-counted (c .stations), active-counted (onward x1 x2 c .stations))
-    (counted-le (λ s. s .active) (λ s. s .active) (onward x1 x2 c .stations) (c .stations) (sym (length-allHear x1 x2 (c .heardD) (c .stations)))
-    (λ j h. sym (active-after x1 x2 (c .heardD) (station j c)) ∙ rw (onward-station x1 x2 c j) at h))
+    howMany-le (λ s. s .active) (λ s. s .active) (onward x1 x2 c .stations) (c .stations) (sym (length-hears x1 x2 (c .heardD) _ true c))
+    (λ j h. sym (active-after x1 x2 (c .heardD) (station j c)) ∙ rw (onward-station x1 x2 c j) at h)
 
-module _ (x1 x2 terminals : ℕ) (before during : List Action) (h1 : 8 ≤ x1) (h2 : x1 + 2 ≤ x2)
-    (st : Stretch x1 x2 (start x1 x2 terminals before during) during) where
+module _ (x1 x2 : ℕ) (c : Channel) (during : List Action) (h1 : 8 ≤ x1) (h2 : x1 + 2 ≤ x2) (start : Invariant x2 c) (st : Stretch x1 x2 c during) where
   abbrev o : ℕ → Channel
-  o t = opp x1 x2 terminals before during h1 h2 st t
+  o t = opp x1 x2 c during h1 h2 start st t
 
   abbrev lasting : ℕ
-  lasting = many x1 x2 terminals before during h1 h2 st
+  lasting = many x1 x2 c during h1 h2 start st
 
   inv-at : (t : ℕ) → t < lasting → Invariant x2 (o t)
-  inv-at = invariant-at x1 x2 terminals before during h1 h2 st
+  inv-at = invariant-at x1 x2 c during h1 h2 start st
 
   inv-onward : (t : ℕ) → t < lasting → Invariant x2 (onward x1 x2 (o t))
-  inv-onward = invariant-past x1 x2 terminals before during h1 h2 st
+  inv-onward = invariant-past x1 x2 c during h1 h2 start st
 
   quiet : (t : ℕ) → suc t < lasting → Quiet (onward x1 x2 (o t)) (o (suc t))
-  quiet = quiet-at x1 x2 terminals before during h1 h2 st
+  quiet = quiet-at x1 x2 c during h1 h2 start st
 
   echo : (t : ℕ) → suc t < lasting → Echo (o (suc t))
-  echo = echo-at x1 x2 terminals before during h1 h2 st
+  echo = echo-at x1 x2 c during h1 h2 start st
 
   module _ (k i : ℕ) (k1 : 1 ≤ k) where
     -- i's body, while its frame is held
@@ -461,7 +458,7 @@ module _ (x1 x2 terminals : ℕ) (before during : List Action) (h1 : 8 ≤ x1) (
 
     -- what is completed after opportunity t is completed after it, counted from t
     earlier : (t v : ℕ) → (Completes x1 x2 k i (o t) → ⊥) → station i (o (suc t)) .body ≡ station i (o t) .body
-        → CompletedWithin x1 x2 terminals before during k i (suc t) v → CompletedWithin x1 x2 terminals before during k i t (suc v)
+        → CompletedWithin x1 x2 c during k i (suc t) v → CompletedWithin x1 x2 c during k i t (suc v)
     earlier t v n b r =
         record {
           when = r .when;
@@ -474,7 +471,7 @@ module _ (x1 x2 terminals : ℕ) (before during : List Action) (h1 : 8 ≤ x1) (
           same-body = r .same-body ∙ b;
         }
 
-    here : (t v : ℕ) → 1 ≤ v → Completes x1 x2 k i (o t) → CompletedWithin x1 x2 terminals before during k i t v
+    here : (t v : ℕ) → 1 ≤ v → Completes x1 x2 k i (o t) → CompletedWithin x1 x2 c during k i t v
     here t v h r =
         record {
           when = t;
@@ -485,14 +482,14 @@ module _ (x1 x2 terminals : ℕ) (before during : List Action) (h1 : 8 ≤ x1) (
           same-body = refl;
         }
 
-    -- n terminals in F7, images of at most L bits, and how lasting class 1 frames are still to go before, at each opportunity
-    module _ (k2 : k ≤ 2) (n L : ℕ) (actives : activeCount (run x1 x2 (start x1 x2 terminals before during) during .stations) ≤ n)
+    -- n terminals in F7, images of at most L bits, and how many class 1 frames are still to go before, at each opportunity
+    module _ (k2 : k ≤ 2) (n L : ℕ) (actives : activeCount (run x1 x2 c during .stations) ≤ n)
         (images : (t : ℕ) → t < lasting → ImagesAtMost L (o t)) (frames : ℕ → ℕ)
         (falls : (t : ℕ) → t < lasting → frames (suc t) ≤ frames t)
         (spent : (t g : ℕ) → t < lasting → Completes x1 x2 1 g (o t) → k ≡ 2 → suc (frames (suc t)) ≤ frames t) where
       active-bound : (t : ℕ) → t < lasting → activeCount (onward x1 x2 (o t) .stations) ≤ n
       active-bound t h =
-          omega (arith, active-onward x1 x2 (o t), active-at x1 x2 terminals before during h1 h2 st t h)
+          omega (arith, active-onward x1 x2 (o t), active-at x1 x2 c during h1 h2 start st t h)
 
       fall-at : (v t : ℕ) → t < lasting → Echo (o t) → (w : Waits k i (o t)) → Waits k i (onward x1 x2 (o t))
           → Left (level x1 x2 k) k n (frames t) L i (suc v) (o t) → Left (level x1 x2 k) k n (frames (suc t)) L i v (onward x1 x2 (o t))
@@ -504,7 +501,7 @@ module _ (x1 x2 terminals : ℕ) (before during : List Action) (h1 : 8 ≤ x1) (
       waits-on t h w n = waits-hears x1 x2 (o t) (inv-at t h) k i k1 w (λ d. n (d .done))
 
       left-ends : (v t : ℕ) → t + v ≤ lasting → t < lasting → Echo (o t) → Waits k i (o t) → Left (level x1 x2 k) k n (frames t) L i v (o t)
-          → CompletedWithin x1 x2 terminals before during k i t v
+          → CompletedWithin x1 x2 c during k i t v
       left-ends zero t h l e w r = absurd (left-some x2 (level x1 x2 k) k n (frames t) L i (o t) (inv-at t l) (images t l) r)
       left-ends (suc zero) t h l e w r =
           by-test (eqb (turnAt x1 x2 (o t .heardD) (station i (o t)) .done) k)
@@ -524,9 +521,9 @@ module _ (x1 x2 terminals : ℕ) (before during : List Action) (h1 : 8 ≤ x1) (
           (left-quiet x1 x2 (level x1 x2 k) k n (frames (suc t)) (frames (suc t)) L i (suc v) (onward x1 x2 (o t)) (o (suc t)) (inv-onward t l) (quiet t m) (omega arith)
           (fall-at (suc v) t l e w w′ r))))
 
-      within : (v more F p : ℕ) → frames p ≤ F → Waits k i (o p) → n + F ≡ suc more → suc (suc more) * (L + level x1 x2 k) ≤ suc (suc v)
-          → p + suc (suc v) ≤ lasting → CompletedWithin x1 x2 terminals before during k i p (suc (suc v))
-      within v more F p fr w m le len =
+      within : (v more ones p : ℕ) → frames p ≤ ones → Waits k i (o p) → n + ones ≡ suc more → suc (suc more) * (L + level x1 x2 k) ≤ suc (suc v)
+          → p + suc (suc v) ≤ lasting → CompletedWithin x1 x2 c during k i p (suc (suc v))
+      within v more ones p fr w m le len =
           let l : p < lasting = omega arith in
           let s : suc p < lasting = omega arith in
           by-test (eqb (turnAt x1 x2 (o p .heardD) (station i (o p)) .done) k)
@@ -535,47 +532,33 @@ module _ (x1 x2 terminals : ℕ) (before during : List Action) (h1 : 8 ≤ x1) (
           let w′ = waits-on p l w (eqb-false _ _ d) in
           earlier p (suc v) (λ z. eqb-false _ _ d (z .done)) (body-at p s w′)
           (left-ends (suc v) (suc p) (omega arith) s (echo p s) (waits-quiet k i (onward x1 x2 (o p)) (o (suc p)) k1 (quiet p s) w′)
-          (left-quiet x1 x2 (level x1 x2 k) k n F (frames (suc p)) L i (suc v) (onward x1 x2 (o p)) (o (suc p)) (inv-onward p l) (quiet p s)
+          (left-quiet x1 x2 (level x1 x2 k) k n ones (frames (suc p)) L i (suc v) (onward x1 x2 (o p)) (o (suc p)) (inv-onward p l) (quiet p s)
           (omega (arith, falls p l))
-          (left-first x1 x2 k n L i h1 h2 k1 k2 F F (omega arith) (o p) (inv-at p l) w w′ (suc v) more m le (anyone (onward x1 x2 (o p)))))))
+          (left-first x1 x2 k n L i h1 h2 k1 k2 ones ones (omega arith) (o p) (inv-at p l) w w′ (suc v) more m le (anyone (onward x1 x2 (o p)))))))
 
       -- a frame that waits in class k is completed in time
-      pub wait-ends-within : (F p : ℕ) → frames p ≤ F → Waits k i (o p) → p + (n + 1 + F) * (L + level x1 x2 k) ≤ lasting
-          → CompletedWithin x1 x2 terminals before during k i p ((n + 1 + F) * (L + level x1 x2 k))
-      wait-ends-within F p fr w len = go ((n + 1 + F) * (L + level x1 x2 k)) refl (n + F) refl
+      pub wait-ends-within : (ones p : ℕ) → frames p ≤ ones → Waits k i (o p) → p + waitBound (n + ones) L (level x1 x2 k) ≤ lasting
+          → CompletedWithin x1 x2 c during k i p (waitBound (n + ones) L (level x1 x2 k))
+      wait-ends-within ones p fr w len = go (waitBound (n + ones) L (level x1 x2 k)) refl (n + ones) refl
         where
           some-active : p < lasting → 1 ≤ n
           some-active h =
-              omega (arith, lows-others k (o p) i w, active-at x1 x2 terminals before during h1 h2 st p h)
+              omega (arith, lows-others k (o p) i w, active-at x1 x2 c during h1 h2 start st p h)
 
-          go : (b : ℕ) → (n + 1 + F) * (L + level x1 x2 k) ≡ b → (s : ℕ) → n + F ≡ s
-              → CompletedWithin x1 x2 terminals before during k i p ((n + 1 + F) * (L + level x1 x2 k))
+          go : (b : ℕ) → waitBound (n + ones) L (level x1 x2 k) ≡ b → (s : ℕ) → n + ones ≡ s
+              → CompletedWithin x1 x2 c during k i p (waitBound (n + ones) L (level x1 x2 k))
           go zero q s z = absurd (omega (arith, level-least x1 x2 k h2))
           go (suc zero) q s z = absurd (omega (arith, level-least x1 x2 k h2))
           go (suc (suc v)) q zero z = absurd (omega (arith, some-active (omega arith)))
           go (suc (suc v)) q (suc more) z =
-              let sum : n + 1 + F ≡ suc (suc more) = omega arith in
-              rw q (within v more F p fr w z (omega (arith, ap (λ (a : ℕ). a * (L + level x1 x2 k)) sum)) (omega arith))
-
--- what is completed within some opportunities is completed within more
-pub within-more : (x1 x2 terminals : ℕ) (before during : List Action) (k i p b b′ : ℕ) → b ≤ b′
-    → CompletedWithin x1 x2 terminals before during k i p b → CompletedWithin x1 x2 terminals before during k i p b′
-within-more x1 x2 terminals before during k i p b b′ h r =
-    record {
-      when = r .when;
-      after = r .after;
-      within = omega (arith, r .within);
-      completed = r .completed;
-      same-frame = r .same-frame;
-      same-body = r .same-body;
-    }
+              let sum : n + ones + 1 ≡ suc (suc more) = omega arith in
+              rw q (within v more ones p fr w z (omega (arith, ap (λ (a : ℕ). a * (L + level x1 x2 k)) sum)) (omega arith))
 
 -- "In class 1, if the stretch lasts that long, a frame so waiting is completed within (n + 1) times (L + 8) D opportunities, counted
 -- from the first of the stretch at which it so waits"
-module _ (x1 x2 terminals : ℕ) (before during : List Action) (h1 : 8 ≤ x1) (h2 : x1 + 2 ≤ x2) where
-  pub wait-ends : Stretch x1 x2 (start x1 x2 terminals before during) during → WaitEnds x1 x2 terminals before during
-  unfolding level
-  wait-ends st n L i p actives images w len =
-      within-more x1 x2 terminals before during 1 i p ((n + 1 + 0) * (L + x1)) (waitBound n L x1) (omega arith)
-      (wait-ends-within x1 x2 terminals before during h1 h2 st 1 i (omega arith) (omega arith) n L actives images (λ _. 0) (λ _ _. omega arith)
-      (λ _ _ _ _ two. absurd (omega arith)) 0 p (omega arith) w (omega arith))
+pub wait-ends : (x1 x2 : ℕ) (c : Channel) (during : List Action) → 8 ≤ x1 → x1 + 2 ≤ x2 → Invariant x2 c → Stretch x1 x2 c during → WaitEnds x1 x2 c during
+unfolding level
+wait-ends x1 x2 c during h1 h2 start st n L i p actives images w len =
+    rw add-zero at
+    (wait-ends-within x1 x2 c during h1 h2 start st 1 i (omega arith) (omega arith) n L actives images (λ _. 0) (λ _ _. omega arith)
+    (λ _ _ _ _ two. absurd (omega arith)) 0 p (omega arith) w (rw add-zero len))

@@ -1,20 +1,20 @@
--- The D channel alone: terminals, the last D that the network end heard, and its reader. What happens to it is a list of actions.
--- x1 and x2 are the normal levels of class 1 and class 2.
+-- The D channel alone: terminals, the last D that the network end heard, and its reader (document 01, "D access (6.1)"). What happens to
+-- it is a list of actions. x1 and x2 are the normal levels of class 1 and class 2, 8 and 10 in document 01.
 use mathlib.Core.Bool.{Bool, true, false, cond, _&&_, _||_}
-use mathlib.Core.List.{List, [], _∷_}
+use mathlib.Core.List.{List, [], _∷_, map}
 use Prim.Native.Nat.{ℕ, zero, suc}
-use lib.Dec.{eqb, leb, ltb}
-use lib.ListN.{length, getD}
+use lib.Dec.{eqb}
+use lib.ListN.{length, getD, replicate}
 use Rattle.dchannel.specs.declared.access.Access.{Access}
 use Rattle.dchannel.specs.declared.access.Turn.{Turn}
-use Rattle.hdlc.specs.Image.{image, longestBody}
+use Rattle.hdlc.specs.Image.{image, isBody}
 use Rattle.dchannel.specs.Access.{fresh, entered, turn}
 use Rattle.dchannel.specs.Handing.{takenUp, left}
 use Rattle.hdlc.specs.Reading.{Reading, cleared, next}
 
 -- a terminal as the D channel sees it
 pub record Station : Type 0 where
-  -- activated: in F7
+  -- "Activated means in F7"
   pub active : Bool
   pub access : Access
   -- the body of the held frame, where one is held
@@ -22,28 +22,20 @@ pub record Station : Type 0 where
 
 pub record Channel : Type 0 where
   pub stations : List Station
-  -- the last combined D that the network end heard
+  -- "the last combined D that the network heard"
   pub heardD : Bool
   pub reading : Reading
 
 pub data Action : Type 0 where
-  -- a frame of a class with a body is handed to the terminal at an index
+  -- `d1` or `d2`: a frame of a class with a body is handed to the terminal at an index
   hand : ℕ → ℕ → List ℕ → Action
   -- the terminal at an index enters F7, or leaves it
   enter leave : ℕ → Action
-  -- the network end leaves G3: its reader is cleared
+  -- "Leaving G3 clears the reader silently"
   clear : Action
-  -- an E and the D after it: the E that all terminals in F7 hear, the D that the network end hears, whether the reader is on
+  -- "A D opportunity is an E and the D after it": the E that all terminals in F7 hear, the D that the network end hears, and whether it
+  -- reads D (in G3)
   opportunity : Bool → Bool → Bool → Action
-
--- whether all are octets
-unfoldable pub allOctets : List ℕ → Bool
-allOctets [] = true
-allOctets (o ∷ os) = cond (ltb o 256) (allOctets os) false
-
--- "A body is 1 to 266 octets"
-unfoldable pub isBody : List ℕ → Bool
-isBody body = cond (leb 1 (length body)) (cond (leb (length body) longestBody) (allOctets body) false) false
 
 -- the terminal at an index changed
 unfoldable pub change : (Station → Station) → ℕ → List Station → List Station
@@ -51,10 +43,11 @@ change f i [] = []
 change f zero (s ∷ ss) = f s ∷ ss
 change f (suc i) (s ∷ ss) = s ∷ change f i ss
 
--- a frame is taken by a terminal in F7 that holds none, for class 1 or 2, if it is a body; else nothing changes
+-- a frame is taken by a terminal in F7 that holds none, for class 1 or 2, if it is a body (refusals 6 to 8); else nothing changes
 unfoldable pub mayHold : ℕ → List ℕ → Station → Bool
 mayHold k body s = (s .active && eqb (s .access .held) 0) && ((eqb k 1 || eqb k 2) && isBody body)
 
+-- "A terminal holds a frame from its accepted `d1` or `d2`"
 unfoldable pub holding : ℕ → List ℕ → Station → Station
 holding k body s =
     cond (mayHold k body s)
@@ -65,6 +58,7 @@ holding k body s =
     })
     s
 
+-- "C (0 on entering F7 ..)"
 unfoldable pub entering : Station → Station
 entering s = cond (s .active) s (record { active = true; access = entered (s .access); body = s .body })
 
@@ -81,16 +75,13 @@ module _ (x1 x2 : ℕ) where
   unfoldable pub turnAt : Bool → Station → Turn
   turnAt e s = turn x1 x2 e (nextBit s) (s .access)
 
+  -- a terminal after the E: outside F7 it hears none
   unfoldable pub hears : Bool → Station → Station
   hears e s = cond (s .active) (record { active = true; access = turnAt e s .access; body = s .body }) s
 
   -- the D that a terminal sends: 1 outside F7
   unfoldable pub sendsD : Bool → Station → Bool
   sendsD e s = cond (s .active) (turnAt e s .d) true
-
-  unfoldable pub allHear : Bool → List Station → List Station
-  allHear e [] = []
-  allHear e (s ∷ ss) = hears e s ∷ allHear e ss
 
   -- all terminals together: 0 where any sends 0
   unfoldable pub combinedD : Bool → List Station → Bool
@@ -104,7 +95,7 @@ module _ (x1 x2 : ℕ) where
   step c clear = record { stations = c .stations; heardD = c .heardD; reading = cleared }
   step c (opportunity e bit on) =
       record {
-        stations = allHear e (c .stations);
+        stations = map (hears e) (c .stations);
         heardD = bit;
         reading = cond on (next (c .reading) bit) (c .reading);
       }
@@ -117,11 +108,6 @@ module _ (x1 x2 : ℕ) where
 abbrev pub freshStation : Station
 freshStation = record { active = false; access = fresh; body = [] }
 
--- n fresh terminals
-unfoldable pub freshStations : ℕ → List Station
-freshStations zero = []
-freshStations (suc n) = freshStation ∷ freshStations n
-
--- "A fresh bus": the last D heard is 1
+-- "A fresh bus", with n terminals: the last D heard is 1 (docs/DECISIONS.md, reading 4)
 unfoldable pub freshChannel : ℕ → Channel
-freshChannel n = record { stations = freshStations n; heardD = true; reading = cleared }
+freshChannel n = record { stations = replicate n freshStation; heardD = true; reading = cleared }

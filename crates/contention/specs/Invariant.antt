@@ -4,9 +4,9 @@ use mathlib.Core.Path.{_≡_}
 use Prim.Native.Nat.{ℕ, suc, _+_, _≤_, _<_}
 use lib.ListN.{length, getD, take}
 use Rattle.dchannel.specs.Access.{fresh}
-use Rattle.hdlc.specs.Image.{image}
+use Rattle.hdlc.specs.Image.{image, isBody}
 use Rattle.hdlc.specs.Ones.{endingOnes}
-use Rattle.contention.specs.Channel.{Station, Channel, isBody}
+use Rattle.contention.specs.Channel.{Station, Channel}
 use Rattle.contention.specs.Stretch.{station}
 
 -- one terminal's record is in order

@@ -6,16 +6,15 @@ use mathlib.Core.List.{List, [], _∷_, _++_}
 use Prim.Native.Nat.{ℕ, zero, suc, _+_, _-_}
 use lib.Dec.{eqb}
 use Rattle.hdlc.specs.Bits.{lowBits, bodyBits, numberLowFirst, octets}
-use Rattle.hdlc.specs.Image.{stuff, image}
+use Rattle.hdlc.specs.Image.{stuff, image, allOctets, isBody}
 use Rattle.dchannel.specs.Access.{entered, countAfter, lowAfter, afterE, lowOf, threshold, mayStart, sendsNext, stops, completes, idles, turn}
 use Rattle.hdlc.specs.Reading.{Said, startsWith, unstuff, reversed, rest, contents, between, aborted, says, said, next}
 use Rattle.hdlc.specs.Reading.Said.{nothing, torn, heard}
 use Rattle.dchannel.specs.Handing.{takenUp, left}
-use Rattle.contention.specs.Channel.{Station, Channel, Action, allOctets, isBody, change, mayHold, holding, entering, leaving, nextBit, turnAt, hears, sendsD, allHear, combinedD, step, freshStations, freshChannel}
+use Rattle.contention.specs.Channel.{Station, Channel, Action, change, mayHold, holding, entering, leaving, nextBit, turnAt, hears, sendsD, combinedD, step, freshChannel}
 use Rattle.contention.specs.Channel.Action.{hand, enter}
-use Rattle.contention.specs.Stretch.{saidAt}
+use Rattle.contention.specs.Stretch.{saidAt, onward}
 use Rattle.contention.specs.Claims.{waitBound}
-use Rattle.contention.specs.Stretch.{onward}
 
 -- what happens in a scene: an action, or some D opportunities of a stretch
 pub data Cue : Type 0 where
@@ -55,7 +54,7 @@ notes t c (calm k ∷ more) = through k t c ++ notes (t + k) (past k c) more
 
 -- the notes of a scene with n fresh terminals
 pub scene : ℕ → List Cue → List Note
-unfolding lowBits bodyBits numberLowFirst octets stuff image entered countAfter lowAfter afterE lowOf threshold mayStart sendsNext stops completes idles turn startsWith unstuff reversed rest contents between aborted says said next allOctets isBody change mayHold holding entering leaving nextBit turnAt hears sendsD allHear combinedD step freshStations freshChannel saidAt onward takenUp left
+unfolding lowBits bodyBits numberLowFirst octets stuff image entered countAfter lowAfter afterE lowOf threshold mayStart sendsNext stops completes idles turn startsWith unstuff reversed rest contents between aborted says said next allOctets isBody change mayHold holding entering leaving nextBit turnAt hears sendsD combinedD step freshChannel saidAt onward takenUp left
 scene n cues = notes 0 (freshChannel n) cues
 
 -- One terminal: C is 8 after eight Es of 1, at opportunity 7, where the first bit leaves. The last of 24 bits leaves at opportunity 30,

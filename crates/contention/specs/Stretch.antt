@@ -10,8 +10,9 @@ use Rattle.contention.specs.Channel.{Station, Channel, Action, freshStat
 use Rattle.contention.specs.Channel.Action.{hand, enter, leave, clear, opportunity}
 
 module _ (x1 x2 : ℕ) where
-  -- What a stretch allows of one action: the E of an opportunity is the last D (no hit), its D is what the terminals send together (no
-  -- INFO 1), and the reader is on (the network end is in G3); nobody leaves F7, and the reader is not cleared.
+  -- What a stretch allows of one action. "No period run in it has a hit or a terminal sending INFO 1": the E of an opportunity is the last
+  -- D, and its D is what the terminals send together. The network end stays in G3, so it reads D and its reader is not cleared, and nobody
+  -- leaves F7.
   abbrev pub Calm : Channel → Action → Type 0
   Calm c (hand i k body) = Unit
   Calm c (enter i) = Unit
@@ -26,12 +27,12 @@ module _ (x1 x2 : ℕ) where
   unfoldable pub onward : Channel → Channel
   onward c = step x1 x2 c (undisturbed c)
 
-  -- a stretch: each action of the list is calm where it comes
+  -- "A stretch is any unbroken part of the list": each action of it is calm where it comes
   unfoldable pub Stretch : Channel → List Action → Type 0
   Stretch c [] = Unit
   Stretch c (a ∷ more) = Calm c a × Stretch (step x1 x2 c a) more
 
-  -- the channels as E comes, one for each D opportunity of a list, in order
+  -- the channels "as E comes", one for each D opportunity of a list, in order
   unfoldable pub opportunities : Channel → List Action → List Channel
   opportunities c [] = []
   opportunities c (hand i k body ∷ more) = opportunities (step x1 x2 c (hand i k body)) more
@@ -44,19 +45,20 @@ module _ (x1 x2 : ℕ) where
 unfoldable pub station : ℕ → Channel → Station
 station i c = getD (c .stations) i freshStation
 
--- "It waits at a D opportunity when, as E comes, it is in F7, holds a frame and that frame's class is at the normal level"
+-- "It waits at a D opportunity when, as E comes, it is in F7, holds a frame and that frame's class is at the normal level; one that is
+-- sending waits too": the terminal at index i, with a frame of class k
 pub record Waits (k i : ℕ) (c : Channel) : Type 0 where
   pub in-F7 : station i c .active ≡ true
   pub holds : station i c .access .held ≡ k
   pub normal : lowOf k (station i c .access) ≡ false
 
 module _ (x1 x2 : ℕ) where
-  -- the terminal's frame of class k is completed at this E
+  -- "The frame is completed when the echo of its last bit agrees": the terminal's frame of class k, at this E
   pub record Completes (k i : ℕ) (c : Channel) : Type 0 where
     pub in-F7 : station i c .active ≡ true
     pub done : turnAt x1 x2 (c .heardD) (station i c) .done ≡ k
 
-  -- "A frame is begun where a sending's first bit leaves"
+  -- "A frame is begun where a sending's first bit leaves; starting over begins it anew"
   pub record Begins (i : ℕ) (c : Channel) : Type 0 where
     pub in-F7 : station i c .active ≡ true
     pub idle : station i c .access .sent ≡ 0
@@ -67,15 +69,14 @@ module _ (x1 x2 : ℕ) where
   saidAt c = said (c .reading) (combinedD x1 x2 (c .heardD) (c .stations))
 
 -- how many terminals pass a test
-unfoldable pub counted : (Station → Bool) → List Station → ℕ
-counted f [] = 0
-counted f (s ∷ ss) = cond (f s) 1 0 + counted f ss
+unfoldable pub howMany : (Station → Bool) → List Station → ℕ
+howMany f [] = 0
+howMany f (s ∷ ss) = cond (f s) 1 0 + howMany f ss
 
 -- how many terminals are in F7
-unfoldable pub activeCount : List Station → ℕ
-activeCount [] = 0
-activeCount (s ∷ ss) = cond (s .active) 1 0 + activeCount ss
+abbrev pub activeCount : List Station → ℕ
+activeCount ss = howMany (λ s. s .active) ss
 
--- every frame image held is at most L bits
+-- every frame image held is at most L bits: "L counts bits"
 abbrev pub ImagesAtMost : ℕ → Channel → Type 0
 ImagesAtMost L c = (i : ℕ) → station i c .access .length ≤ L

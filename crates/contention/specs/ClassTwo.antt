@@ -1,0 +1,47 @@
+-- The class 2 wait (document 02, 2.11), as a statement about a channel where a stretch starts and the stretch from it.
+use mathlib.Core.Bool.{Bool, cond, _&&_}
+use mathlib.Core.List.{List, [], _∷_}
+use Prim.Native.Nat.{ℕ, _+_, _≤_, _<_}
+use lib.Dec.{eqb}
+use lib.ListN.{length}
+use Rattle.contention.specs.Channel.{Station, Channel, Action, mayHold, step, run}
+use Rattle.contention.specs.Channel.Action.{hand, enter, leave, clear, opportunity}
+use Rattle.contention.specs.Stretch.{Stretch, station, Waits, howMany, activeCount, ImagesAtMost}
+use Rattle.contention.specs.Invariant.{Invariant}
+use Rattle.contention.specs.Claims.{at, waitBound, opps, CompletedWithin}
+
+-- a class 1 frame is held
+abbrev pub holdsOne : Station → Bool
+holdsOne s = eqb (s .access .held) 1
+
+-- how many class 1 frames are held
+unfoldable pub onesHeld : Channel → ℕ
+onesHeld c = howMany holdsOne (c .stations)
+
+module _ (x1 x2 : ℕ) where
+  -- how many class 1 frames the actions of a list hand over, those that are taken
+  unfoldable pub onesTaken : Channel → List Action → ℕ
+  onesTaken c [] = 0
+  onesTaken c (hand i k body ∷ more) = cond (eqb k 1 && mayHold k body (station i c)) 1 0 + onesTaken (step x1 x2 c (hand i k body)) more
+  onesTaken c (enter i ∷ more) = onesTaken (step x1 x2 c (enter i)) more
+  onesTaken c (leave i ∷ more) = onesTaken (step x1 x2 c (leave i)) more
+  onesTaken c (clear ∷ more) = onesTaken (step x1 x2 c clear) more
+  onesTaken c (opportunity e bit on ∷ more) = onesTaken (step x1 x2 c (opportunity e bit on)) more
+
+  -- "With at most k class 1 frames held or handed in during the stretch, a class 2 frame waiting at normal level is completed .. if the
+  -- stretch lasts that long, within (n + 1 + k) times (L + 10) D opportunities": `ones` is that k, and x2 stands for 10
+  abbrev pub WaitEndsClassTwo : Channel → List Action → Type 0
+  WaitEndsClassTwo c during =
+      (n L ones i p : ℕ) →
+      activeCount (run x1 x2 c during .stations) ≤ n →
+      ((t : ℕ) → t < length (opps x1 x2 c during) → ImagesAtMost L (at (opps x1 x2 c during) t)) →
+      onesHeld c + onesTaken c during ≤ ones →
+      Waits 2 i (at (opps x1 x2 c during) p) →
+      p + waitBound (n + ones) L x2 ≤ length (opps x1 x2 c during) →
+      CompletedWithin x1 x2 c during 2 i p (waitBound (n + ones) L x2)
+
+-- from any channel that satisfies the invariant, as demand 3
+abbrev pub ClassTwoFrom : Type 0
+ClassTwoFrom =
+    (x1 x2 : ℕ) (c : Channel) (during : List Action) → 8 ≤ x1 → x1 + 2 ≤ x2 →
+    Invariant x2 c → Stretch x1 x2 c during → WaitEndsClassTwo x1 x2 c during
