@@ -11,10 +11,10 @@ use Rattle.cases.proofs.ByCases.{by-test}
 use Rattle.contention.specs.Channel.{Station, Channel, Action, step}
 use Rattle.contention.specs.Channel.Action.{hand, enter, leave, clear, opportunity}
 use Rattle.contention.specs.Stretch.{Stretch, opportunities, onward}
-use Rattle.contention.specs.Claims.{at}
+use Rattle.contention.specs.Claims.{at, opps}
 use Rattle.contention.specs.Invariant.{Sound, Invariant}
-use Rattle.contention.proofs.InvariantKept.{Quiet, sending-holds, invariant-step}
-use Rattle.contention.proofs.Trace.{opportunity-invariant, next-opportunity}
+use Rattle.contention.proofs.InvariantKept.{Quiet, sending-holds}
+use Rattle.contention.proofs.Trace.{invariant-at, invariant-past, quiet-at}
 
 -- what a terminal that sends has: a frame, with its image's length
 pub record Frame (s : Station) : Type 0 where
@@ -72,17 +72,14 @@ module _ (x1 x2 : ℕ) where
   next-unread (opportunity e bit on ∷ more) c (suc t) st h =
       next-unread more (step x1 x2 c (opportunity e bit on)) t (st .1) (omega arith)
 
-  -- each opportunity of a stretch follows the one before it
-  pub follows-opps : 8 ≤ x1 → x1 + 2 ≤ x2 → (during : List Action) (c : Channel) (t : ℕ) → Invariant x2 c → Stretch x1 x2 c during
-      → suc t < length (opportunities x1 x2 c during)
-      → Follows x1 x2 (at (opportunities x1 x2 c during) t) (at (opportunities x1 x2 c during) (suc t))
-  unfolding onward
-  follows-opps h1 h2 during c t inv st h =
-      let here = opportunity-invariant x1 x2 h1 h2 during c t inv (omega arith) in
-      record {
-        quiet = next-opportunity x1 x2 h1 h2 during c t inv st h;
-        unread = next-unread during c t st h;
-        before = here;
-        between = invariant-step x1 x2 h1 h2 _ (opportunity _ _ true) here;
-        now = opportunity-invariant x1 x2 h1 h2 during c (suc t) inv h;
-      }
+-- each opportunity of a stretch follows the one before it
+pub follows : (x1 x2 : ℕ) (c : Channel) (during : List Action) → 8 ≤ x1 → x1 + 2 ≤ x2 → Invariant x2 c → Stretch x1 x2 c during → (t : ℕ)
+    → suc t < length (opps x1 x2 c during) → Follows x1 x2 (at (opps x1 x2 c during) t) (at (opps x1 x2 c during) (suc t))
+follows x1 x2 c during h1 h2 inv st t h =
+    record {
+      quiet = quiet-at x1 x2 c during h1 h2 inv st t h;
+      unread = next-unread x1 x2 during c t st h;
+      before = invariant-at x1 x2 c during h1 h2 inv st t (omega arith);
+      between = invariant-past x1 x2 c during h1 h2 inv st t (omega arith);
+      now = invariant-at x1 x2 c during h1 h2 inv st (suc t) h;
+    }

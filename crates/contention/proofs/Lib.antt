@@ -11,5 +11,6 @@ pub mod HeardNext
 pub mod HeardSteps
 pub mod HeardPhase
 pub mod HeardInOrder
+pub mod OpeningFlag
 pub mod WholeList
 pub mod Demand3

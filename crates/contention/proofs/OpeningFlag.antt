@@ -1,0 +1,59 @@
+-- No sending stops inside its opening flag: all that send have sent equally many bits of the same flag, so their echo agrees.
+use mathlib.Core.Bool.{Bool, true, false, true≢false}
+use mathlib.Core.Path.{_≡_, refl, sym, ap, _∙_}
+use mathlib.Core.List.{List, _++_}
+use Prim.Native.Nat.{ℕ, zero, suc, _+_, _≤_, _<_}
+use native.Mathlib.Nat.{add-zero, add-suc}
+use native.Mathlib.Omega.{arith}
+use native.Mathlib.Numerals.{add-one}
+use lib.ListN.{length, getD, List·getD-append}
+use Rattle.hdlc.specs.Bits.{bodyBits}
+use Rattle.hdlc.specs.Image.{flag, stuff, image}
+use Rattle.hdlc.proofs.ImageLaws.{length-image}
+use Rattle.cases.proofs.ByCases.{by-test}
+use Rattle.contention.specs.Channel.{Channel, Action}
+use Rattle.contention.specs.Stretch.{Stretch, station, Begins}
+use Rattle.contention.specs.Claims.{at, opps, NoStopInFlag}
+use Rattle.contention.specs.Invariant.{Invariant}
+use Rattle.contention.proofs.Trace.{Echo}
+use Rattle.contention.proofs.HeardNext.{Follows, follows}
+use Rattle.contention.proofs.HeardSteps.{echo-next, forth-begins, forth-more}
+
+-- an image begins with the flag
+image-flag : (body : List ℕ) (n : ℕ) → n < 8 → getD (image body) n true ≡ getD flag n true
+unfolding image
+image-flag body n h = List·getD-append flag (stuff 0 (bodyBits body) ++ flag) true n h
+
+-- inside the flag the E is the bit that left last
+flag-echoed : {x2 : ℕ} {c : Channel} → Invariant x2 c → Echo c → (j n : ℕ) → station j c .access .sent ≡ suc n → n < 8
+    → station j c .access .last ≡ c .heardD
+flag-echoed {x2} {c} v e j n sent h =
+    by-test (station j c .access .last)
+    (λ l. by-test (c .heardD) (λ d. l ∙ sym d)
+    (λ d.
+    let w = e .zero-sent d in
+    let same : station (w .0) c .access .sent ≡ suc n = v .in-phase (w .0) j (w .1) (omega arith) .0 ∙ sent in
+    absurd (true≢false (sym l ∙ bit j sent ∙ sym (bit (w .0) same) ∙ w .2))))
+    (λ l. l ∙ sym (e .zero-heard j (omega arith) l))
+  where
+    bit : (i : ℕ) → station i c .access .sent ≡ suc n → station i c .access .last ≡ getD flag n true
+    bit i q = v .sound i .last-bit n q ∙ image-flag (station i c .body) n h
+
+module _ (x1 x2 : ℕ) (c : Channel) (during : List Action) (h1 : 8 ≤ x1) (h2 : x1 + 2 ≤ x2) (start : Invariant x2 c) (st : Stretch x1 x2 c during) where
+  abbrev next : (t : ℕ) → suc t < length (opps x1 x2 c during) → Follows x1 x2 (at (opps x1 x2 c during) t) (at (opps x1 x2 c during) (suc t))
+  next = follows x1 x2 c during h1 h2 start st
+
+  -- a sending that has sent bit n of the flag goes on
+  flag-goes-on : (j n t : ℕ) → n < 8 → suc (suc t) < length (opps x1 x2 c during) → station j (at (opps x1 x2 c during) (suc t)) .access .sent ≡ suc n
+      → station j (at (opps x1 x2 c during) (suc (suc t))) .access .sent ≡ suc (suc n)
+  flag-goes-on j n t l h q =
+      let v = next t (omega arith) .now in
+      forth-more (next (suc t) h) j (omega arith) (flag-echoed v (echo-next (next t (omega arith))) j n q l)
+      (omega (arith, q, length-image (station j (at (opps x1 x2 c during) (suc t)) .body))) ∙ ap suc q
+
+  pub no-stop-in-flag : NoStopInFlag x1 x2 c during
+  no-stop-in-flag j p zero b l h = rw add-zero (b .idle)
+  no-stop-in-flag j p (suc zero) b l h = rw add-one (forth-begins (next p (omega arith)) j b)
+  no-stop-in-flag j p (suc (suc s)) b l h =
+      rw (add-suc p (suc s), add-suc p s)
+      (flag-goes-on j s (p + s) (omega arith) (omega arith) (rw add-suc at (no-stop-in-flag j p (suc s) b (omega arith) (omega arith))))
