@@ -14,8 +14,8 @@ use Rattle.dchannel.specs.Handing.{takenUp}
 use Rattle.contention.specs.Channel.{Station, Channel, Action, freshStation, mayHold, holding, entering, change, turnAt, hears, sendsD, step}
 use Rattle.contention.specs.Channel.Action.{hand, enter, leave, clear, opportunity}
 use Rattle.contention.specs.Stretch.{Stretch, opportunities, station, Completes, howMany}
-use Rattle.contention.specs.Claims.{at}
-use Rattle.contention.specs.ClassTwo.{holdsOne, onesHeld, onesTaken, ClassTwoFrom}
+use Rattle.contention.specs.Claims.{at, InStretches}
+use Rattle.contention.specs.ClassTwo.{holdsOne, onesHeld, onesTaken, WaitEndsClassTwo}
 use Rattle.contention.proofs.Terminal.{Outcome, outcome, completed, went-on, stopped, started, idled, outside, level}
 use Rattle.contention.proofs.InvariantKept.{length-hears, station-hears, entering-active, entering-outside}
 use Rattle.contention.proofs.Trace.{howMany-le, howMany-lt}
@@ -144,7 +144,7 @@ module _ (x1 x2 : ℕ) where
       )
   ones-spent (opportunity e bit on ∷ more) c (suc t) g st h d = ones-spent more (step x1 x2 c (opportunity e bit on)) t g (st .1) (omega arith) d
 
-pub wait-ends-class-two : ClassTwoFrom
+pub wait-ends-class-two : InStretches WaitEndsClassTwo
 unfolding level
 wait-ends-class-two x1 x2 c during h1 h2 start st n L ones i p actives images most w len =
     wait-ends-within x1 x2 c during h1 h2 start st 2 i (omega arith) (omega arith) n L actives images

@@ -5,7 +5,7 @@ use Prim.Native.Nat.{ℕ, zero, suc}
 use lib.ListN.{length}
 use Rattle.contention.specs.Channel.{Channel, Action, step}
 use Rattle.contention.specs.Stretch.{Stretch, undisturbed, opportunities}
-use Rattle.contention.specs.Claims.{start, Demand3From, Demand3}
+use Rattle.contention.specs.Claims.{InStretches, start, InLists, Demand3, Demand3From}
 use Rattle.contention.proofs.InvariantKept.{invariant-run}
 use Rattle.contention.proofs.Level.{no-rival-twice}
 use Rattle.contention.proofs.Wait.{wait-ends}
@@ -20,9 +20,12 @@ demand3-from x1 x2 c during h1 h2 start stretch =
       heard-in-order = heard-in-order x1 x2 c during h1 h2 start stretch;
     }
 
--- after any list of actions from a fresh channel
+-- what holds of every stretch from such a channel holds of every stretch of every list: a list of actions leaves the invariant
+pub in-lists : {P : (x1 x2 : ℕ) → Channel → List Action → Type 0} → InStretches P → InLists P
+in-lists h x1 x2 terminals before during h1 h2 = h x1 x2 (start x1 x2 terminals before) during h1 h2 (invariant-run x1 x2 h1 h2 terminals before)
+
 pub demand3 : Demand3
-demand3 x1 x2 terminals before during h1 h2 = demand3-from x1 x2 (start x1 x2 terminals before) during h1 h2 (invariant-run x1 x2 h1 h2 terminals before)
+demand3 = in-lists demand3-from
 
 -- Stretches of every length follow every channel, so what the claims assume can be met.
 module _ (x1 x2 : ℕ) where

@@ -1,21 +1,19 @@
 -- "No rival completes two frames of one class while an activated terminal waits at that class's normal level."
 use mathlib.Core.Bool.{true, false}
 use mathlib.Core.Path.{_≡_, sym, _∙_}
-use mathlib.Core.List.{List}
 use Prim.Native.Nat.{ℕ, zero, suc, _+_, _≤_, _<_}
 use native.Mathlib.Omega.{arith}
 use lib.Dec.{eqb, leb}
 use borrow.Author.Tests.{eqb-true, eqb-false, leb-true, leb-false}
 use Rattle.cases.proofs.ByCases.{by-test}
 use Rattle.dchannel.specs.Access.{lowOf}
-use Rattle.contention.specs.Channel.{Station, Channel, Action, hears}
-use Rattle.contention.specs.Stretch.{Stretch, station, Waits, Completes}
-use Rattle.contention.specs.Claims.{at, NoRivalTwice}
+use Rattle.contention.specs.Channel.{Station, Channel, hears}
+use Rattle.contention.specs.Stretch.{onward, station, Waits, Completes}
+use Rattle.contention.specs.Claims.{NoRivalTwice, InStretches}
 use Rattle.contention.specs.Invariant.{Invariant}
 use Rattle.contention.proofs.Terminal.{active-after, level, level-least, threshold-low, threshold-of, low-stays, completed-low}
 use Rattle.contention.proofs.InvariantKept.{going, starting, Quiet, count-up}
 use Rattle.contention.proofs.Trace.{onward-station, echo-onward, sender-kept, opp, many, invariant-at, invariant-past, quiet-at}
-use Rattle.contention.specs.Stretch.{onward}
 use Rattle.contention.proofs.Waiting.{outcome-at, SenderAt, sender-at, completed-at, completes-zero, zero-counts, waits-class, waits-hears, waits-quiet, sending-count, idle-below, first-stays, first-zero, low-quiet}
 
 -- While i waits in class k after a completion of its rival j in that class: i is the first to reach the level, and j is low.
@@ -124,33 +122,32 @@ module _ (x1 x2 k i j : ℕ) (k1 : 1 ≤ k) where
       }
 
 -- "no rival completes two frames of one class while an activated terminal waits at that class's normal level"
-module _ (x1 x2 : ℕ) (c : Channel) (during : List Action) (h1 : 8 ≤ x1) (h2 : x1 + 2 ≤ x2) (start : Invariant x2 c) (st : Stretch x1 x2 c during) where
-  pub no-rival-twice : NoRivalTwice x1 x2 c during
-  no-rival-twice i j k p q ne k1 pq len done-p done-q waits open-frame =
-      let r = completed-at x1 x2 (o q) (inv q len) k j k1 done-q in
-      ahead q pq (omega arith) .rival-barred (r .sending) (sym (r .done-now) ∙ done-q .done)
-    where
-      o : ℕ → Channel
-      o t = opp x1 x2 c during h1 h2 start st t
+pub no-rival-twice : InStretches NoRivalTwice
+no-rival-twice x1 x2 c during h1 h2 start st i j k p q ne k1 pq len done-p done-q waits open-frame =
+    let r = completed-at x1 x2 (o q) (inv q len) k j k1 done-q in
+    ahead q pq (omega arith) .rival-barred (r .sending) (sym (r .done-now) ∙ done-q .done)
+  where
+    o : ℕ → Channel
+    o t = opp x1 x2 c during h1 h2 start st t
 
-      inv : (t : ℕ) → t < many x1 x2 c during h1 h2 start st → Invariant x2 (o t)
-      inv = invariant-at x1 x2 c during h1 h2 start st
+    inv : (t : ℕ) → t < many x1 x2 c during h1 h2 start st → Invariant x2 (o t)
+    inv = invariant-at x1 x2 c during h1 h2 start st
 
-      next-inv : (t : ℕ) → t < many x1 x2 c during h1 h2 start st → Invariant x2 (onward x1 x2 (o t))
-      next-inv = invariant-past x1 x2 c during h1 h2 start st
+    next-inv : (t : ℕ) → t < many x1 x2 c during h1 h2 start st → Invariant x2 (onward x1 x2 (o t))
+    next-inv = invariant-past x1 x2 c during h1 h2 start st
 
-      later-on : (t : ℕ) → suc t < many x1 x2 c during h1 h2 start st → Ahead x1 x2 k i j (onward x1 x2 (o t)) → Ahead x1 x2 k i j (o (suc t))
-      later-on t h a =
-          ahead-quiet x1 x2 k i j k1 (onward x1 x2 (o t)) (o (suc t)) (next-inv t (omega arith))
-          (quiet-at x1 x2 c during h1 h2 start st t h) a
+    later-on : (t : ℕ) → suc t < many x1 x2 c during h1 h2 start st → Ahead x1 x2 k i j (onward x1 x2 (o t)) → Ahead x1 x2 k i j (o (suc t))
+    later-on t h a =
+        ahead-quiet x1 x2 k i j k1 (onward x1 x2 (o t)) (o (suc t)) (next-inv t (omega arith))
+        (quiet-at x1 x2 c during h1 h2 start st t h) a
 
-      ahead : (t : ℕ) → p < t → t ≤ q → Ahead x1 x2 k i j (o t)
-      ahead zero l m = absurd (omega arith)
-      ahead (suc t) l m =
-          by-test (eqb t p)
-          (λ e. later-on t (omega arith)
-          (rw (eqb-true t p e)
-          (ahead-begins x1 x2 h1 h2 k i j k1 (o p) (inv p (omega arith)) (next-inv p (omega arith)) done-p (waits p (omega arith) (omega arith)) (open-frame p (omega arith) (omega arith)))))
-          (λ e. later-on t (omega arith)
-          (ahead-onward x1 x2 h1 h2 k i j k1 (o t) (inv t (omega arith)) (next-inv t (omega arith)) (ahead t (omega (arith, eqb-false t p e)) (omega arith))
-          (open-frame t (omega arith) (omega arith))))
+    ahead : (t : ℕ) → p < t → t ≤ q → Ahead x1 x2 k i j (o t)
+    ahead zero l m = absurd (omega arith)
+    ahead (suc t) l m =
+        by-test (eqb t p)
+        (λ e. later-on t (omega arith)
+        (rw (eqb-true t p e)
+        (ahead-begins x1 x2 h1 h2 k i j k1 (o p) (inv p (omega arith)) (next-inv p (omega arith)) done-p (waits p (omega arith) (omega arith)) (open-frame p (omega arith) (omega arith)))))
+        (λ e. later-on t (omega arith)
+        (ahead-onward x1 x2 h1 h2 k i j k1 (o t) (inv t (omega arith)) (next-inv t (omega arith)) (ahead t (omega (arith, eqb-false t p e)) (omega arith))
+        (open-frame t (omega arith) (omega arith))))

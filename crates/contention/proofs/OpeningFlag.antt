@@ -1,6 +1,6 @@
 -- No sending stops inside its opening flag: all that send have sent equally many bits of the same flag, so their echo agrees.
-use mathlib.Core.Bool.{Bool, true, false, true≢false}
-use mathlib.Core.Path.{_≡_, refl, sym, ap, _∙_}
+use mathlib.Core.Bool.{true, true≢false}
+use mathlib.Core.Path.{_≡_, sym, ap, _∙_}
 use mathlib.Core.List.{List, _++_}
 use Prim.Native.Nat.{ℕ, zero, suc, _+_, _≤_, _<_}
 use native.Mathlib.Nat.{add-zero, add-suc}
@@ -12,8 +12,8 @@ use Rattle.hdlc.specs.Image.{flag, stuff, image}
 use Rattle.hdlc.proofs.ImageLaws.{length-image}
 use Rattle.cases.proofs.ByCases.{by-test}
 use Rattle.contention.specs.Channel.{Channel, Action}
-use Rattle.contention.specs.Stretch.{Stretch, station, Begins}
-use Rattle.contention.specs.Claims.{at, opps, NoStopInFlag}
+use Rattle.contention.specs.Stretch.{Stretch, station}
+use Rattle.contention.specs.Claims.{at, opps, NoStopInFlag, InStretches}
 use Rattle.contention.specs.Invariant.{Invariant}
 use Rattle.contention.proofs.Trace.{Echo}
 use Rattle.contention.proofs.HeardNext.{Follows, follows}
@@ -51,9 +51,13 @@ module _ (x1 x2 : ℕ) (c : Channel) (during : List Action) (h1 : 8 ≤ x1) (h2 
       forth-more (next (suc t) h) j (omega arith) (flag-echoed v (echo-next (next t (omega arith))) j n q l)
       (omega (arith, q, length-image (station j (at (opps x1 x2 c during) (suc t)) .body))) ∙ ap suc q
 
-  pub no-stop-in-flag : NoStopInFlag x1 x2 c during
-  no-stop-in-flag j p zero b l h = rw add-zero (b .idle)
-  no-stop-in-flag j p (suc zero) b l h = rw add-one (forth-begins (next p (omega arith)) j b)
-  no-stop-in-flag j p (suc (suc s)) b l h =
+  -- so it has sent s bits at opportunity p + s
+  sent-so-far : NoStopInFlag x1 x2 c during
+  sent-so-far j p zero b l h = rw add-zero (b .idle)
+  sent-so-far j p (suc zero) b l h = rw add-one (forth-begins (next p (omega arith)) j b)
+  sent-so-far j p (suc (suc s)) b l h =
       rw (add-suc p (suc s), add-suc p s)
-      (flag-goes-on j s (p + s) (omega arith) (omega arith) (rw add-suc at (no-stop-in-flag j p (suc s) b (omega arith) (omega arith))))
+      (flag-goes-on j s (p + s) (omega arith) (omega arith) (rw add-suc at (sent-so-far j p (suc s) b (omega arith) (omega arith))))
+
+pub no-stop-in-flag : InStretches NoStopInFlag
+no-stop-in-flag = sent-so-far

@@ -13,9 +13,9 @@ use lib.ListN.{length}
 use borrow.Author.Tests.{eqb-true, eqb-false, leb-true, leb-false}
 use Rattle.cases.proofs.ByCases.{by-test}
 use Rattle.dchannel.specs.Access.{lowOf, threshold, countAfter}
-use Rattle.contention.specs.Channel.{Station, Channel, Action, turnAt, hears, sendsD, step, run}
+use Rattle.contention.specs.Channel.{Station, Channel, Action, turnAt, hears, sendsD, run}
 use Rattle.contention.specs.Stretch.{Stretch, onward, station, Waits, Completes, howMany, activeCount, ImagesAtMost}
-use Rattle.contention.specs.Claims.{at, waitBound, CompletedWithin, WaitEnds}
+use Rattle.contention.specs.Claims.{at, waitBound, CompletedWithin, WaitEnds, InStretches}
 use Rattle.contention.specs.Invariant.{Invariant}
 use Rattle.contention.proofs.Terminal.{Outcome, completed, went-on, stopped, started, idled, outside, active-after, body-after, count-after, count-one, count-full, count-some, level, level-least, level-most, threshold-least, threshold-low, threshold-of, low-stays, normal-stays, completed-low}
 use Rattle.contention.proofs.InvariantKept.{and-true, going, starting, Quiet, count-up, length-hears}
@@ -556,7 +556,7 @@ module _ (x1 x2 : ℕ) (c : Channel) (during : List Action) (h1 : 8 ≤ x1) (h2 
 
 -- "In class 1, if the stretch lasts that long, a frame so waiting is completed within (n + 1) times (L + 8) D opportunities, counted
 -- from the first of the stretch at which it so waits"
-pub wait-ends : (x1 x2 : ℕ) (c : Channel) (during : List Action) → 8 ≤ x1 → x1 + 2 ≤ x2 → Invariant x2 c → Stretch x1 x2 c during → WaitEnds x1 x2 c during
+pub wait-ends : InStretches WaitEnds
 unfolding level
 wait-ends x1 x2 c during h1 h2 start st n L i p actives images w len =
     rw add-zero at

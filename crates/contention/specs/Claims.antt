@@ -95,18 +95,24 @@ module _ (x1 x2 : ℕ) (c : Channel) (during : List Action) where
     pub wait-ends : WaitEnds
     pub heard-in-order : HeardInOrder
 
--- Demand 3 from any channel that satisfies the invariant, for every stretch from it and all levels with 8 ≤ x1 and x1 + 2 ≤ x2.
-abbrev pub Demand3From : Type 0
-Demand3From =
-    (x1 x2 : ℕ) (c : Channel) (during : List Action) → 8 ≤ x1 → x1 + 2 ≤ x2 →
-    Invariant x2 c → Stretch x1 x2 c during → ThreeParts x1 x2 c during
+-- what holds of every stretch from every channel that satisfies the invariant, for all levels with 8 ≤ x1 and x1 + 2 ≤ x2 ..
+abbrev pub InStretches : ((x1 x2 : ℕ) → Channel → List Action → Type 0) → Type 0
+InStretches P =
+    (x1 x2 : ℕ) (c : Channel) (during : List Action) → 8 ≤ x1 → x1 + 2 ≤ x2 → Invariant x2 c → Stretch x1 x2 c during → P x1 x2 c during
 
--- the channel after a list of actions from a fresh one, where a stretch of the list may start
+-- the channel where a stretch of a list starts, from a fresh one
 abbrev pub start : ℕ → ℕ → ℕ → List Action → Channel
 start x1 x2 terminals before = run x1 x2 (freshChannel terminals) before
 
--- Demand 3 for every list of actions from a fresh channel of any number of terminals, and every stretch of it.
-abbrev pub Demand3 : Type 0
-Demand3 =
+-- .. and so of every stretch of every list of actions from a fresh channel with any number of terminals
+abbrev pub InLists : ((x1 x2 : ℕ) → Channel → List Action → Type 0) → Type 0
+InLists P =
     (x1 x2 terminals : ℕ) (before during : List Action) → 8 ≤ x1 → x1 + 2 ≤ x2 →
-    Stretch x1 x2 (start x1 x2 terminals before) during → ThreeParts x1 x2 (start x1 x2 terminals before) during
+    Stretch x1 x2 (start x1 x2 terminals before) during → P x1 x2 (start x1 x2 terminals before) during
+
+-- Demand 3 for the D channel, and the same from any channel that satisfies the invariant (one restored: document 02, 2.10).
+abbrev pub Demand3 : Type 0
+Demand3 = InLists ThreeParts
+
+abbrev pub Demand3From : Type 0
+Demand3From = InStretches ThreeParts

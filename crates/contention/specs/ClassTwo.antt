@@ -6,8 +6,7 @@ use lib.Dec.{eqb}
 use lib.ListN.{length}
 use Rattle.contention.specs.Channel.{Station, Channel, Action, mayHold, step, run}
 use Rattle.contention.specs.Channel.Action.{hand, enter, leave, clear, opportunity}
-use Rattle.contention.specs.Stretch.{Stretch, station, Waits, howMany, activeCount, ImagesAtMost}
-use Rattle.contention.specs.Invariant.{Invariant}
+use Rattle.contention.specs.Stretch.{station, Waits, howMany, activeCount, ImagesAtMost}
 use Rattle.contention.specs.Claims.{at, waitBound, opps, CompletedWithin}
 
 -- a class 1 frame is held
@@ -39,9 +38,3 @@ module _ (x1 x2 : ℕ) where
       Waits 2 i (at (opps x1 x2 c during) p) →
       p + waitBound (n + ones) L x2 ≤ length (opps x1 x2 c during) →
       CompletedWithin x1 x2 c during 2 i p (waitBound (n + ones) L x2)
-
--- from any channel that satisfies the invariant, as demand 3
-abbrev pub ClassTwoFrom : Type 0
-ClassTwoFrom =
-    (x1 x2 : ℕ) (c : Channel) (during : List Action) → 8 ≤ x1 → x1 + 2 ≤ x2 →
-    Invariant x2 c → Stretch x1 x2 c during → WaitEndsClassTwo x1 x2 c during
