@@ -16,27 +16,12 @@ use Rattle.hdlc.specs.Image.{image, isBody}
 use Rattle.hdlc.proofs.ImageLaws.{length-image, image-starts, image-endingOnes}
 use Rattle.dchannel.specs.Access.{entered, countAfter, lowOf}
 use Rattle.dchannel.specs.Handing.{takenUp, left}
-use Rattle.contention.specs.Channel.{Station, Channel, Action, freshStation, freshChannel, change, mayHold, holding, entering, leaving, nextBit, turnAt, hears, sendsD, step, run}
+use Rattle.contention.specs.Channel.{Station, Channel, Action, freshStation, freshChannel, mayHold, holding, entering, leaving, nextBit, turnAt, hears, sendsD, step, run}
 use Rattle.contention.specs.Channel.Action.{hand, enter, leave, clear, opportunity}
 use Rattle.contention.specs.Stretch.{station}
 use Rattle.contention.specs.Invariant.{Sound, Invariant}
+use Rattle.contention.proofs.Change.{change-each, length-change}
 use Rattle.contention.proofs.Terminal.{Outcome, outcome, WentOn, Started, completed, went-on, stopped, started, idled, outside, hears-outside, active-after, body-after, count-after, count-most, count-step, count-zero, threshold-least, level-least}
-
--- a station of a changed list is as it was, or changed
-pub change-each : (f : Station → Station) (P : Station → Station → Type 0) → ((s : Station) → P s s) → ((s : Station) → P s (f s))
-    → (i : ℕ) (ss : List Station) (j : ℕ) → P (getD ss j freshStation) (getD (change f i ss) j freshStation)
-unfolding change
-change-each f P same-as changed i [] j = same-as freshStation
-change-each f P same-as changed zero (s ∷ ss) zero = changed s
-change-each f P same-as changed zero (s ∷ ss) (suc j) = same-as (getD ss j freshStation)
-change-each f P same-as changed (suc i) (s ∷ ss) zero = same-as s
-change-each f P same-as changed (suc i) (s ∷ ss) (suc j) = change-each f P same-as changed i ss j
-
-pub length-change : (f : Station → Station) (i : ℕ) (ss : List Station) → length (change f i ss) ≡ length ss
-unfolding change
-length-change f i [] = refl
-length-change f zero (s ∷ ss) = refl
-length-change f (suc i) (s ∷ ss) = ap suc (length-change f i ss)
 
 module _ (x1 x2 : ℕ) where
   -- every terminal hears the E of an opportunity
@@ -322,7 +307,7 @@ module _ (x1 x2 : ℕ) where
       record {
         heard-same = refl;
         as-many = length-change (holding k body) i (c .stations);
-        each = λ j. change-each (holding k body) (λ s s′. Sound x2 s → Quietly s s′) (λ s _. quietly-same s) (λ s. quietly-holding x2 k body s) i (c .stations) j (inv .sound j);
+        each = λ j. change-each (holding k body) freshStation (λ s s′. Sound x2 s → Quietly s s′) (λ s _. quietly-same s) (λ s. quietly-holding x2 k body s) i (c .stations) j (inv .sound j);
       }
 
   pub quiet-enter : (c : Channel) (i : ℕ) → Invariant x2 c → Quiet c (step x1 x2 c (enter i))
@@ -331,7 +316,7 @@ module _ (x1 x2 : ℕ) where
       record {
         heard-same = refl;
         as-many = length-change entering i (c .stations);
-        each = λ j. change-each entering (λ s s′. Sound x2 s → Quietly s s′) (λ s _. quietly-same s) (λ s. quietly-entering x2 s) i (c .stations) j (inv .sound j);
+        each = λ j. change-each entering freshStation (λ s s′. Sound x2 s → Quietly s s′) (λ s _. quietly-same s) (λ s. quietly-entering x2 s) i (c .stations) j (inv .sound j);
       }
 
   quiet-less : (c c′ : Channel) → Invariant x2 c → Quiet c c′ → (i : ℕ) → Less (station i c) (station i c′)
@@ -341,22 +326,22 @@ module _ (x1 x2 : ℕ) where
   unfolding step station
   invariant-hand c i k body inv =
       less-kept x2 c (step x1 x2 c (hand i k body)) inv
-      (λ j. change-each (holding k body) (λ s s′. Sound x2 s → Sound x2 s′) (λ s h. h) (λ s. sound-holding x2 k body s) i (c .stations) j (inv .sound j))
+      (λ j. change-each (holding k body) freshStation (λ s s′. Sound x2 s → Sound x2 s′) (λ s h. h) (λ s. sound-holding x2 k body s) i (c .stations) j (inv .sound j))
       (quiet-less c (step x1 x2 c (hand i k body)) inv (quiet-hand c i k body inv))
 
   invariant-enter : (c : Channel) (i : ℕ) → Invariant x2 c → Invariant x2 (step x1 x2 c (enter i))
   unfolding step station
   invariant-enter c i inv =
       less-kept x2 c (step x1 x2 c (enter i)) inv
-      (λ j. change-each entering (λ s s′. Sound x2 s → Sound x2 s′) (λ s h. h) (λ s. sound-entering x2 s) i (c .stations) j (inv .sound j))
+      (λ j. change-each entering freshStation (λ s s′. Sound x2 s → Sound x2 s′) (λ s h. h) (λ s. sound-entering x2 s) i (c .stations) j (inv .sound j))
       (quiet-less c (step x1 x2 c (enter i)) inv (quiet-enter c i inv))
 
   invariant-leave : (c : Channel) (i : ℕ) → Invariant x2 c → Invariant x2 (step x1 x2 c (leave i))
   unfolding step station
   invariant-leave c i inv =
       less-kept x2 c (step x1 x2 c (leave i)) inv
-      (λ j. change-each leaving (λ s s′. Sound x2 s → Sound x2 s′) (λ s h. h) (λ s h. sound-leaving x2 s) i (c .stations) j (inv .sound j))
-      (λ j. change-each leaving Less (λ s. record { count-less = omega arith; sending-same = λ _. (refl, refl) }) less-leaving i (c .stations) j)
+      (λ j. change-each leaving freshStation (λ s s′. Sound x2 s → Sound x2 s′) (λ s h. h) (λ s h. sound-leaving x2 s) i (c .stations) j (inv .sound j))
+      (λ j. change-each leaving freshStation Less (λ s. record { count-less = omega arith; sending-same = λ _. (refl, refl) }) less-leaving i (c .stations) j)
 
   invariant-clear : (c : Channel) → Invariant x2 c → Invariant x2 (step x1 x2 c clear)
   unfolding step station

@@ -1,5 +1,6 @@
 -- Demand 3 for the D channel: one terminal's opportunity (Terminal), the invariant (InvariantKept), from one opportunity to the next
 -- (Trace, Waiting), no rival twice (Level), the wait (Wait, ClassTwo), what is heard (Heard..), all together (Demand3).
+pub mod Change
 pub mod Terminal
 pub mod InvariantKept
 pub mod Trace
@@ -13,4 +14,5 @@ pub mod HeardPhase
 pub mod HeardInOrder
 pub mod OpeningFlag
 pub mod WholeList
+pub mod Crossing
 pub mod Demand3

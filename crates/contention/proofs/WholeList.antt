@@ -6,7 +6,7 @@ use mathlib.Core.Path.{_≡_, refl, ap}
 use Prim.Native.Nat.{ℕ}
 use Rattle.contention.specs.Channel.{Channel, Action, step, run}
 use Rattle.contention.specs.Channel.Action.{hand, enter, leave, clear, opportunity}
-use Rattle.contention.specs.Stretch.{opportunities}
+use Rattle.contention.specs.Stretch.{Stretch, opportunities}
 
 module _ (x1 x2 : ℕ) where
   pub run-append : (c : Channel) (xs bs : List Action) → run x1 x2 c (xs ++ bs) ≡ run x1 x2 (run x1 x2 c xs) bs
@@ -31,3 +31,9 @@ module _ (x1 x2 : ℕ) where
       ++ (opportunities x1 x2 (run x1 x2 c before) during ++ opportunities x1 x2 (run x1 x2 (run x1 x2 c before) during) after)
   stretch-in-list c before during after =
       rw (opportunities-append c before (during ++ after), opportunities-append (run x1 x2 c before) during after)
+
+  -- two stretches, the second from where the first leaves the channel
+  pub stretch-append : (c : Channel) (xs bs : List Action) → Stretch x1 x2 c xs → Stretch x1 x2 (run x1 x2 c xs) bs → Stretch x1 x2 c (xs ++ bs)
+  unfolding Stretch run
+  stretch-append c [] bs p q = q
+  stretch-append c (a ∷ more) bs p q = (p .0, stretch-append (step x1 x2 c a) more bs (p .1) q)

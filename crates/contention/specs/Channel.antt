@@ -37,11 +37,11 @@ pub data Action : Type 0 where
   -- reads D (in G3)
   opportunity : Bool → Bool → Bool → Action
 
--- the terminal at an index changed
-unfoldable pub change : (Station → Station) → ℕ → List Station → List Station
+-- the one at an index changed
+unfoldable pub change : {A : Type 0} → (A → A) → ℕ → List A → List A
 change f i [] = []
-change f zero (s ∷ ss) = f s ∷ ss
-change f (suc i) (s ∷ ss) = s ∷ change f i ss
+change f zero (x ∷ xs) = f x ∷ xs
+change f (suc i) (x ∷ xs) = x ∷ change f i xs
 
 -- a frame is taken by a terminal in F7 that holds none, for class 1 or 2, if it is a body (refusals 6 to 8); else nothing changes
 unfoldable pub mayHold : ℕ → List ℕ → Station → Bool
@@ -70,6 +70,10 @@ leaving s = record { active = false; access = left (s .access) .access; body = s
 unfoldable pub nextBit : Station → Bool
 nextBit s = getD (image (s .body)) (s .access .sent) true
 
+-- a channel with these terminals
+abbrev pub withStations : Channel → List Station → Channel
+withStations c ss = record { stations = ss; heardD = c .heardD; reading = c .reading }
+
 module _ (x1 x2 : ℕ) where
   -- what an opportunity gives for one terminal
   unfoldable pub turnAt : Bool → Station → Turn
@@ -89,9 +93,9 @@ module _ (x1 x2 : ℕ) where
   combinedD e (s ∷ ss) = cond (sendsD e s) (combinedD e ss) false
 
   unfoldable pub step : Channel → Action → Channel
-  step c (hand i k body) = record { stations = change (holding k body) i (c .stations); heardD = c .heardD; reading = c .reading }
-  step c (enter i) = record { stations = change entering i (c .stations); heardD = c .heardD; reading = c .reading }
-  step c (leave i) = record { stations = change leaving i (c .stations); heardD = c .heardD; reading = c .reading }
+  step c (hand i k body) = withStations c (change (holding k body) i (c .stations))
+  step c (enter i) = withStations c (change entering i (c .stations))
+  step c (leave i) = withStations c (change leaving i (c .stations))
   step c clear = record { stations = c .stations; heardD = c .heardD; reading = cleared }
   step c (opportunity e bit on) =
       record {

@@ -1,0 +1,110 @@
+-- What the steps of a bus leave of the channel; that they are calm where nobody leaves F7 and the network end stays in G3; and that they
+-- have no D opportunity. Also the terminals of a channel that is made from another list.
+use mathlib.Core.Bool.{Bool, true, false, cond, true≢false}
+use mathlib.Core.Path.{_≡_, refl, sym, ap, _∙_}
+use mathlib.Core.List.{List, [], _∷_, _++_, map, append-assoc}
+use Prim.Native.Nat.{ℕ, suc}
+use native.Mathlib.Numerals.{add-one}
+use lib.ListN.{length, getD, length-append, List·getD-map}
+use Rattle.hdlc.specs.Reading.{cleared}
+use Rattle.contention.specs.Channel.{Station, Channel, freshStation, change, withStations, step, run}
+use Rattle.contention.specs.Stretch.{Stretch, opportunities, station}
+use Rattle.contention.specs.Crossing.{crossing, crossed, crossings, clearing}
+use Rattle.contention.proofs.Change.{change-at, change-same}
+use Rattle.contention.proofs.WholeList.{run-append, opportunities-append, stretch-append}
+
+-- the terminal at an index, where the terminals are made from a list; d makes a fresh one
+pub station-map : {A : Type 0} (f : A → Station) (d : A) → f d ≡ freshStation → (c : Channel) (xs : List A) → c .stations ≡ map f xs → (i : ℕ)
+    → station i c ≡ f (getD xs i d)
+unfolding station
+station-map f d e c xs s i = rw (s, ← e) (List·getD-map f xs i d)
+
+module _ (x1 x2 : ℕ) where
+  -- ---- one terminal
+
+  pub run-crossing : (was is : Bool) (i : ℕ) (c : Channel) → run x1 x2 c (crossing i was is) ≡ withStations c (change (crossed was is) i (c .stations))
+  unfolding crossing run step
+  run-crossing true true i c = rw (change-same i (c .stations))
+  run-crossing true false i c = refl
+  run-crossing false true i c = refl
+  run-crossing false false i c = rw (change-same i (c .stations))
+
+  pub crossing-calm : (c : Channel) (i : ℕ) (was is : Bool) → (was ≡ true → is ≡ true) → Stretch x1 x2 c (crossing i was is)
+  unfolding Stretch crossing
+  crossing-calm c i true true h = tt
+  crossing-calm c i true false h = absurd (true≢false (sym (h refl)))
+  crossing-calm c i false true h = (tt, tt)
+  crossing-calm c i false false h = tt
+
+  pub crossing-none : (c : Channel) (i : ℕ) (was is : Bool) → opportunities x1 x2 c (crossing i was is) ≡ []
+  unfolding opportunities crossing
+  crossing-none c i true true = refl
+  crossing-none c i true false = refl
+  crossing-none c i false true = refl
+  crossing-none c i false false = refl
+
+  -- ---- the network end
+
+  pub run-clearing : (was is : Bool) (c : Channel)
+      → run x1 x2 c (clearing was is) ≡ record { stations = c .stations; heardD = c .heardD; reading = cond was (cond is (c .reading) cleared) (c .reading) }
+  unfolding clearing run step
+  run-clearing true true c = refl
+  run-clearing true false c = refl
+  run-clearing false is c = refl
+
+  pub clearing-calm : (c : Channel) (was is : Bool) → is ≡ true → Stretch x1 x2 c (clearing was is)
+  unfolding Stretch clearing
+  clearing-calm c true true h = tt
+  clearing-calm c true false h = absurd (true≢false (sym h))
+  clearing-calm c false is h = tt
+
+  pub clearing-none : (c : Channel) (was is : Bool) → opportunities x1 x2 c (clearing was is) ≡ []
+  unfolding opportunities clearing
+  clearing-none c true true = refl
+  clearing-none c true false = refl
+  clearing-none c false is = refl
+
+  -- ---- all terminals
+
+  module _ {A : Type 0} (was is : A → Station) where
+    -- each one's step is an entry into F7, a leave, or nothing to the channel
+    module _ (each : (x : A) → is x ≡ crossed (was x .active) (is x .active) (was x)) where
+      first-crosses : (x : A) (xs : List A) (pre : List Station) (c : Channel) → c .stations ≡ pre ++ (was x ∷ map was xs)
+          → run x1 x2 c (crossing (length pre) (was x .active) (is x .active)) ≡ withStations c (pre ++ (is x ∷ map was xs))
+      first-crosses x xs pre c e =
+          run-crossing (was x .active) (is x .active) (length pre) c
+          ∙ ap (withStations c)
+          (ap (change (crossed (was x .active) (is x .active)) (length pre)) e
+          ∙ change-at (crossed (was x .active) (is x .active)) pre (was x) (map was xs)
+          ∙ ap (λ (s : Station). pre ++ (s ∷ map was xs)) (sym (each x)))
+
+      -- `pre` are those that have taken it
+      run-crossings-from : (xs : List A) (pre : List Station) (i : ℕ) → length pre ≡ i → (c : Channel) → c .stations ≡ pre ++ map was xs
+          → run x1 x2 c (crossings was is i xs) ≡ withStations c (pre ++ map is xs)
+      unfolding crossings run
+      run-crossings-from [] pre i l c e = ap (withStations c) e
+      run-crossings-from (x ∷ xs) pre i l c e =
+          run-append x1 x2 c (crossing i (was x .active) (is x .active)) (crossings was is (suc i) xs)
+          ∙ ap (λ (c′ : Channel). run x1 x2 c′ (crossings was is (suc i) xs)) (rw (← l) (first-crosses x xs pre c e))
+          ∙ run-crossings-from xs (pre ++ (is x ∷ [])) (suc i) (simp (length-append, add-one) (ap suc l)) (withStations c (pre ++ (is x ∷ map was xs)))
+          (sym (append-assoc pre (is x ∷ []) (map was xs)))
+          ∙ ap (withStations c) (append-assoc pre (is x ∷ []) (map is xs))
+
+      pub run-crossings : (xs : List A) (c : Channel) → c .stations ≡ map was xs → run x1 x2 c (crossings was is 0 xs) ≡ withStations c (map is xs)
+      run-crossings xs c e = run-crossings-from xs [] 0 refl c e
+
+    -- d stands for what is past the list
+    pub crossings-calm : (d : A) (xs : List A) (c : Channel) (i : ℕ) → ((j : ℕ) → was (getD xs j d) .active ≡ true → is (getD xs j d) .active ≡ true)
+        → Stretch x1 x2 c (crossings was is i xs)
+    unfolding Stretch crossings
+    crossings-calm d [] c i h = tt
+    crossings-calm d (x ∷ xs) c i h =
+        stretch-append x1 x2 c (crossing i (was x .active) (is x .active)) (crossings was is (suc i) xs)
+        (crossing-calm c i (was x .active) (is x .active) (h 0)) (crossings-calm d xs _ (suc i) (λ j. h (suc j)))
+
+    pub crossings-none : (xs : List A) (c : Channel) (i : ℕ) → opportunities x1 x2 c (crossings was is i xs) ≡ []
+    unfolding opportunities crossings
+    crossings-none [] c i = refl
+    crossings-none (x ∷ xs) c i =
+        rw (opportunities-append x1 x2 c (crossing i (was x .active) (is x .active)) (crossings was is (suc i) xs), crossing-none c i (was x .active) (is x .active))
+        (crossings-none xs (run x1 x2 c (crossing i (was x .active) (is x .active))) (suc i))
