@@ -2,9 +2,9 @@
 use super::print::number;
 use super::print::say;
 use activation::network::Network;
-use line::fields::Four;
-use line::info::info1;
-use line::info::info3;
+use frame::fields::Four;
+use info::info::info1;
+use info::info::info3;
 use period::alignment::Alignment;
 use period::counts::Periods;
 use period::hearing::Upward;

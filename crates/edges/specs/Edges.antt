@@ -5,9 +5,9 @@ use mathlib.Core.List.{List, [], _∷_, _++_}
 use Prim.Native.Nat.{ℕ, zero, suc, _+_}
 use lib.Dec.{eqb}
 use lib.ListN.{length, getD, replicate}
-use Rattle.line.specs.Symbols.{none, plus, minus, same}
-use Rattle.line.specs.Framed.{firstPulse, framedIn, framedUp, hasPulse}
-use Rattle.line.specs.Info.{info0, info1}
+use Rattle.symbols.specs.Symbols.{none, plus, minus, sameSymbols}
+use Rattle.info.specs.Framed.{firstPulse, framedIn, framedUp, hasPulse}
+use Rattle.info.specs.Info.{info0, info1}
 use Rattle.hdlc.specs.Bits.{lowBits, bodyBits}
 use Rattle.hdlc.specs.Image.{flag, stuff, image}
 use Rattle.dchannel.specs.Access.{normal1, normal2, countAfter, lowAfter, afterE, lowOf, threshold, mayStart, sendsNext, stops, completes, idles, turn}
@@ -82,7 +82,7 @@ edges =
     ∷ not (starts 2 true 10)
     ∷ starts 2 true 11
     -- Bodies 00 and 01 started together: 00 is completed, and at that opportunity 01 is not.
-    ∷ same first00 (1 ∷ 0 ∷ [])
+    ∷ sameSymbols first00 (1 ∷ 0 ∷ [])
     -- INFO 1 is not framed. First pulse upward at 14 minus: framed; at 15: not.
     ∷ not (framedUp info1)
     ∷ framedUp (pulseAt 11 34)
@@ -98,5 +98,5 @@ all [] = true
 all (b ∷ bs) = cond b (all bs) false
 
 pub edges-hold : all edges ≡ true
-unfolding edges image stuff bodyBits lowBits mayStart threshold lowOf turn afterE countAfter lowAfter sendsNext stops completes idles same framedIn firstPulse hasPulse shownUp network.heard network.ready network.networkInRange network.heardAs network.andThen network.happens network.acts network.moved network.alignedBy lossUp heardUp followed alignmentInRange noted cellIn timerAfter due terminal.timerDue terminal.ready terminal.terminalInRange terminal.happens terminal.acts terminal.noTimer accessInRange heldInRange lastInRange
+unfolding edges image stuff bodyBits lowBits mayStart threshold lowOf turn afterE countAfter lowAfter sendsNext stops completes idles sameSymbols framedIn firstPulse hasPulse shownUp network.heard network.ready network.networkInRange network.heardAs network.andThen network.happens network.acts network.moved network.alignedBy lossUp heardUp followed alignmentInRange noted cellIn timerAfter due terminal.timerDue terminal.ready terminal.terminalInRange terminal.happens terminal.acts terminal.noTimer accessInRange heldInRange lastInRange
 edges-hold = refl

@@ -1,23 +1,32 @@
 // Prints the INFO lines and some written frames as rows of `+`, `-` and `0`, beside a row that names the field at each position: `1`
 // for B1, `2` for B2, `f` for FA.
+use combining::combine::LINES_LENGTH;
+use combining::combine::TERMINALS;
+use combining::combine::combine;
+use combining::hit::KEEP_LETTER;
+use combining::hit::NONE_LETTER;
+use combining::hit::PLUS_LETTER;
+use combining::hit::apply_hit;
+use frame::fields::DownFields;
+use frame::fields::Four;
+use frame::fields::UpFields;
+use frame::write::write_down;
+use frame::write::write_up;
+use info::info::info0;
+use info::info::info1;
+use info::info::info2;
+use info::info::info3;
+use info::info::info4;
 use libc::STDOUT_FILENO;
-use line::combine::combine;
-use line::fields::DownFields;
-use line::fields::Four;
-use line::fields::UpFields;
-use line::hit::apply_hit;
-use line::info::info0;
-use line::info::info1;
-use line::info::info2;
-use line::info::info3;
-use line::info::info4;
-use line::write::write_down;
-use line::write::write_up;
+use symbols::LINE_LENGTH;
+use symbols::MINUS;
+use symbols::NONE;
+use symbols::PLUS;
 
 fn letter(s: u8) -> u8 {
-    if s == 1 {
+    if s == PLUS {
         b'+'
-    } else if s == 2 {
+    } else if s == MINUS {
         b'-'
     } else {
         b'0'
@@ -51,7 +60,7 @@ fn four(first: bool, second: bool, third: bool, fourth: bool) -> Four {
 }
 
 fn infos() {
-    let mut line = [0u8; 48];
+    let mut line = [NONE; LINE_LENGTH];
     info0(&mut line);
     show(b"INFO 0           ", &mut line);
     info1(&mut line);
@@ -70,7 +79,7 @@ fn infos() {
 
 // Frames with other B octets. FA at 1 makes N 0.
 fn frames() {
-    let mut line = [0u8; 48];
+    let mut line = [NONE; LINE_LENGTH];
     let down = DownFields {
         b1first: 0xa5,
         b2first: 0x0f,
@@ -98,9 +107,9 @@ fn frames() {
 
 // Puts INFO 3 with the D bits d in the place of terminal n among the eight lines.
 fn put(lines: &mut [u8], n: usize, d: Four) {
-    if n < 8 {
-        let from = n * 48;
-        let to = from + 48;
+    if n < TERMINALS {
+        let from = n * LINE_LENGTH;
+        let to = from + LINE_LENGTH;
         if to <= lines.len() {
             info3(d, &mut lines[from..to]);
         }
@@ -108,17 +117,17 @@ fn put(lines: &mut [u8], n: usize, d: Four) {
 }
 
 // Two terminals together, and a hit on INFO 2: plus at 3, none at 5 and 6.
-fn together() {
-    let mut lines = [0u8; 384];
+fn combined_and_hit() {
+    let mut lines = [NONE; LINES_LENGTH];
     put(&mut lines, 0, four(true, false, true, true));
     put(&mut lines, 2, four(true, true, false, true));
-    let mut line = [0u8; 48];
+    let mut line = [NONE; LINE_LENGTH];
     combine(&lines, &mut line);
     show(b"D 1011 with 1101 ", &mut line);
-    let mut hit = [0u8; 48];
-    hit[2] = 1;
-    hit[4] = 3;
-    hit[5] = 3;
+    let mut hit = [KEEP_LETTER; LINE_LENGTH];
+    hit[2] = PLUS_LETTER;
+    hit[4] = NONE_LETTER;
+    hit[5] = NONE_LETTER;
     info2(&mut line);
     apply_hit(&mut line, &hit);
     show(b"INFO 2 hit kkpkn ", &mut line);
@@ -135,5 +144,5 @@ fn main() {
     );
     infos();
     frames();
-    together();
+    combined_and_hit();
 }

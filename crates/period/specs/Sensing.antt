@@ -2,18 +2,18 @@
 use mathlib.Core.Bool.{Bool, true, false, cond}
 use mathlib.Core.List.{List}
 use Prim.Native.Nat.{ℕ}
-use Rattle.line.specs.Symbols.{isLine}
-use Rattle.line.specs.Framed.{framedDown, framedUp, hasPulse}
-use Rattle.line.specs.Info.{isInfo1}
-use Rattle.line.specs.Read.{aLevel}
-use Rattle.line.specs.declared.answers.Answer.{Answer}
-use Rattle.line.specs.declared.answers.Answer.the-variants.{Yes, No, Refused}
+use Rattle.symbols.specs.Symbols.{isLine}
+use Rattle.info.specs.Framed.{framedDown, framedUp, hasPulse}
+use Rattle.info.specs.Info.{isInfo1}
+use Rattle.frame_reader.specs.Read.{aLevel}
+use Rattle.symbols.specs.declared.TestAnswer.{TestAnswer}
+use Rattle.symbols.specs.declared.TestAnswer.the-variants.{Yes, No, Refused}
 use Rattle.period.specs.declared.hearing.Downward.{Downward}
 use Rattle.period.specs.declared.hearing.Upward.{Upward}
 use Rattle.period.specs.declared.sensing.SensedDown.{SensedDown}
 use Rattle.period.specs.declared.sensing.SensedUp.{SensedUp}
 
-abbrev pub isYes : Answer → Bool
+abbrev pub isYes : TestAnswer → Bool
 isYes Yes = true
 isYes No = false
 isYes (Refused k) = false

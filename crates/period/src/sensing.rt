@@ -1,19 +1,19 @@
 // What a lent line of 48 symbols shows: worked out once for a period, and then heard by the network end, or by every powered terminal.
 ghost use mathlib.Core.Path.{_≡_};
 ghost use mathlib.Core.Bool.{true};
-ghost use Rattle.line.specs.Symbols.{isLine};
-ghost use Rattle.line.specs.Framed.{framedDown, framedUp};
-ghost use Rattle.line.specs.Info.{isInfo1};
-ghost use Rattle.line.specs.Read.{aLevel};
+ghost use Rattle.symbols.specs.Symbols.{isLine};
+ghost use Rattle.info.specs.Framed.{framedDown, framedUp};
+ghost use Rattle.info.specs.Info.{isInfo1};
+ghost use Rattle.frame_reader.specs.Read.{aLevel};
 ghost use Rattle.period.specs.Sensing as spec;
 use super::hearing::Downward;
 use super::hearing::Upward;
-use line::answers::Answer;
-use line::framed::framed_down;
-use line::framed::framed_up;
-use line::framed::has_pulse;
-use line::info::is_info1;
-use line::read::a_bit;
+use frame_reader::read::a_bit;
+use info::framed::framed_down;
+use info::framed::framed_up;
+use info::framed::has_pulse;
+use info::info::is_info1;
+use symbols::TestAnswer;
 
 // What a downward line shows, or the number of the refusal.
 pub enum SensedDown {
@@ -32,17 +32,17 @@ pub fn sense_down(line: &[u8]) -> SensedDown
 {
     let pulse = has_pulse(line);
     match pulse {
-        Answer::Yes => SensedDown::Line(Downward {
+        TestAnswer::Yes => SensedDown::Line(Downward {
             pulse: true,
             framed: yes(framed_down(line)),
             a: yes(a_bit(line)),
         }),
-        Answer::No => SensedDown::Line(Downward {
+        TestAnswer::No => SensedDown::Line(Downward {
             pulse: false,
             framed: yes(framed_down(line)),
             a: yes(a_bit(line)),
         }),
-        Answer::Refused(k) => SensedDown::Refused(k),
+        TestAnswer::Refused(k) => SensedDown::Refused(k),
     }
 }
 
@@ -51,26 +51,26 @@ pub fn sense_up(line: &[u8]) -> SensedUp
 {
     let pulse = has_pulse(line);
     match pulse {
-        Answer::Yes => SensedUp::Line(Upward {
+        TestAnswer::Yes => SensedUp::Line(Upward {
             pulse: true,
             framed: yes(framed_up(line)),
             info1: yes(is_info1(line)),
         }),
-        Answer::No => SensedUp::Line(Upward {
+        TestAnswer::No => SensedUp::Line(Upward {
             pulse: false,
             framed: yes(framed_up(line)),
             info1: yes(is_info1(line)),
         }),
-        Answer::Refused(k) => SensedUp::Refused(k),
+        TestAnswer::Refused(k) => SensedUp::Refused(k),
     }
 }
 
-fn yes(answer: Answer) -> bool
+fn yes(answer: TestAnswer) -> bool
     ensures { λ r. ⌜ r ≡ spec.isYes answer ⌝ }
 {
     match answer {
-        Answer::Yes => true,
-        Answer::No => false,
-        Answer::Refused(_) => false,
+        TestAnswer::Yes => true,
+        TestAnswer::No => false,
+        TestAnswer::Refused(_) => false,
     }
 }

@@ -1,0 +1,123 @@
+-- What the loops of `combine` gather is what the lines give together.
+use mathlib.Core.Path.{_≡_, refl, sym, ap, _∙_}
+use mathlib.Core.Bool.{Bool, true, false, _||_, or-assoc, or-false}
+use mathlib.Core.List.{List, [], _∷_}
+use Prim.Native.Nat.{ℕ, zero, suc, _+_, _-_, _*_, _<_, _≤_}
+use native.Mathlib.Omega.{arith}
+use borrow.Author.Tests.{eqb-true}
+use lib.Bits.{bitOr}
+use lib.Dec.{eqb}
+use lib.ListN.{length, getD, take, drop, length-drop, getD-replicate}
+use lib.Seq.{drop-drop, length-take-le}
+use Rattle.symbols.specs.Symbols.{none, plus, minus, lineLength, fits, lineBy, leaves}
+use Rattle.frame.specs.Bits.{bit}
+use Rattle.info.specs.Info.{info0}
+use Rattle.combining.specs.Combine.{terminals, linesLength, isSent, only, combinedSymbol, column, rows, combined, combineFits, combinedReply, eight, gathered, settled}
+use Rattle.combining.specs.declared.combine.Combined.{Combined}
+use Rattle.cases.proofs.ByCases.{at-each-below}
+use Rattle.symbols.proofs.Lines.{Small, within-small, fits-within}
+use Rattle.symbols.proofs.Fill.{line-is, line-ext, length-tabulate, getD-tabulate}
+
+-- What is gathered, as a number: 1 for plus, 2 for minus.
+code : Bool → Bool → ℕ
+code p q = bit p + 2 * bit q
+
+joins : (p q : Bool) (x : ℕ) → x ≤ minus → bitOr (code p q) x ≡ code (p || eqb x plus) (q || eqb x minus)
+unfolding code
+joins true true x h = eqb-true _ _ (at-each-below (λ k. eqb (bitOr (code true true) k) (code (true || eqb k plus) (true || eqb k minus))) 3 x refl (omega arith))
+joins true false x h = eqb-true _ _ (at-each-below (λ k. eqb (bitOr (code true false) k) (code (true || eqb k plus) (false || eqb k minus))) 3 x refl (omega arith))
+joins false true x h = eqb-true _ _ (at-each-below (λ k. eqb (bitOr (code false true) k) (code (false || eqb k plus) (true || eqb k minus))) 3 x refl (omega arith))
+joins false false x h = eqb-true _ _ (at-each-below (λ k. eqb (bitOr (code false false) k) (code (false || eqb k plus) (false || eqb k minus))) 3 x refl (omega arith))
+
+settles : (p q : Bool) → settled (code p q) ≡ only p q
+unfolding code
+settles true true = refl
+settles true false = refl
+settles false true = refl
+settles false false = refl
+
+gathers : (p q : Bool) (xs : List ℕ) → Small xs → gathered (code p q) xs ≡ code (p || isSent plus xs) (q || isSent minus xs)
+unfolding gathered isSent
+gathers p q [] h = rw (or-false p, or-false q)
+gathers p q (x ∷ xs) h =
+    rw (joins p q x (h 0)) (gathers (p || eqb x plus) (q || eqb x minus) xs (λ i. h (suc i)) ∙ rw (or-assoc p (eqb x plus) (isSent plus xs), or-assoc q (eqb x minus) (isSent minus xs)))
+
+-- The code's settled number is what the symbols give together.
+pub settles-combined : (xs : List ℕ) → Small xs → settled (gathered 0 xs) ≡ combinedSymbol xs
+unfolding code
+settles-combined xs h = ap settled (gathers false false xs h) ∙ settles (isSent plus xs) (isSent minus xs)
+
+small-take : (n : ℕ) (l : List ℕ) → Small l → Small (take n l)
+small-take zero l h i = omega arith
+small-take (suc n) [] h i = omega arith
+small-take (suc n) (x ∷ l) h zero = h 0
+small-take (suc n) (x ∷ l) h (suc i) = small-take n l (λ j. h (suc j)) i
+
+small-drop : (n : ℕ) (l : List ℕ) → Small l → Small (drop n l)
+small-drop zero l h = h
+small-drop (suc n) [] h = h
+small-drop (suc n) (x ∷ l) h = small-drop n l (λ j. h (suc j))
+
+small-column : (n i : ℕ) (l : List ℕ) → Small l → Small (column i (rows n l))
+unfolding rows
+small-column zero i l h j = omega arith
+small-column (suc n) i l h zero = small-take lineLength l h i
+small-column (suc n) i l h (suc j) = small-column n i (drop lineLength l) (small-drop lineLength l h) j
+
+-- A part of 48 of the lines.
+pub part-line : (lines : List ℕ) (n : ℕ) → length lines ≡ linesLength → n < terminals → length (take lineLength (drop (n * lineLength) lines)) ≡ lineLength
+part-line lines n h k = length-take-le lineLength (drop (n * lineLength) lines) (rw length-drop (omega arith))
+
+-- The loop over the eight lines: what is gathered at the end is gathered from what there is by the lines to come.
+pub record Gathering (lines out₀ out : List ℕ) (n : ℕ) : Type 0 where
+  pub long : length out ≡ lineLength
+  pub low : n ≤ terminals
+  pub value : (i : ℕ) → i < lineLength
+      → gathered (getD out₀ i none) (column i (rows terminals lines)) ≡ gathered (getD out i none) (column i (rows (terminals - n) (drop (n * lineLength) lines)))
+
+pub gather-start : (lines out : List ℕ) → length out ≡ lineLength → Gathering lines out out 0
+gather-start lines out h = record { long = h; low = omega arith; value = λ i k. refl }
+
+module _ {lines out₀ out : List ℕ} {n : ℕ} (m : Gathering lines out₀ out n) where
+  pub gather-next : n < terminals → (next : List ℕ) → next ≡ lineBy (λ i. bitOr (getD out i none) (getD (take lineLength (drop (n * lineLength) lines)) i none))
+      → Gathering lines out₀ next (n + 1)
+  unfolding rows gathered
+  gather-next h next e = record {
+    long = ap length e ∙ length-tabulate lineLength (λ i. bitOr (getD out i none) (getD (take lineLength (drop (n * lineLength) lines)) i none));
+    low = omega arith;
+    value = step;
+  }
+    where
+      step : (i : ℕ) → i < lineLength
+          → gathered (getD out₀ i none) (column i (rows terminals lines)) ≡ gathered (getD next i none) (column i (rows (terminals - (n + 1)) (drop ((n + 1) * lineLength) lines)))
+      step i k =
+          let more : terminals - n ≡ suc (terminals - (n + 1)) = omega arith in
+          let past : (n + 1) * lineLength ≡ n * lineLength + lineLength = omega arith in
+          m .value i k ∙ rw (more, e, getD-tabulate lineLength (λ j. bitOr (getD out j none) (getD (take lineLength (drop (n * lineLength) lines)) j none)) i k, past, ← drop-drop lineLength (n * lineLength) lines)
+
+  pub gather-done : terminals ≤ n → out ≡ lineBy (λ i. gathered (getD out₀ i none) (column i (rows terminals lines)))
+  unfolding rows gathered
+  gather-done h = line-is out (λ i. gathered (getD out₀ i none) (column i (rows terminals lines))) (m .long) at-end
+    where
+      at-end : (i : ℕ) → i < lineLength → getD out i none ≡ gathered (getD out₀ i none) (column i (rows terminals lines))
+      at-end i k = let none-left : terminals - n ≡ 0 = omega arith in sym (m .value i k ∙ rw none-left)
+
+-- Cleared, gathered and settled: the combined line.
+pub combines : (lines zeros all last : List ℕ) → fits linesLength minus lines ≡ true → zeros ≡ info0
+    → all ≡ lineBy (λ i. gathered (getD zeros i none) (column i (rows terminals lines))) → last ≡ lineBy (λ i. settled (getD all i none)) → last ≡ eight lines
+unfolding combined
+combines lines zeros all last h z a e = e ∙ line-ext (λ i. settled (getD all i none)) (λ i. combinedSymbol (column i (rows terminals lines))) at-i
+  where
+    at-i : (i : ℕ) → i < lineLength → settled (getD all i none) ≡ combinedSymbol (column i (rows terminals lines))
+    at-i i k =
+        rw (a, getD-tabulate lineLength (λ j. gathered (getD zeros j none) (column j (rows terminals lines))) i k, z, getD-replicate {A = ℕ} lineLength i none 0 k)
+        (settles-combined (column i (rows terminals lines)) (small-column terminals i lines (within-small lines (fits-within linesLength minus lines h))))
+
+-- What the call replies and leaves, refused or not.
+pub refused : (lines lent : List ℕ) → combineFits lines lent ≡ false
+    → (Combined.Refused 2 ≡ combinedReply (combineFits lines lent)) × (lent ≡ leaves (combineFits lines lent) (eight lines) lent)
+refused lines lent h = (rw h, rw h)
+
+pub done : (lines lent last : List ℕ) → combineFits lines lent ≡ true → last ≡ eight lines
+    → (Combined.Line ≡ combinedReply (combineFits lines lent)) × (last ≡ leaves (combineFits lines lent) (eight lines) lent)
+done lines lent last h e = (rw h, rw h e)

@@ -1,0 +1,4 @@
+-- What is shown of combined and of hit lines, and what the proofs of several functions share.
+pub mod Gather
+pub mod Together
+pub mod Laws

@@ -1,0 +1,89 @@
+// Several terminals on one line: plus where only plus is sent, minus where only minus, none otherwise.
+ghost use mathlib.Core.Path.{_≡_};
+ghost use lib.Bits.{bitOr};
+ghost use lib.ListN.{length, getD};
+ghost use Rattle.symbols.specs.Symbols.{none, lineLength, lineBy, leaves};
+ghost use Rattle.combining.specs.Combine.{terminals, linesLength, settled, gathered, column, rows, combineFits, combinedReply, eight};
+use info::info::info0;
+use symbols::LINE_LENGTH;
+use symbols::MINUS;
+use symbols::NONE;
+use symbols::fits;
+
+// The terminals of a bus, and the symbols of all their lines.
+pub const TERMINALS: usize = 8;
+
+pub const LINES_LENGTH: usize = 384;
+
+// What stands for plus and minus both, 1 and 2 put together.
+const BOTH: u8 = 3;
+
+// Whether the line was combined, or the number of the refusal.
+pub enum Combined {
+    Line,
+    Refused(u8),
+}
+
+// Puts a line over what is gathered: 1 for plus, 2 for minus, 3 for both.
+fn overlay(out: &mut [u8], line: &[u8])
+    requires { ⌜ length (now out) ≡ lineLength ⌝ }
+    requires { ⌜ length (now line) ≡ lineLength ⌝ }
+    ensures { λ _. ⌜ now (out .exit) ≡ lineBy (λ i. bitOr (getD (now (out .entry)) i none) (getD (now (line .entry)) i none)) ⌝ }
+{
+    let mut i: usize = 0;
+    while i < LINE_LENGTH {
+        out[i] = out[i] | line[i];
+        i += 1;
+    }
+}
+
+fn settled(m: u8) -> u8
+    ensures { λ r. ⌜ r ≡ settled m ⌝ }
+{
+    if m == BOTH { NONE } else { m }
+}
+
+// Makes symbols of what is gathered: none where both are sent.
+fn settle(out: &mut [u8])
+    requires { ⌜ length (now out) ≡ lineLength ⌝ }
+    ensures { λ _. ⌜ now (out .exit) ≡ lineBy (λ i. settled (getD (now (out .entry)) i none)) ⌝ }
+{
+    let mut i: usize = 0;
+    while i < LINE_LENGTH {
+        out[i] = settled(out[i]);
+        i += 1;
+    }
+}
+
+// Puts the eight lines over what is gathered.
+fn gather(lines: &[u8], out: &mut [u8])
+    requires { ⌜ length (now lines) ≡ linesLength ⌝ }
+    requires { ⌜ length (now out) ≡ lineLength ⌝ }
+    ensures { λ _. ⌜ now (out .exit) ≡ lineBy (λ i. gathered (getD (now (out .entry)) i none) (column i (rows terminals (now (lines .entry))))) ⌝ }
+{
+    let mut n: usize = 0;
+    while n < TERMINALS {
+        let from = n * LINE_LENGTH;
+        let to = from + LINE_LENGTH;
+        overlay(out, &lines[from..to]);
+        n += 1;
+    }
+}
+
+// Combines the eight terminals' lines, lent as 8 times 48 octets, or replies 2 for a wrong length or code.
+pub fn combine(lines: &[u8], out: &mut [u8]) -> Combined
+    ensures reply { λ r. ⌜ r ≡ combinedReply (combineFits (now (lines .entry)) (now (out .entry))) ⌝ }
+    ensures octets { λ _. ⌜ now (out .exit) ≡ leaves (combineFits (now (lines .entry)) (now (out .entry))) (eight (now (lines .entry))) (now (out .entry)) ⌝ }
+{
+    if out.len() != LINE_LENGTH {
+        return Combined::Refused(2);
+    }
+    if fits(lines, LINES_LENGTH, MINUS) {
+        info0(out);
+        gather(lines, out);
+        settle(out);
+        Combined::Line
+    } else {
+        Combined::Refused(2)
+    }
+}

@@ -1,0 +1,61 @@
+// Hits: letters applied to a line. Their fits are 0 keep, 1 plus, 2 minus, 3 none.
+ghost use mathlib.Core.Path.{_≡_};
+ghost use lib.ListN.{length};
+ghost use Rattle.symbols.specs.Symbols.{lineLength, reply, leaves};
+ghost use Rattle.combining.specs.Hit.{struck, hit, hitFits};
+use symbols::LINE_LENGTH;
+use symbols::MINUS;
+use symbols::NONE;
+use symbols::PLUS;
+use symbols::fits;
+
+// The codes of the letters k, p, m and n.
+pub const KEEP_LETTER: u8 = 0;
+
+pub const PLUS_LETTER: u8 = 1;
+
+pub const MINUS_LETTER: u8 = 2;
+
+pub const NONE_LETTER: u8 = 3;
+
+// A letter applied to a symbol.
+fn struck(letter: u8, s: u8) -> u8
+    ensures { λ r. ⌜ r ≡ struck letter s ⌝ }
+{
+    if letter == KEEP_LETTER {
+        s
+    } else if letter == PLUS_LETTER {
+        PLUS
+    } else if letter == MINUS_LETTER {
+        MINUS
+    } else {
+        NONE
+    }
+}
+
+// Applies 48 letters to a line.
+fn strike(line: &mut [u8], letters: &[u8])
+    requires { ⌜ length (now line) ≡ lineLength ⌝ }
+    requires { ⌜ length (now letters) ≡ lineLength ⌝ }
+    ensures { λ _. ⌜ now (line .exit) ≡ hit (now (letters .entry)) (now (line .entry)) ⌝ }
+{
+    let mut i: usize = 0;
+    while i < LINE_LENGTH {
+        line[i] = struck(letters[i], line[i]);
+        i += 1;
+    }
+}
+
+// Applies a hit: 0, or 2 where what is lent is no line or not 48 letters.
+pub fn apply_hit(line: &mut [u8], letters: &[u8]) -> u8
+    ensures reply { λ r. ⌜ r ≡ reply (hitFits (now (letters .entry)) (now (line .entry))) ⌝ }
+    ensures octets { λ _. ⌜ now (line .exit) ≡ leaves (hitFits (now (letters .entry)) (now (line .entry))) (hit (now (letters .entry)) (now (line .entry))) (now (line .entry)) ⌝ }
+{
+    if fits(line, LINE_LENGTH, MINUS) {
+        if fits(letters, LINE_LENGTH, NONE_LETTER) {
+            strike(line, letters);
+            return 0;
+        }
+    }
+    2
+}

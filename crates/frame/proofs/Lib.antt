@@ -1,0 +1,6 @@
+-- What is shown of the frames, and what the proofs of several functions share.
+pub mod Bits
+pub mod Words
+pub mod Emit
+pub mod Frames
+pub mod Laws

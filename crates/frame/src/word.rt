@@ -1,0 +1,66 @@
+// Bits 3 to 48 of a frame as a number of 46 bits, the first the highest.
+ghost use mathlib.Core.Path.{_≡_};
+ghost use mathlib.Core.List.{_∷_, [], _++_};
+ghost use Prim.Native.Nat.{_+_, _*_, _<_};
+ghost use lib.ListN.{drop};
+ghost use Rattle.frame.specs.Bits.{bit, numberHighFirst, octetBits, balanced};
+ghost use Rattle.frame.specs.Down.{downBits};
+ghost use Rattle.frame.specs.Up.{upBits, single};
+ghost use Rattle.frame.specs.Word.{topBits};
+use super::fields::DownFields;
+use super::fields::UpFields;
+
+fn bit(b: bool) -> u64
+    ensures { λ r. ⌜ (r ≡ bit b) × (r < 2) ⌝ }
+{
+    if b { 1 } else { 0 }
+}
+
+// An octet and the three bits after it.
+fn part(octet: u8, x: bool, y: bool, z: bool) -> u64
+    ensures { λ r. ⌜ (r ≡ numberHighFirst (octetBits octet ++ (x ∷ y ∷ z ∷ []))) × (r < 2048) ⌝ }
+{
+    (octet as u64) * 8 + bit(x) * 4 + bit(y) * 2 + bit(z)
+}
+
+// An octet with its L, and a D bit with its L. Of an octet's eight bits an even number is 1 exactly if an even number is 0.
+fn group(octet: u8, d: bool) -> u64
+    ensures { λ r. ⌜ (r ≡ numberHighFirst (balanced (octetBits octet) ++ single d)) × (r < 2048) ⌝ }
+{
+    part(octet, u8::count_ones(octet) % 2 == 0, d, d)
+}
+
+// The four parts of 11 bits of which a frame is made, with the two bits of positions 14 and 15 after the first.
+fn joined(first: u64, pair: u64, second: u64, third: u64, fourth: u64) -> u64
+    requires { ⌜ first < 2048 ⌝ }
+    requires { ⌜ pair < 4 ⌝ }
+    requires { ⌜ second < 2048 ⌝ }
+    requires { ⌜ third < 2048 ⌝ }
+    requires { ⌜ fourth < 2048 ⌝ }
+    ensures { λ r. ⌜ r ≡ (((first * 4 + pair) * 2048 + second) * 2048 + third) * 2048 + fourth ⌝ }
+{
+    (((first * 4 + pair) * 2048 + second) * 2048 + third) * 2048 + fourth
+}
+
+// The 46 bits of a downward frame, N the inverse of FA. Without L the 45 bits have an even number of 0s exactly if an odd number is 1.
+pub(crate) fn down_word(f: DownFields) -> u64
+    ensures { λ r. ⌜ topBits 46 r ≡ drop 2 (downBits f) ⌝ }
+{
+    let first = part(f.b1first, f.e.first, f.d.first, f.a);
+    let second = part(f.b2first, f.e.second, f.d.second, f.m);
+    let third = part(f.b1second, f.e.third, f.d.third, f.s);
+    let fourth = part(f.b2second, f.e.fourth, f.d.fourth, false);
+    let open = joined(first, 1 + bit(f.fa), second, third, fourth);
+    open + (u64::count_ones(open) % 2) as u64
+}
+
+// The 46 bits of an upward frame, FA and its L at 0.
+pub(crate) fn up_word(f: UpFields) -> u64
+    ensures { λ r. ⌜ topBits 46 r ≡ drop 2 (upBits f) ⌝ }
+{
+    let first = group(f.b1first, f.d.first);
+    let second = group(f.b2first, f.d.second);
+    let third = group(f.b1second, f.d.third);
+    let fourth = group(f.b2second, f.d.fourth);
+    joined(first, 0, second, third, fourth)
+}

@@ -1,0 +1,22 @@
+-- `frame_reader::read::d_bits` meets its contract.
+use Rattle.frame.specs.Bits.{dBits}
+use Rattle.symbols.proofs.Lines.{is-line}
+use Rattle.frame_reader.proofs.Answered.{four-is, four-refused}
+use borrow.Author.Needs.{needs}
+use Rattle.frame_reader.proofs.read.d_bits.Statement.{statement}
+use Rattle.frame_reader.proofs.read.d_bits.Tie as tie
+
+fits-requires : tie.Need-fits-requires
+fits-requires c κs = search needs
+
+d-of-requires : tie.Need-d-of-requires
+d-of-requires c κs = is-line _ (c .before .fits2 .ensures) (c .if1 .taken)
+
+returns : tie.Need-returns
+returns c = four-is _ (c .before .before .fits2 .ensures) (c .before .if1 .taken) dBits _ (c .d-of .ensures)
+
+returns-2 : tie.Need-returns-2
+returns-2 c = four-refused _ (c .before .fits2 .ensures) (c .if1 .left) dBits
+
+pub d-bits-spec : {M : Type 1} → statement M
+d-bits-spec = tie.close (tie.spec fits-requires d-of-requires returns returns-2)

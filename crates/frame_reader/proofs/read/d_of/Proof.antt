@@ -1,0 +1,13 @@
+-- `frame_reader::read::d_of` meets its contract.
+use borrow.Author.Needs.{needs}
+use Rattle.frame_reader.proofs.read.d_of.Statement.{statement}
+use Rattle.frame_reader.proofs.read.d_of.Tie as tie
+
+four-requires : tie.Need-four-requires
+four-requires c κs = search needs
+
+returns : tie.Need-returns
+returns c = c .four .ensures
+
+pub d-of-spec : {M : Type 1} → statement M
+d-of-spec = tie.close (tie.spec four-requires returns)

@@ -1,0 +1,193 @@
+// Reading frames, and what is taken from a line at symbol level: none is 1, a pulse is 0.
+ghost use mathlib.Core.Path.{_≡_};
+ghost use mathlib.Core.Bool.{true};
+ghost use Prim.Native.Nat.{_+_, _<_, _≤_};
+ghost use lib.ListN.{length, getD, take, drop};
+ghost use Rattle.symbols.specs.Symbols.{lineLength, levels, sameSymbols, tested};
+ghost use Rattle.frame.specs.Bits.{numberHighFirst, fourAt, dBits};
+ghost use Rattle.frame.specs.Down.{downLine, downFieldsOf, eBits};
+ghost use Rattle.frame.specs.Up.{upLine, upFieldsOf};
+ghost use Rattle.frame_reader.specs.Read.{downRead, upRead, fourRead, aLevel};
+use super::answers::ReadDown;
+use super::answers::ReadFour;
+use super::answers::ReadUp;
+use frame::fields::DownFields;
+use frame::fields::Four;
+use frame::fields::UpFields;
+use frame::write::write_down;
+use frame::write::write_up;
+use symbols::LINE_LENGTH;
+use symbols::MINUS;
+use symbols::NONE;
+use symbols::TestAnswer;
+use symbols::answer;
+use symbols::fits;
+use symbols::same_symbols;
+
+// The bit at index i.
+fn level(line: &[u8], i: usize) -> bool
+    requires { ⌜ i < length (now line) ⌝ }
+    ensures { λ r. ⌜ r ≡ getD (levels (now (line .entry))) i true ⌝ }
+{
+    line[i] == NONE
+}
+
+// The octet whose bits are the eight symbols from index at on.
+fn octet(line: &[u8], at: usize) -> u8
+    requires { ⌜ at + 8 ≤ length (now line) ⌝ }
+    ensures { λ r. ⌜ r ≡ numberHighFirst (take 8 (drop at (levels (now (line .entry))))) ⌝ }
+{
+    let mut n: u8 = 0;
+    let mut i: usize = 0;
+    while i < 8 {
+        n = n * 2 + (line[at + i] == NONE) as u8;
+        i += 1;
+    }
+    n
+}
+
+// The bits at four indices.
+fn four(line: &[u8], i: usize, j: usize, k: usize, l: usize) -> Four
+    requires { ⌜ i < length (now line) ⌝ }
+    requires { ⌜ j < length (now line) ⌝ }
+    requires { ⌜ k < length (now line) ⌝ }
+    requires { ⌜ l < length (now line) ⌝ }
+    ensures { λ r. ⌜ r ≡ fourAt (i + 1) (j + 1) (k + 1) (l + 1) (levels (now (line .entry))) ⌝ }
+{
+    Four {
+        first: level(line, i),
+        second: level(line, j),
+        third: level(line, k),
+        fourth: level(line, l),
+    }
+}
+
+fn d_of(line: &[u8]) -> Four
+    requires { ⌜ length (now line) ≡ lineLength ⌝ }
+    ensures { λ r. ⌜ r ≡ dBits (levels (now (line .entry))) ⌝ }
+{
+    four(line, 11, 24, 35, 46)
+}
+
+fn e_of(line: &[u8]) -> Four
+    requires { ⌜ length (now line) ≡ lineLength ⌝ }
+    ensures { λ r. ⌜ r ≡ eBits (levels (now (line .entry))) ⌝ }
+{
+    four(line, 10, 23, 34, 45)
+}
+
+// The fields of a downward line at symbol level.
+fn down_fields(line: &[u8]) -> DownFields
+    requires { ⌜ length (now line) ≡ lineLength ⌝ }
+    ensures { λ r. ⌜ r ≡ downFieldsOf (now (line .entry)) ⌝ }
+{
+    DownFields {
+        b1first: octet(line, 2),
+        b2first: octet(line, 15),
+        b1second: octet(line, 26),
+        b2second: octet(line, 37),
+        e: e_of(line),
+        d: d_of(line),
+        a: level(line, 12),
+        fa: level(line, 13),
+        m: level(line, 25),
+        s: level(line, 36),
+    }
+}
+
+// The fields of an upward line at symbol level.
+fn up_fields(line: &[u8]) -> UpFields
+    requires { ⌜ length (now line) ≡ lineLength ⌝ }
+    ensures { λ r. ⌜ r ≡ upFieldsOf (now (line .entry)) ⌝ }
+{
+    UpFields {
+        b1first: octet(line, 2),
+        b2first: octet(line, 15),
+        b1second: octet(line, 26),
+        b2second: octet(line, 37),
+        d: d_of(line),
+    }
+}
+
+// Whether f is written as this line.
+fn is_down(line: &[u8], f: DownFields) -> bool
+    ensures { λ r. ⌜ r ≡ sameSymbols (now (line .entry)) (downLine f) ⌝ }
+{
+    let mut back = [NONE; LINE_LENGTH];
+    write_down(f, &mut back);
+    same_symbols(line, &back)
+}
+
+// Reads a downward frame: its fields, 2 for what is no line, 10 for a line that no fields are written as.
+pub fn read_down(line: &[u8]) -> ReadDown
+    ensures { λ r. ⌜ r ≡ downRead (now (line .entry)) ⌝ }
+{
+    if fits(line, LINE_LENGTH, MINUS) {
+        let f = down_fields(line);
+        if is_down(line, f) {
+            ReadDown::Fields(f)
+        } else {
+            ReadDown::Refused(10)
+        }
+    } else {
+        ReadDown::Refused(2)
+    }
+}
+
+// Whether f is written as this line.
+fn is_up(line: &[u8], f: UpFields) -> bool
+    ensures { λ r. ⌜ r ≡ sameSymbols (now (line .entry)) (upLine f) ⌝ }
+{
+    let mut back = [NONE; LINE_LENGTH];
+    write_up(f, &mut back);
+    same_symbols(line, &back)
+}
+
+// Reads an upward frame.
+pub fn read_up(line: &[u8]) -> ReadUp
+    ensures { λ r. ⌜ r ≡ upRead (now (line .entry)) ⌝ }
+{
+    if fits(line, LINE_LENGTH, MINUS) {
+        let f = up_fields(line);
+        if is_up(line, f) {
+            ReadUp::Fields(f)
+        } else {
+            ReadUp::Refused(10)
+        }
+    } else {
+        ReadUp::Refused(2)
+    }
+}
+
+// The four D bits of a line of either direction.
+pub fn d_bits(line: &[u8]) -> ReadFour
+    ensures { λ r. ⌜ r ≡ fourRead dBits (now (line .entry)) ⌝ }
+{
+    if fits(line, LINE_LENGTH, MINUS) {
+        ReadFour::Bits(d_of(line))
+    } else {
+        ReadFour::Refused(2)
+    }
+}
+
+// The four echo bits of a downward line.
+pub fn e_bits(line: &[u8]) -> ReadFour
+    ensures { λ r. ⌜ r ≡ fourRead eBits (now (line .entry)) ⌝ }
+{
+    if fits(line, LINE_LENGTH, MINUS) {
+        ReadFour::Bits(e_of(line))
+    } else {
+        ReadFour::Refused(2)
+    }
+}
+
+// Whether the A bit of a downward line is 1.
+pub fn a_bit(line: &[u8]) -> TestAnswer
+    ensures { λ r. ⌜ r ≡ tested aLevel (now (line .entry)) ⌝ }
+{
+    if fits(line, LINE_LENGTH, MINUS) {
+        answer(level(line, 12))
+    } else {
+        TestAnswer::Refused(2)
+    }
+}

@@ -1,0 +1,84 @@
+-- The laws of `specs/Laws.antt`, proved under the same names in small letters.
+use mathlib.Core.Path.{_≡_, refl, sym, _∙_}
+use mathlib.Core.Bool.{true, false, true≢false}
+use mathlib.Core.List.{List, [], _∷_}
+use Prim.Native.Nat.{ℕ}
+use borrow.Author.Tests.{eqb-true, eqb-false, not-false}
+use lib.Dec.{eqb}
+use lib.ListN.{length, replicate}
+use Rattle.cases.proofs.ByCases.{by-test}
+use Rattle.symbols.specs.Symbols.{none}
+use Rattle.symbols.proofs.Lines.{same-symbols-true, same-symbols-self}
+use Rattle.frame.specs.Down.{downBits, downLine}
+use Rattle.frame.specs.Up.{upBits, upLine}
+use Rattle.info.specs.Info.{info1, info2Fields, info3Fields, info4Fields, isInfo1}
+use Rattle.info.specs.Framed.{firstPulse, framedIn, hasPulse}
+use Rattle.info.specs.Laws
+use Rattle.info.proofs.FirstPulse.{pulse-symbols, down-framed, up-framed}
+
+pub framed-down : Laws.FramedDown
+framed-down = down-framed
+
+pub framed-up : Laws.FramedUp
+framed-up = up-framed
+
+pub framed-info2 : Laws.FramedInfo2
+framed-info2 = down-framed info2Fields
+
+pub framed-info3 : Laws.FramedInfo3
+framed-info3 d = up-framed (info3Fields d)
+
+pub framed-info4 : Laws.FramedInfo4
+framed-info4 e = down-framed (info4Fields e)
+
+pub unframed-info0 : Laws.UnframedInfo0
+unfolding framedIn firstPulse
+unframed-info0 = (refl, refl)
+
+pub unframed-info1 : Laws.UnframedInfo1
+unfolding framedIn firstPulse
+unframed-info1 = (refl, refl)
+
+pub info1-is-info1 : Laws.Info1IsInfo1
+info1-is-info1 = same-symbols-self info1
+
+pub only-info1 : Laws.OnlyInfo1
+only-info1 l e = same-symbols-true l info1 e
+
+pub up-not-info1 : Laws.UpNotInfo1
+up-not-info1 f =
+    by-test (isInfo1 (upLine f))
+    (λ t. absurd (true≢false (sym (up-framed f) ∙ rw (same-symbols-true (upLine f) info1 t) (unframed-info1 .1)))) (λ t. t)
+
+pulseless : (l : List ℕ) → firstPulse l ≡ none → l ≡ replicate (length l) none
+unfolding firstPulse
+pulseless [] e = refl
+pulseless (x ∷ l) e =
+    by-test (eqb x none) (λ t. rw (eqb-true x none t, ← pulseless l (rw t at e)))
+    (λ t. absurd (eqb-false x none t (rw t at e)))
+
+pub pulseless-info0 : Laws.PulselessInfo0
+unfolding hasPulse firstPulse
+pulseless-info0 l h =
+    (λ e. rw h at (pulseless l (eqb-true (firstPulse l) none (not-false (eqb (firstPulse l) none) e))), λ e. rw e)
+
+pub pulse-down : Laws.PulseDown
+unfolding downLine
+pulse-down f = pulse-symbols (downBits f)
+
+pub pulse-up : Laws.PulseUp
+unfolding upLine
+pulse-up f = pulse-symbols (upBits f)
+
+pub pulse-info1 : Laws.PulseInfo1
+unfolding hasPulse firstPulse
+pulse-info1 = refl
+
+pub pulse-info2 : Laws.PulseInfo2
+pulse-info2 = pulse-down info2Fields
+
+pub pulse-info3 : Laws.PulseInfo3
+pulse-info3 d = pulse-up (info3Fields d)
+
+pub pulse-info4 : Laws.PulseInfo4
+pulse-info4 e = pulse-down (info4Fields e)

@@ -1,0 +1,26 @@
+-- `info::framed::framed_up` meets its contract.
+use native.Mathlib.Omega.{arith}
+use Rattle.info.specs.Framed.{framedUp}
+use Rattle.symbols.proofs.Lines.{is-line, tested-is, tested-refused}
+use borrow.Author.Needs.{needs}
+use Rattle.info.proofs.framed.framed_up.Statement.{statement}
+use Rattle.info.proofs.framed.framed_up.Tie as tie
+
+fits-requires : tie.Need-fits-requires
+fits-requires c κs = search needs
+
+framed-in-requires : tie.Need-framed-in-requires
+framed-in-requires c κs = (omega arith, is-line _ (c .before .fits2 .ensures) (c .if1 .taken))
+
+answer-requires : tie.Need-answer-requires
+answer-requires c κs = search needs
+
+returns : tie.Need-returns
+returns c = tested-is _ (c .before .before .before .fits2 .ensures) (c .before .before .if1 .taken) framedUp _ _ (c .before .framed-in .ensures) (c .answer .ensures)
+
+returns-2 : tie.Need-returns-2
+returns-2 c = tested-refused _ (c .before .fits2 .ensures) (c .if1 .left) framedUp
+
+pub framed-up-spec : {M : Type 1} → statement M
+framed-up-spec =
+    tie.close (tie.spec fits-requires framed-in-requires answer-requires returns returns-2)

@@ -1,0 +1,69 @@
+-- What holds of the INFO signals: the statements, each a type. `proofs/Laws.antt` proves each under the same name in small letters.
+use mathlib.Core.Path.{_≡_}
+use mathlib.Core.Bool.{true, false}
+use mathlib.Core.Logic.{_↔_}
+use mathlib.Core.List.{List}
+use Prim.Native.Nat.{ℕ}
+use lib.ListN.{length}
+use Rattle.symbols.specs.Symbols.{lineLength}
+use Rattle.frame.specs.Down.{downLine}
+use Rattle.frame.specs.Up.{upLine}
+use Rattle.frame.specs.declared.fields.Four.{Four}
+use Rattle.frame.specs.declared.fields.DownFields.{DownFields}
+use Rattle.frame.specs.declared.fields.UpFields.{UpFields}
+use Rattle.info.specs.Info.{info0, info1, info2, info3, info4, isInfo1}
+use Rattle.info.specs.Framed.{framedDown, framedUp, hasPulse}
+
+-- Framed periods: every frame is framed, so INFO 2, 3 and 4 are, for all their bits; INFO 0 and INFO 1 are not.
+abbrev pub FramedDown : Type 0
+FramedDown = (f : DownFields) → framedDown (downLine f) ≡ true
+
+abbrev pub FramedUp : Type 0
+FramedUp = (f : UpFields) → framedUp (upLine f) ≡ true
+
+abbrev pub FramedInfo2 : Type 0
+FramedInfo2 = framedDown info2 ≡ true
+
+abbrev pub FramedInfo3 : Type 0
+FramedInfo3 = (d : Four) → framedUp (info3 d) ≡ true
+
+abbrev pub FramedInfo4 : Type 0
+FramedInfo4 = (e : Four) → framedDown (info4 e) ≡ true
+
+abbrev pub UnframedInfo0 : Type 0
+UnframedInfo0 = (framedDown info0 ≡ false) × (framedUp info0 ≡ false)
+
+abbrev pub UnframedInfo1 : Type 0
+UnframedInfo1 = (framedDown info1 ≡ false) × (framedUp info1 ≡ false)
+
+-- INFO 1 is INFO 1, and no upward frame is. A pulseless line is INFO 0.
+abbrev pub Info1IsInfo1 : Type 0
+Info1IsInfo1 = isInfo1 info1 ≡ true
+
+abbrev pub OnlyInfo1 : Type 0
+OnlyInfo1 = (l : List ℕ) → isInfo1 l ≡ true → l ≡ info1
+
+abbrev pub UpNotInfo1 : Type 0
+UpNotInfo1 = (f : UpFields) → isInfo1 (upLine f) ≡ false
+
+abbrev pub PulselessInfo0 : Type 0
+PulselessInfo0 = (l : List ℕ) → length l ≡ lineLength → (hasPulse l ≡ false) ↔ (l ≡ info0)
+
+-- Every frame has a pulse, so INFO 2, 3 and 4 have, for all their bits, and so has INFO 1.
+abbrev pub PulseDown : Type 0
+PulseDown = (f : DownFields) → hasPulse (downLine f) ≡ true
+
+abbrev pub PulseUp : Type 0
+PulseUp = (f : UpFields) → hasPulse (upLine f) ≡ true
+
+abbrev pub PulseInfo1 : Type 0
+PulseInfo1 = hasPulse info1 ≡ true
+
+abbrev pub PulseInfo2 : Type 0
+PulseInfo2 = hasPulse info2 ≡ true
+
+abbrev pub PulseInfo3 : Type 0
+PulseInfo3 = (d : Four) → hasPulse (info3 d) ≡ true
+
+abbrev pub PulseInfo4 : Type 0
+PulseInfo4 = (e : Four) → hasPulse (info4 e) ≡ true

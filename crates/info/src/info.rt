@@ -1,0 +1,146 @@
+// The INFO signals as lines. Each call replies 0, or 2 where what is lent is not 48 long.
+ghost use mathlib.Core.Path.{_≡_};
+ghost use Prim.Native.Nat.{_<_};
+ghost use lib.ListN.{getD};
+ghost use Rattle.symbols.specs.Symbols.{none, lineLength, hasLineLength, reply, leaves, tested};
+ghost use Rattle.info.specs.Info as spec;
+use frame::fields::DownFields;
+use frame::fields::Four;
+use frame::fields::UpFields;
+use frame::write::write_down;
+use frame::write::write_up;
+use symbols::LINE_LENGTH;
+use symbols::MINUS;
+use symbols::NONE;
+use symbols::PLUS;
+use symbols::TestAnswer;
+use symbols::answer;
+use symbols::fits;
+use symbols::same_symbols;
+
+// INFO 0.
+pub fn info0(out: &mut [u8]) -> u8
+    ensures reply { λ r. ⌜ r ≡ reply (hasLineLength (now (out .entry))) ⌝ }
+    ensures octets { λ _. ⌜ now (out .exit) ≡ leaves (hasLineLength (now (out .entry))) spec.info0 (now (out .entry)) ⌝ }
+{
+    if out.len() != LINE_LENGTH {
+        return 2;
+    }
+    let mut i: usize = 0;
+    while i < LINE_LENGTH {
+        out[i] = NONE;
+        i += 1;
+    }
+    0
+}
+
+// INFO 1's symbol at index i.
+fn info1_symbol(i: usize) -> u8
+    requires { ⌜ i < lineLength ⌝ }
+    ensures { λ r. ⌜ r ≡ getD spec.info1 i none ⌝ }
+{
+    let place = i % 8;
+    if place == 0 {
+        PLUS
+    } else if place == 1 {
+        MINUS
+    } else {
+        NONE
+    }
+}
+
+// INFO 1.
+pub fn info1(out: &mut [u8]) -> u8
+    ensures reply { λ r. ⌜ r ≡ reply (hasLineLength (now (out .entry))) ⌝ }
+    ensures octets { λ _. ⌜ now (out .exit) ≡ leaves (hasLineLength (now (out .entry))) spec.info1 (now (out .entry)) ⌝ }
+{
+    if out.len() != LINE_LENGTH {
+        return 2;
+    }
+    let mut i: usize = 0;
+    while i < LINE_LENGTH {
+        out[i] = info1_symbol(i);
+        i += 1;
+    }
+    0
+}
+
+// INFO 2.
+pub fn info2(out: &mut [u8]) -> u8
+    ensures reply { λ r. ⌜ r ≡ reply (hasLineLength (now (out .entry))) ⌝ }
+    ensures octets { λ _. ⌜ now (out .exit) ≡ leaves (hasLineLength (now (out .entry))) spec.info2 (now (out .entry)) ⌝ }
+{
+    let zeros = Four {
+        first: false,
+        second: false,
+        third: false,
+        fourth: false,
+    };
+    let f = DownFields {
+        b1first: 0,
+        b2first: 0,
+        b1second: 0,
+        b2second: 0,
+        e: zeros,
+        d: zeros,
+        a: false,
+        fa: false,
+        m: false,
+        s: false,
+    };
+    write_down(f, out)
+}
+
+// INFO 3 with the D bits d.
+pub fn info3(d: Four, out: &mut [u8]) -> u8
+    ensures reply { λ r. ⌜ r ≡ reply (hasLineLength (now (out .entry))) ⌝ }
+    ensures octets { λ _. ⌜ now (out .exit) ≡ leaves (hasLineLength (now (out .entry))) (spec.info3 d) (now (out .entry)) ⌝ }
+{
+    let f = UpFields {
+        b1first: 255,
+        b2first: 255,
+        b1second: 255,
+        b2second: 255,
+        d: d,
+    };
+    write_up(f, out)
+}
+
+// INFO 4 with the echo bits e.
+pub fn info4(e: Four, out: &mut [u8]) -> u8
+    ensures reply { λ r. ⌜ r ≡ reply (hasLineLength (now (out .entry))) ⌝ }
+    ensures octets { λ _. ⌜ now (out .exit) ≡ leaves (hasLineLength (now (out .entry))) (spec.info4 e) (now (out .entry)) ⌝ }
+{
+    let ones = Four {
+        first: true,
+        second: true,
+        third: true,
+        fourth: true,
+    };
+    let f = DownFields {
+        b1first: 255,
+        b2first: 255,
+        b1second: 255,
+        b2second: 255,
+        e: e,
+        d: ones,
+        a: true,
+        fa: false,
+        m: false,
+        s: false,
+    };
+    write_down(f, out)
+}
+
+// Whether a line is exactly INFO 1.
+pub fn is_info1(line: &[u8]) -> TestAnswer
+    ensures { λ r. ⌜ r ≡ tested spec.isInfo1 (now (line .entry)) ⌝ }
+{
+    if fits(line, LINE_LENGTH, MINUS) {
+        let mut expected = [NONE; LINE_LENGTH];
+        info1(&mut expected);
+        answer(same_symbols(line, &expected))
+    } else {
+        TestAnswer::Refused(2)
+    }
+}

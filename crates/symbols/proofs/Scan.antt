@@ -1,0 +1,63 @@
+-- A loop that goes through a slice: what a function says of the whole list it says of the rest from i on.
+use mathlib.Core.Path.{_≡_, refl, ap, _∙_}
+use mathlib.Core.Bool.{true, false, cond}
+use mathlib.Core.List.{List, [], _∷_}
+use Prim.Native.Nat.{ℕ, suc, _+_, _<_, _≤_}
+use native.Mathlib.Numerals.{add-one}
+use native.Mathlib.Omega.{arith}
+use borrow.Author.Tests.{eq-eqb, ne-eqb}
+use lib.Dec.{eqb}
+use lib.ListN.{length, drop, getD, drop-of-length-le}
+use lib.Seq.{drop-cons}
+use Rattle.symbols.specs.Symbols.{sameSymbols}
+use Rattle.cases.proofs.ByCases.{by-test}
+
+pub record Rest {X : Type 0} (F : List ℕ → X) (s : List ℕ) (i : ℕ) : Type 0 where
+  pub low : i ≤ length s
+  pub rest : F s ≡ F (drop i s)
+
+pub rest-start : {X : Type 0} {F : List ℕ → X} {s : List ℕ} → Rest F s 0
+rest-start = record { low = omega arith; rest = refl }
+
+module _ {X : Type 0} {F : List ℕ → X} {s : List ℕ} {i : ℕ} (r : Rest F s i) where
+  -- the element at i is the next
+  pub rest-here : i < length s → F s ≡ F (getD s i 0 ∷ drop (suc i) s)
+  rest-here h = rw (r .rest, drop-cons s i 0 h)
+
+  pub rest-next : i < length s → F (getD s i 0 ∷ drop (suc i) s) ≡ F (drop (suc i) s) → Rest F s (i + 1)
+  rest-next h e = record { low = omega arith; rest = rw add-one (rest-here h ∙ e) }
+
+  pub rest-done : length s ≤ i → F s ≡ F []
+  rest-done h = rw (r .rest, drop-of-length-le s h)
+
+-- The same for two lists that are compared.
+pub record Alike (xs ys : List ℕ) (i : ℕ) : Type 0 where
+  pub long : length xs ≡ length ys
+  pub low : i ≤ length xs
+  pub rest : sameSymbols xs ys ≡ sameSymbols (drop i xs) (drop i ys)
+
+module _ {xs ys : List ℕ} {i : ℕ} (r : Alike xs ys i) where
+  alike-here : i < length xs → sameSymbols xs ys ≡ cond (eqb (getD xs i 0) (getD ys i 0)) (sameSymbols (drop (suc i) xs) (drop (suc i) ys)) false
+  unfolding sameSymbols
+  alike-here h = rw (r .rest, drop-cons xs i 0 h, drop-cons ys i 0 (omega (arith, r .long)))
+
+  pub alike-next : i < length xs → getD xs i 0 ≡ getD ys i 0 → Alike xs ys (i + 1)
+  alike-next h e =
+      record { long = r .long; low = omega arith; rest = rw add-one (alike-here h ∙ rw (eq-eqb (getD xs i 0) (getD ys i 0) e)) }
+
+  pub alike-fails : i < length xs → (getD xs i 0 ≡ getD ys i 0 → ⊥) → sameSymbols xs ys ≡ false
+  alike-fails h e = alike-here h ∙ rw (ne-eqb (getD xs i 0) (getD ys i 0) e)
+
+  pub alike-done : length xs ≤ i → sameSymbols xs ys ≡ true
+  unfolding sameSymbols
+  alike-done h =
+      let k : length ys ≤ i = omega (arith, r .long) in
+      rw (r .rest, drop-of-length-le xs h, drop-of-length-le ys k)
+
+pub same-symbols-short : (xs ys : List ℕ) → (length xs ≡ length ys → ⊥) → sameSymbols xs ys ≡ false
+unfolding sameSymbols
+same-symbols-short [] [] h = absurd (h refl)
+same-symbols-short [] (y ∷ ys) h = refl
+same-symbols-short (x ∷ xs) [] h = refl
+same-symbols-short (x ∷ xs) (y ∷ ys) h =
+    by-test (eqb x y) (λ t. rw (t, same-symbols-short xs ys (λ e. h (ap suc e)))) (λ t. rw t)

@@ -1,0 +1,2 @@
+-- Symbols, lines and refusal 2.
+pub mod Symbols

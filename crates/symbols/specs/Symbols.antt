@@ -1,0 +1,77 @@
+-- Symbols, lines and refusal 2 (document 01, "The line", first paragraph; "Reasons a call is turned down", 2).
+use mathlib.Core.Bool.{Bool, true, false, cond}
+use mathlib.Core.List.{List, [], _∷_, map}
+use Prim.Native.Nat.{ℕ, zero, suc}
+use lib.Dec.{eqb, leb}
+use lib.ListN.{length}
+use Rattle.symbols.specs.declared.TestAnswer.{TestAnswer}
+
+-- A symbol is plus, minus or none.
+abbrev pub none : ℕ
+none = 0
+
+abbrev pub plus : ℕ
+plus = 1
+
+abbrev pub minus : ℕ
+minus = 2
+
+-- The symbols of a period.
+abbrev pub lineLength : ℕ
+lineLength = 48
+
+-- Binary 1 is none, 0 is a pulse: the bits that a line has at symbol level.
+abbrev pub level : ℕ → Bool
+level s = eqb s none
+
+abbrev pub levels : List ℕ → List Bool
+levels line = map level line
+
+-- Every code of the list is at most top.
+unfoldable pub within : ℕ → List ℕ → Bool
+within top [] = true
+within top (s ∷ ss) = cond (leb s top) (within top ss) false
+
+-- n codes, each at most top.
+unfoldable pub fits : ℕ → ℕ → List ℕ → Bool
+fits n top l = cond (eqb (length l) n) (within top l) false
+
+-- A line is 48 symbols.
+abbrev pub isLine : List ℕ → Bool
+isLine l = fits lineLength minus l
+
+-- f of each index below n.
+unfoldable pub tabulate : ℕ → (ℕ → ℕ) → List ℕ
+tabulate zero f = []
+tabulate (suc n) f = f 0 ∷ tabulate n (λ i. f (suc i))
+
+-- The line whose symbol at each index i is f i.
+abbrev pub lineBy : (ℕ → ℕ) → List ℕ
+lineBy f = tabulate lineLength f
+
+-- Whether two lists are the same, number for number.
+unfoldable pub sameSymbols : List ℕ → List ℕ → Bool
+sameSymbols [] [] = true
+sameSymbols [] (y ∷ ys) = false
+sameSymbols (x ∷ xs) [] = false
+sameSymbols (x ∷ xs) (y ∷ ys) = cond (eqb x y) (sameSymbols xs ys) false
+
+-- A slice that a line can be written into is 48 long.
+abbrev pub hasLineLength : List ℕ → Bool
+hasLineLength lent = eqb (length lent) lineLength
+
+-- The reply of a call that changes what it is lent: 0, or refusal 2 where it is lent something wrong.
+abbrev pub reply : Bool → ℕ
+reply good = cond good 0 2
+
+-- What such a call leaves in a lent slice: what it writes there, or every octet as it was.
+abbrev pub leaves : Bool → List ℕ → List ℕ → List ℕ
+leaves good new lent = cond good new lent
+
+-- What a test of a line answers: yes or no, or refusal 2 where what is lent is no line.
+abbrev pub answer : Bool → TestAnswer
+answer true = TestAnswer.Yes
+answer false = TestAnswer.No
+
+abbrev pub tested : (List ℕ → Bool) → List ℕ → TestAnswer
+tested test l = cond (isLine l) (answer (test l)) (TestAnswer.Refused 2)

@@ -1,0 +1,62 @@
+// Symbols and lines (document 01, "The line"): a line is 48 symbols in a lent slice. A lent line of another length, or with another
+// code, is turned down with 2, and then no lent octet changes. Of a slice that is written to, only the length counts.
+ghost use mathlib.Core.Path.{_≡_};
+ghost use Rattle.symbols.specs.Symbols as spec;
+
+// The three symbols.
+pub const NONE: u8 = 0;
+
+pub const PLUS: u8 = 1;
+
+pub const MINUS: u8 = 2;
+
+// The symbols of a period.
+pub const LINE_LENGTH: usize = 48;
+
+// The answer of a test of a line, or the number of the refusal.
+pub enum TestAnswer {
+    Yes,
+    No,
+    Refused(u8),
+}
+
+// Whether s is n codes, each at most top.
+pub fn fits(s: &[u8], n: usize, top: u8) -> bool
+    ensures { λ r. ⌜ r ≡ spec.fits n top (now (s .entry)) ⌝ }
+{
+    if s.len() != n {
+        return false;
+    }
+    let mut i = 0;
+    while i < s.len() {
+        if top < s[i] {
+            return false;
+        }
+        i += 1;
+    }
+    true
+}
+
+// Whether a and b are the same, code for code.
+pub fn same_symbols(a: &[u8], b: &[u8]) -> bool
+    ensures { λ r. ⌜ r ≡ spec.sameSymbols (now (a .entry)) (now (b .entry)) ⌝ }
+{
+    if a.len() != b.len() {
+        return false;
+    }
+    let mut i = 0;
+    while i < a.len() {
+        if a[i] != b[i] {
+            return false;
+        }
+        i += 1;
+    }
+    true
+}
+
+// What a test of a line answers.
+pub fn answer(b: bool) -> TestAnswer
+    ensures { λ r. ⌜ r ≡ spec.answer b ⌝ }
+{
+    if b { TestAnswer::Yes } else { TestAnswer::No }
+}
