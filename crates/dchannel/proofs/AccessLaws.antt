@@ -13,7 +13,7 @@ use lib.Seq.{getD-at, append-snoc, take-suc}
 use borrow.Author.Tests.{ltb-true, ltb-false, leb-true, leb-false, eqb-true, eqb-false, lt-ltb, le-ltb, le-leb, lt-leb, eq-eqb, ne-eqb}
 use Rattle.hdlc.specs.Bits.{sameBit}
 use Rattle.hdlc.specs.Image.{image}
-use Rattle.dchannel.specs.Access.{entered, countAfter, lowAfter, afterE, sending, lowOf, threshold, mayStart, sendsNext, stops, completes, idles, goesOn, tries, turn, leavesAt}
+use Rattle.dchannel.specs.Access.{entered, countAfter, lowAfter, afterE, sending, lowOf, threshold, mayStart, sendsNext, stops, completes, idles, turn, leavesAt}
 use Rattle.dchannel.specs.Handing.{left}
 use Rattle.hdlc.specs.Ones.{endingOnes}
 use Rattle.cases.proofs.ByCases.{by-test, both}
@@ -43,23 +43,23 @@ differ-same false false d = absurd (d refl)
 -- The five ways of an opportunity, with what decides between them
 module _ (x1 x2 : ℕ) (e next : Bool) (a : Access) where
   pub goes-on : 0 < a .sent → e ≡ a .last → a .sent < a .length → turn x1 x2 e next a ≡ sendsNext next (afterE x1 x2 e a)
-  unfolding turn goesOn afterE
+  unfolding turn afterE
   goes-on s q l = rw (lt-ltb 0 (a .sent) s, q, same-refl (a .last), lt-leb (a .length) (a .sent) l)
 
   pub completes-it : 0 < a .sent → e ≡ a .last → a .length ≤ a .sent → turn x1 x2 e next a ≡ completes (afterE x1 x2 e a)
-  unfolding turn goesOn afterE
+  unfolding turn afterE
   completes-it s q l = rw (lt-ltb 0 (a .sent) s, q, same-refl (a .last), le-leb (a .length) (a .sent) l)
 
   pub stops-it : 0 < a .sent → (e ≡ a .last → ⊥) → turn x1 x2 e next a ≡ stops (afterE x1 x2 e a)
-  unfolding turn goesOn afterE
+  unfolding turn afterE
   stops-it s d = rw (lt-ltb 0 (a .sent) s, differ-same e (a .last) d)
 
   pub starts-it : a .sent ≡ 0 → mayStart x1 x2 (afterE x1 x2 e a) ≡ true → turn x1 x2 e next a ≡ sendsNext next (afterE x1 x2 e a)
-  unfolding turn tries
+  unfolding turn
   starts-it s m = rw (le-ltb 0 (a .sent) (omega arith), m)
 
   pub idles-it : a .sent ≡ 0 → mayStart x1 x2 (afterE x1 x2 e a) ≡ false → turn x1 x2 e next a ≡ idles (afterE x1 x2 e a)
-  unfolding turn tries
+  unfolding turn
   idles-it s m = rw (le-ltb 0 (a .sent) (omega arith), m)
 
   -- every property of an opportunity, by these ways

@@ -101,11 +101,11 @@ unfoldable pub idles : Access → Turn
 idles a = record { access = a; d = true; done = 0 }
 
 -- a sending under way, after its E: it stops, is completed or goes on
-unfoldable pub goesOn : Bool → Bool → Access → Turn
+abbrev pub goesOn : Bool → Bool → Access → Turn
 goesOn e next a = cond (sameBit e (a .last)) (cond (leb (a .length) (a .sent)) (completes a) (sendsNext next a)) (stops a)
 
 -- no sending under way, after the E: a held frame starts if it may
-unfoldable pub tries : ℕ → ℕ → Bool → Access → Turn
+abbrev pub tries : ℕ → ℕ → Bool → Access → Turn
 tries x1 x2 next a = cond (mayStart x1 x2 a) (sendsNext next a) (idles a)
 
 -- One D opportunity in F7 with the E heard and the image's bit number `sent`, in the order of docs/DECISIONS.md, reading 1: C and the

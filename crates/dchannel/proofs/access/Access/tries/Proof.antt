@@ -1,4 +1,4 @@
-use Rattle.dchannel.specs.Access.{tries, idles}
+use Rattle.dchannel.specs.Access.{idles}
 use borrow.Author.Needs.{needs}
 use Rattle.dchannel.proofs.access.Access.tries.Statement.{statement}
 use Rattle.dchannel.proofs.access.Access.tries.Tie as tie
@@ -10,11 +10,10 @@ sends-next-requires : tie.Need-sends-next-requires
 sends-next-requires c κs = search needs
 
 returns : tie.Need-returns
-unfolding tries
 returns c = simp (← c .before .before .may-start .ensures, c .before .if1 .taken, c .sends-next .ensures)
 
 returns-2 : tie.Need-returns-2
-unfolding tries idles
+unfolding idles
 returns-2 c = simp (← c .before .may-start .ensures, c .if1 .left)
 
 pub tries-spec : {M : Type 1} → statement M
