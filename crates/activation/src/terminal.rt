@@ -125,7 +125,7 @@ impl Terminal {
     {
         if self.in_range() {
             if self.state == F7 {
-                let handed = self.access.hold(class, length);
+                let handed = self.access.hand(class, length);
                 let access = handed.access;
                 let alignment = self.alignment;
                 let terminal = Terminal {

@@ -82,9 +82,9 @@ fn done(class: u8) -> Access {
 // (c): after a sent frame, how many 1s of the echo go before the next one's start.
 fn starts_again(class: u8) {
     let again = if class == 1 {
-        done(class).hold(Class::One, 24).access
+        done(class).hand(Class::One, 24).access
     } else {
-        done(class).hold(Class::Two, 24).access
+        done(class).hand(Class::Two, 24).access
     };
     say(b"IV.2.2 c class ");
     number(class);

@@ -2,7 +2,7 @@
 -- of class 1 and x2 of class 2.
 use mathlib.Core.Bool.{Bool, true, false, cond, true≢false}
 use mathlib.Core.Path.{_≡_, refl, sym, ap, _∙_, subst}
-use mathlib.Core.Logic.{_↔_}
+use mathlib.Core.Logic.{_↔_, _⊎_, inl, inr}
 use mathlib.Core.List.{List, [], _∷_, _++_}
 use Prim.Native.Nat.{ℕ, _+_, _≤_, _<_}
 use native.Mathlib.Omega.{arith}
@@ -13,10 +13,10 @@ use lib.Seq.{getD-at, append-snoc, take-suc}
 use borrow.Author.Tests.{ltb-true, ltb-false, leb-true, leb-false, eqb-true, eqb-false, lt-ltb, le-ltb, le-leb, lt-leb, eq-eqb, ne-eqb}
 use Rattle.hdlc.specs.Bits.{sameBit}
 use Rattle.hdlc.specs.Image.{image}
-use Rattle.dchannel.specs.Access.{entered, countAfter, lowAfter, afterE, sending, lowOf, threshold, mayStart, sendsNext, stops, completes, idles, turn}
+use Rattle.dchannel.specs.Access.{entered, countAfter, lowAfter, afterE, sending, lowOf, threshold, mayStart, sendsNext, stops, completes, idles, turn, leavesAt}
 use Rattle.dchannel.specs.Handing.{left}
 use Rattle.hdlc.specs.Ones.{endingOnes}
-use Rattle.cases.proofs.ByCases.{by-test}
+use Rattle.cases.proofs.ByCases.{by-test, both}
 use Rattle.hdlc.proofs.OnesLaws.{ending-one}
 use Rattle.hdlc.proofs.ImageLaws.{length-image}
 use Rattle.dchannel.specs.declared.access.Access.{Access}
@@ -43,15 +43,15 @@ differ-same false false d = absurd (d refl)
 -- The five ways of an opportunity, with what decides between them
 module _ (x1 x2 : ℕ) (e next : Bool) (a : Access) where
   pub goes-on : 0 < a .sent → e ≡ a .last → a .sent < a .length → turn x1 x2 e next a ≡ sendsNext next (afterE x1 x2 e a)
-  unfolding turn
+  unfolding turn afterE
   goes-on s q l = rw (lt-ltb 0 (a .sent) s, q, same-refl (a .last), lt-leb (a .length) (a .sent) l)
 
   pub completes-it : 0 < a .sent → e ≡ a .last → a .length ≤ a .sent → turn x1 x2 e next a ≡ completes (afterE x1 x2 e a)
-  unfolding turn
+  unfolding turn afterE
   completes-it s q l = rw (lt-ltb 0 (a .sent) s, q, same-refl (a .last), le-leb (a .length) (a .sent) l)
 
   pub stops-it : 0 < a .sent → (e ≡ a .last → ⊥) → turn x1 x2 e next a ≡ stops (afterE x1 x2 e a)
-  unfolding turn
+  unfolding turn afterE
   stops-it s d = rw (lt-ltb 0 (a .sent) s, differ-same e (a .last) d)
 
   pub starts-it : a .sent ≡ 0 → mayStart x1 x2 (afterE x1 x2 e a) ≡ true → turn x1 x2 e next a ≡ sendsNext next (afterE x1 x2 e a)
@@ -70,22 +70,65 @@ module _ (x1 x2 : ℕ) (e next : Bool) (a : Access) where
       → (a .sent ≡ 0 → mayStart x1 x2 (afterE x1 x2 e a) ≡ true → P (sendsNext next (afterE x1 x2 e a)))
       → (a .sent ≡ 0 → mayStart x1 x2 (afterE x1 x2 e a) ≡ false → P (idles (afterE x1 x2 e a)))
       → P (turn x1 x2 e next a)
-  unfolding turn
   by-ways P go complete stop start idle =
       by-test (sending a)
       (λ s.
-      rw s
-      (by-test (sameBit e (a .last))
+      let under : 0 < a .sent = ltb-true 0 (a .sent) s in
+      by-test (sameBit e (a .last))
       (λ q.
-      rw q
-      (by-test (leb (a .length) (a .sent))
-      (λ l. rw l (complete (ltb-true 0 (a .sent) s) (same-equal e (a .last) q) (leb-true (a .length) (a .sent) l)))
-      (λ l. rw l (go (ltb-true 0 (a .sent) s) (same-equal e (a .last) q) (leb-false (a .length) (a .sent) l)))))
-      (λ q. rw q (stop (ltb-true 0 (a .sent) s) (same-differ e (a .last) q)))))
+      let agrees : e ≡ a .last = same-equal e (a .last) q in
+      by-test (leb (a .length) (a .sent))
+      (λ l. let all : a .length ≤ a .sent = leb-true (a .length) (a .sent) l in rw (completes-it under agrees all) (complete under agrees all))
+      (λ l. let some : a .sent < a .length = leb-false (a .length) (a .sent) l in rw (goes-on under agrees some) (go under agrees some)))
+      (λ q. rw (stops-it under (same-differ e (a .last) q)) (stop under (same-differ e (a .last) q))))
       (λ s.
-      rw s
-      (by-test (mayStart x1 x2 (afterE x1 x2 e a)) (λ m. rw m (start (omega (arith, ltb-false 0 (a .sent) s)) m))
-      (λ m. rw m (idle (omega (arith, ltb-false 0 (a .sent) s)) m))))
+      let none : a .sent ≡ 0 = omega (arith, ltb-false 0 (a .sent) s) in
+      by-test (mayStart x1 x2 (afterE x1 x2 e a)) (λ m. rw (starts-it none m) (start none m)) (λ m. rw (idles-it none m) (idle none m)))
+
+-- The next bit. A frame that may start is held, and E changes neither the frame nor what has left of it
+pub may-held : (x1 x2 : ℕ) (a : Access) → mayStart x1 x2 a ≡ true → a .held ≡ 0 → ⊥
+unfolding mayStart
+may-held x1 x2 a m z = true≢false (sym m ∙ rw z)
+
+pub after-held : (x1 x2 : ℕ) (e : Bool) (a : Access) → afterE x1 x2 e a .held ≡ a .held
+unfolding afterE
+after-held x1 x2 e a = refl
+
+-- a bit leaves exactly where `leavesAt` says so, and then the opportunity is that of the next bit ..
+pub turn-leaves : (x1 x2 : ℕ) (e next : Bool) (a : Access) → leavesAt x1 x2 e a ≡ true
+    → turn x1 x2 e next a ≡ sendsNext next (afterE x1 x2 e a)
+unfolding leavesAt
+turn-leaves x1 x2 e next a =
+    by-ways x1 x2 e next a (λ t. leavesAt x1 x2 e a ≡ true → t ≡ sendsNext next (afterE x1 x2 e a)) (λ s q l h. refl)
+    (λ s q l h. absurd (true≢false (sym h ∙ rw (lt-ltb 0 (a .sent) s, q, same-refl (a .last), le-ltb (a .sent) (a .length) l))))
+    (λ s d h. absurd (true≢false (sym h ∙ rw (lt-ltb 0 (a .sent) s, differ-same e (a .last) d))))
+    (λ s m h. refl)
+    (λ s m h. absurd (true≢false (sym h ∙ rw (le-ltb 0 (a .sent) (omega arith), m))))
+
+-- .. and elsewhere it takes no notice of the next bit
+pub turn-silent : (x1 x2 : ℕ) (e n m : Bool) (a : Access) → leavesAt x1 x2 e a ≡ false → turn x1 x2 e n a ≡ turn x1 x2 e m a
+unfolding leavesAt
+turn-silent x1 x2 e n m a =
+    by-ways x1 x2 e n a (λ t. leavesAt x1 x2 e a ≡ false → t ≡ turn x1 x2 e m a)
+    (λ s q l h. absurd (true≢false (rw (lt-ltb 0 (a .sent) s, q, same-refl (a .last), lt-ltb (a .sent) (a .length) l) at h)))
+    (λ s q l h. sym (completes-it x1 x2 e m a s q l)) (λ s d h. sym (stops-it x1 x2 e m a s d))
+    (λ s u h. absurd (true≢false (rw (le-ltb 0 (a .sent) (omega arith), u) at h))) (λ s u h. sym (idles-it x1 x2 e m a s u))
+
+-- where a held frame has a bit to send, a bit that leaves is one of the image ..
+pub leaves-room : (x1 x2 : ℕ) (e : Bool) (a : Access) → ((a .held ≡ 0 → ⊥) → 1 ≤ a .length) → leavesAt x1 x2 e a ≡ true → a .sent < a .length
+unfolding leavesAt
+leaves-room x1 x2 e a room h =
+    by-test (sending a)
+    (λ s. ltb-true (a .sent) (a .length) (both (sameBit e (a .last)) (ltb (a .sent) (a .length)) (rw s at h) .1))
+    (λ s.
+    let some : 1 ≤ a .length = room (λ z. may-held x1 x2 (afterE x1 x2 e a) (rw s at h) (after-held x1 x2 e a ∙ z)) in
+    omega (arith, ltb-false 0 (a .sent) s))
+
+-- .. so that two next bits that agree wherever the image has one give the same opportunity
+pub turn-next : (x1 x2 : ℕ) (e n m : Bool) (a : Access) → ((a .held ≡ 0 → ⊥) → 1 ≤ a .length) → (a .sent < a .length → n ≡ m)
+    → turn x1 x2 e n a ≡ turn x1 x2 e m a
+turn-next x1 x2 e n m a room same =
+    by-test (leavesAt x1 x2 e a) (λ t. rw (same (leaves-room x1 x2 e a room t))) (λ t. turn-silent x1 x2 e n m a t)
 
 -- C: "A terminal in F7 counts running 1s of E as C"; it "need not pass 11", x2 + 1
 pub count-zero : (x2 c : ℕ) → countAfter x2 false c ≡ 0
@@ -325,6 +368,12 @@ length-kept x1 x2 e next a h =
     by-ways x1 x2 e next a (λ t. t .done ≡ 0 → t .access .length ≡ a .length) (λ s q l z. refl) (λ s q l z. absurd (omega arith)) (λ s d z. refl)
     (λ s m z. refl) (λ s m z. refl)
 
+pub length-most : (x1 x2 : ℕ) (e next : Bool) (a : Access) → turn x1 x2 e next a .access .length ≤ a .length
+unfolding sendsNext completes stops idles afterE
+length-most x1 x2 e next a =
+    by-ways x1 x2 e next a (λ t. t .access .length ≤ a .length) (λ s q l. omega arith) (λ s q l. omega arith) (λ s d. omega arith)
+    (λ s m. omega arith) (λ s m. omega arith)
+
 -- A completion. "The frame is completed when the echo of its last bit agrees", all its bits having left; it is no longer held, and D is 1
 pub record Completed (x1 x2 : ℕ) (e : Bool) (a : Access) (t : Turn) : Type 0 where
   pub done : t .done ≡ a .held
@@ -353,6 +402,13 @@ completion-only x1 x2 e next a =
     by-ways x1 x2 e next a (λ t. (t .done ≡ 0 → ⊥) → LastEcho e a (t .done)) (λ s q l h. absurd (h refl))
     (λ s q l h. record { was-sending = s; all-sent = l; echo = q; class = refl }) (λ s d h. absurd (h refl)) (λ s m h. absurd (h refl))
     (λ s m h. absurd (h refl))
+
+-- what is completed is nothing, or a frame of the held class
+pub done-held : (x1 x2 : ℕ) (e next : Bool) (a : Access) → (turn x1 x2 e next a .done ≡ 0) ⊎ (turn x1 x2 e next a .done ≡ a .held)
+unfolding sendsNext completes stops idles afterE
+done-held x1 x2 e next a =
+    by-ways x1 x2 e next a (λ t. (t .done ≡ 0) ⊎ (t .done ≡ a .held)) (λ s q l. inl refl) (λ s q l. inr refl) (λ s d. inl refl) (λ s m. inl refl)
+    (λ s m. inl refl)
 
 -- .. which is the echo of the last bit, where no more bits have left than the image has
 pub completion-last : (x1 x2 : ℕ) (e next : Bool) (a : Access) → a .sent ≤ a .length → (turn x1 x2 e next a .done ≡ 0 → ⊥)

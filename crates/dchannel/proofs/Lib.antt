@@ -1,3 +1,4 @@
 -- Theorems about a terminal's access: AccessLaws, RangesKept.
+pub mod Operators
 pub mod AccessLaws
 pub mod RangesKept

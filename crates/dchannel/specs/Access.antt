@@ -100,10 +100,19 @@ completes a =
 unfoldable pub idles : Access → Turn
 idles a = record { access = a; d = true; done = 0 }
 
--- One D opportunity in F7 with the E heard and the image's bit number `sent`, in the order of docs/DECISIONS.md, reading 1: C and levels; a
--- sending stops, is completed or goes on; a terminal that was not sending as E came starts if it may.
+-- a sending under way, after its E: it stops, is completed or goes on
+abbrev pub goesOn : Bool → Bool → Access → Turn
+goesOn e next a = cond (sameBit e (a .last)) (cond (leb (a .length) (a .sent)) (completes a) (sendsNext next a)) (stops a)
+
+-- no sending under way, after the E: a held frame starts if it may
+abbrev pub tries : ℕ → ℕ → Bool → Access → Turn
+tries x1 x2 next a = cond (mayStart x1 x2 a) (sendsNext next a) (idles a)
+
+-- One D opportunity in F7 with the E heard and the image's bit number `sent`, in the order of docs/DECISIONS.md, reading 1: C and the
+-- levels first; then what a terminal does that was sending as E came, or was not.
 unfoldable pub turn : ℕ → ℕ → Bool → Bool → Access → Turn
-turn x1 x2 e next a =
-    cond (sending a)
-    (cond (sameBit e (a .last)) (cond (leb (a .length) (a .sent)) (completes (afterE x1 x2 e a)) (sendsNext next (afterE x1 x2 e a))) (stops (afterE x1 x2 e a)))
-    (cond (mayStart x1 x2 (afterE x1 x2 e a)) (sendsNext next (afterE x1 x2 e a)) (idles (afterE x1 x2 e a)))
+turn x1 x2 e next a = cond (sending a) (goesOn e next (afterE x1 x2 e a)) (tries x1 x2 next (afterE x1 x2 e a))
+
+-- whether a bit of the image leaves at the opportunity with this E
+unfoldable pub leavesAt : ℕ → ℕ → Bool → Access → Bool
+leavesAt x1 x2 e a = cond (sending a) (cond (sameBit e (a .last)) (ltb (a .sent) (a .length)) false) (mayStart x1 x2 (afterE x1 x2 e a))

@@ -1,29 +1,23 @@
--- What a terminal's access record does besides its D opportunities: a frame is handed over, F7 is left (document 01, "D access
--- (6.1)" and "Reasons a call is turned down"); and the two halves of an opportunity.
-use mathlib.Core.Bool.{Bool, true, false, cond}
+-- A frame is handed over, and F7 is left (document 01, "D access (6.1)" and "Reasons a call is turned down").
+use mathlib.Core.Bool.{Bool, true, cond, _&&_}
 use Prim.Native.Nat.{ℕ}
-use lib.Dec.{ltb, leb, eqb}
-use Rattle.hdlc.specs.Image.{longestImage}
-use Rattle.dchannel.specs.Access.{fresh, mayStart, sendsNext, stops, completes, idles}
+use lib.Dec.{leb, eqb}
+use Rattle.hdlc.specs.Image.{shortestImage, longestImage}
+use Rattle.dchannel.specs.Access.{fresh}
 use Rattle.dchannel.specs.declared.access.Access.{Access}
 use Rattle.dchannel.specs.declared.access.Class.{Class}
 use Rattle.dchannel.specs.declared.access.Class.the-variants.{One, Two}
 use Rattle.dchannel.specs.declared.access.Handed.{Handed}
 use Rattle.dchannel.specs.declared.access.Left.{Left}
-use Rattle.dchannel.specs.declared.access.Turn.{Turn}
 
 -- the number of a class
 abbrev pub classNumber : Class → ℕ
 classNumber One = 1
 classNumber Two = 2
 
--- the bits of the shortest image: two flags and one octet
-abbrev pub shortestImage : ℕ
-shortestImage = 24
-
 -- whether a number of bits is one that an image may have
 unfoldable pub isImageLength : ℕ → Bool
-isImageLength n = cond (ltb n shortestImage) false (leb n longestImage)
+isImageLength n = leb shortestImage n && leb n longestImage
 
 -- the record with a frame of class k to send
 unfoldable pub takenUp : ℕ → ℕ → Access → Access
@@ -42,11 +36,3 @@ handed class n a =
 -- "Leaving F7 drops a held frame and sets both levels to normal"
 unfoldable pub left : Access → Left
 left a = record { access = fresh; dropped = a .held }
-
--- a sending under way, after its E: `agrees` says whether the echo is the bit that left last
-unfoldable pub goesOn : Bool → Bool → Access → Turn
-goesOn agrees next a = cond agrees (cond (leb (a .length) (a .sent)) (completes a) (sendsNext next a)) (stops a)
-
--- no sending under way, after the E
-unfoldable pub tries : ℕ → ℕ → Bool → Access → Turn
-tries x1 x2 next a = cond (mayStart x1 x2 a) (sendsNext next a) (idles a)

@@ -1,19 +1,11 @@
--- "Every field in its range", for a terminal's access record with normal level x2 of class 2.
-use mathlib.Core.Bool.{Bool, true, false, cond}
+-- "A field of the bus record lies outside its range" (document 01, reason 1), for a terminal's access record with normal level x2 of
+-- class 2. Each field has its own range; a bool has none.
+use mathlib.Core.Bool.{Bool, _&&_}
 use Prim.Native.Nat.{ℕ, _+_}
-use lib.Dec.{ltb, leb, eqb}
-use Rattle.dchannel.specs.Handing.{isImageLength}
+use lib.Dec.{leb}
+use Rattle.hdlc.specs.Image.{longestImage}
 use Rattle.dchannel.specs.declared.access.Access.{Access}
 
--- the held class and the image's length fit each other
-unfoldable pub heldInRange : Access → Bool
-heldInRange a = cond (eqb (a .held) 0) (eqb (a .length) 0) (cond (leb (a .held) 2) (isImageLength (a .length)) false)
-
--- the last bit is 1 where none has left
-unfoldable pub lastInRange : Access → Bool
-lastInRange a = cond (a .last) true (ltb 0 (a .sent))
-
+-- the class from 0 to 2, the image's bits and those that have left to the longest image, C to the low value of class 2
 unfoldable pub accessInRange : ℕ → Access → Bool
-accessInRange x2 a =
-    cond (ltb (x2 + 1) (a .count)) false
-    (cond (ltb (a .length) (a .sent)) false (cond (heldInRange a) (lastInRange a) false))
+accessInRange x2 a = leb (a .held) 2 && leb (a .length) longestImage && leb (a .sent) longestImage && leb (a .count) (x2 + 1)

@@ -11,7 +11,7 @@ use Rattle.info.specs.Info.{info0, info1}
 use Rattle.hdlc.specs.Bits.{lowBits, bodyBits}
 use Rattle.hdlc.specs.Image.{flag, stuff, image}
 use Rattle.dchannel.specs.Access.{normal1, normal2, countAfter, lowAfter, afterE, lowOf, threshold, mayStart, sendsNext, stops, completes, idles, turn}
-use Rattle.dchannel.specs.Ranges.{heldInRange, lastInRange, accessInRange}
+use Rattle.dchannel.specs.Ranges.{accessInRange}
 use Rattle.dchannel.specs.Access as access
 use Rattle.dchannel.specs.declared.access.Access.{Access}
 use Rattle.dchannel.specs.declared.access.Turn.{Turn}
@@ -98,5 +98,5 @@ all [] = true
 all (b ∷ bs) = cond b (all bs) false
 
 pub edges-hold : all edges ≡ true
-unfolding edges image stuff bodyBits lowBits mayStart threshold lowOf turn afterE countAfter lowAfter sendsNext stops completes idles sameSymbols framedIn firstPulse hasPulse shownUp network.heard network.ready network.networkInRange network.heardAs network.andThen network.happens network.acts network.moved network.alignedBy lossUp heardUp followed alignmentInRange noted cellIn timerAfter due terminal.timerDue terminal.ready terminal.terminalInRange terminal.happens terminal.acts terminal.noTimer accessInRange heldInRange lastInRange
+unfolding edges image stuff bodyBits lowBits mayStart threshold lowOf turn afterE countAfter lowAfter sendsNext stops completes idles sameSymbols framedIn firstPulse hasPulse shownUp network.heard network.ready network.networkInRange network.heardAs network.andThen network.happens network.acts network.moved network.alignedBy lossUp heardUp followed alignmentInRange noted cellIn timerAfter due terminal.timerDue terminal.ready terminal.terminalInRange terminal.happens terminal.acts terminal.noTimer accessInRange
 edges-hold = refl

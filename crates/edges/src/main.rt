@@ -17,7 +17,7 @@ fn show(answer: Imaged) {
             say(b"image of ");
             io::print_decimal(STDOUT_FILENO, n as u64);
             say(b" bits, reply ");
-            let handed = Access::fresh().hold(Class::One, n);
+            let handed = Access::fresh().hand(Class::One, n);
             io::print_decimal(STDOUT_FILENO, handed.reply as u64);
         }
         Imaged::Refused(k) => {

@@ -1,7 +1,7 @@
 -- The image of a body: what a terminal sends on D for it (document 01, "D access (6.1)").
 use mathlib.Core.Bool.{Bool, true, false, cond}
 use mathlib.Core.List.{List, [], _∷_, _++_}
-use Prim.Native.Nat.{ℕ, suc, _≤_, _<_}
+use Prim.Native.Nat.{ℕ, suc, _+_, _*_, _/_, _≤_, _<_}
 use lib.Dec.{eqb, leb, ltb}
 use lib.ListN.{length, getD}
 use Rattle.hdlc.specs.Bits.{bodyBits}
@@ -24,9 +24,13 @@ image body = flag ++ (stuff 0 (bodyBits body) ++ flag)
 abbrev pub longestBody : ℕ
 longestBody = 266
 
--- the bits of the longest image
+-- the bits of the shortest image: two flags and one octet
+abbrev pub shortestImage : ℕ
+shortestImage = 16 + 8
+
+-- the bits of the longest image, 2,569: two flags, the longest body and a 0 after every five 1s of it
 abbrev pub longestImage : ℕ
-longestImage = 2569
+longestImage = 16 + 8 * longestBody + (8 * longestBody) / 5
 
 -- "A body is 1 to 266 octets"
 pub record IsBody (body : List ℕ) : Type 0 where

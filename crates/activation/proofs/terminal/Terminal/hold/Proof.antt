@@ -7,8 +7,8 @@ use Rattle.activation.proofs.terminal.Terminal.hold.Tie as tie
 in-range-requires : tie.Need-in-range-requires
 in-range-requires c κs = search needs
 
-hold-requires : tie.Need-hold-requires
-hold-requires c κs = search needs
+hand-requires : tie.Need-hand-requires
+hand-requires c κs = search needs
 
 unchanged-requires : tie.Need-unchanged-requires
 unchanged-requires c κs = search needs
@@ -18,7 +18,7 @@ unchanged-requires-2 c κs = search needs
 
 returns : tie.Need-returns
 unfolding handedOver holding
-returns c = simp (c .before .before .hold .ensures, eq-eqb _ _ (c .before .before .before .if2 .taken), c .before .before .before .before .before .if1 .taken, ← c .before .before .before .before .before .before .in-range .ensures)
+returns c = simp (c .before .before .hand .ensures, eq-eqb _ _ (c .before .before .before .if2 .taken), c .before .before .before .before .before .if1 .taken, ← c .before .before .before .before .before .before .in-range .ensures)
 
 returns-2 : tie.Need-returns-2
 unfolding handedOver holding
@@ -33,7 +33,7 @@ hold-spec =
     tie.close
     (tie.spec
     in-range-requires
-    hold-requires
+    hand-requires
     unchanged-requires
     unchanged-requires-2
     returns

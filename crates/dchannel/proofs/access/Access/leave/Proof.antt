@@ -1,4 +1,3 @@
-use mathlib.Core.Path.{_≡_, refl, ap, sym, _∙_}
 use Rattle.dchannel.specs.Handing.{left}
 use borrow.Author.Needs.{needs}
 use Rattle.dchannel.proofs.access.Access.leave.Statement.{statement}

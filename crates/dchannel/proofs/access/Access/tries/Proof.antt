@@ -1,4 +1,3 @@
-use Rattle.dchannel.specs.Handing.{tries}
 use Rattle.dchannel.specs.Access.{idles}
 use borrow.Author.Needs.{needs}
 use Rattle.dchannel.proofs.access.Access.tries.Statement.{statement}
@@ -7,16 +6,15 @@ use Rattle.dchannel.proofs.access.Access.tries.Tie as tie
 may-start-requires : tie.Need-may-start-requires
 may-start-requires c κs = search needs
 
-sends-requires : tie.Need-sends-requires
-sends-requires c κs = search needs
+sends-next-requires : tie.Need-sends-next-requires
+sends-next-requires c κs = search needs
 
 returns : tie.Need-returns
-unfolding tries
-returns c = simp (← c .before .before .may-start .ensures, c .before .if1 .taken, c .sends .ensures)
+returns c = simp (← c .before .before .may-start .ensures, c .before .if1 .taken, c .sends-next .ensures)
 
 returns-2 : tie.Need-returns-2
-unfolding tries idles
+unfolding idles
 returns-2 c = simp (← c .before .may-start .ensures, c .if1 .left)
 
 pub tries-spec : {M : Type 1} → statement M
-tries-spec = tie.close (tie.spec may-start-requires sends-requires returns returns-2)
+tries-spec = tie.close (tie.spec may-start-requires sends-next-requires returns returns-2)

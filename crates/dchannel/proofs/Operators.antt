@@ -1,0 +1,38 @@
+-- Rattle's operators on bools, as the definitions write them.
+use mathlib.Core.Bool.{Bool, true, false, cond, not, _&&_, _||_, Bool·beq}
+use mathlib.Core.Path.{_≡_, refl}
+use Prim.Native.Nat.{ℕ, _≤_}
+use native.Mathlib.Omega.{arith}
+use mir.Val.{boolByte}
+use Rattle.hdlc.specs.Bits.{sameBit}
+
+-- `a | b`
+pub or-cond : (a b : Bool) → (a || b) ≡ cond a true b
+or-cond true b = refl
+or-cond false b = refl
+
+-- `a & b`
+pub and-both : (a b : Bool) → (a && b) ≡ true → (a ≡ true) × (b ≡ true)
+and-both true b h = (refl, h)
+and-both false b h = (h, cc)
+
+-- `!a & b`
+pub without-cond : (a b : Bool) → (not a && b) ≡ cond a false b
+without-cond true b = refl
+without-cond false b = refl
+
+-- `a == b`
+pub same-beq : (a b : Bool) → sameBit a b ≡ Bool·beq a b
+same-beq true true = refl
+same-beq true false = refl
+same-beq false true = refl
+same-beq false false = refl
+
+-- `a as u8`
+pub byte-cond : (a : Bool) → boolByte a ≡ cond {A = ℕ} a 1 0
+byte-cond true = refl
+byte-cond false = refl
+
+pub byte-most : (a : Bool) → boolByte a ≤ 1
+byte-most true = omega arith
+byte-most false = omega arith
