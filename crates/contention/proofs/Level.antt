@@ -125,7 +125,7 @@ module _ (x1 x2 k i j : ℕ) (k1 : 1 ≤ k) where
 pub no-rival-twice : InStretches NoRivalTwice
 no-rival-twice x1 x2 c during h1 h2 start st i j k p q ne k1 pq len done-p done-q waits open-frame =
     let r = completed-at x1 x2 (o q) (inv q len) k j k1 done-q in
-    ahead q pq (omega arith) .rival-barred (r .sending) (sym (r .done-now) ∙ done-q .done)
+    ahead q (omega arith) (omega arith) .rival-barred (r .sending) (sym (r .done-now) ∙ done-q .done)
   where
     o : ℕ → Channel
     o t = opp x1 x2 c during h1 h2 start st t
