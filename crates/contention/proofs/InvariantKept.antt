@@ -21,7 +21,7 @@ use Rattle.contention.specs.Channel.Action.{hand, enter, leave, clear, o
 use Rattle.contention.specs.Stretch.{station}
 use Rattle.contention.specs.Invariant.{Sound, Invariant}
 use Rattle.contention.proofs.Change.{change-each, length-change}
-use Rattle.contention.proofs.Terminal.{Outcome, outcome, WentOn, Started, completed, went-on, stopped, started, idled, outside, hears-outside, active-after, body-after, count-after, count-most, count-step, count-zero, threshold-least, level-least}
+use Rattle.contention.proofs.Terminal.{Outcome, outcome, WentOn, Started, StartedAt, completed, went-on, stopped, started, idled, outside, hears-outside, active-after, body-after, count-after, count-most, count-step, count-zero, threshold-least, level-least}
 
 module _ (x1 x2 : ℕ) where
   -- every terminal hears the E of an opportunity
@@ -48,64 +48,65 @@ sound-fresh x2 =
       last-bit = λ n h. absurd (omega arith);
     }
 
-sound-outcome : (x1 x2 : ℕ) (e : Bool) (s s′ : Station) (d : Bool) (done : ℕ) → Sound x2 s → s′ .active ≡ s .active → s′ .body ≡ s .body
-    → (s .active ≡ true → s′ .access .count ≡ countAfter x2 e (s .access .count)) → Outcome x1 x2 e s s′ d done → Sound x2 s′
-unfolding nextBit
-sound-outcome x1 x2 e s s′ d done h act bod cnt (completed r) =
-    record {
-      counted = rw (cnt (r .in-F7)) (count-most x2 e (s .access .count) (h .counted));
-      outside = λ f. absurd (false≢true (sym f ∙ act ∙ r .in-F7));
-      class-known = omega arith;
-      none-held = λ _. (r .length-now, r .sent-now);
-      frame-held = λ k. absurd (omega arith);
-      sent-part = omega arith;
-      last-bit = λ n q. absurd (omega arith);
-    }
-sound-outcome x1 x2 e s s′ d done h act bod cnt (went-on r) =
-    record {
-      counted = rw (cnt (r .in-F7)) (count-most x2 e (s .access .count) (h .counted));
-      outside = λ f. absurd (false≢true (sym f ∙ act ∙ r .in-F7));
-      class-known = omega arith;
-      none-held = λ z. absurd (omega (arith, h .none-held (sym (r .held-now) ∙ z)));
-      frame-held = λ k. let f = h .frame-held (omega arith) in (rw bod (f .0), rw bod (r .length-now ∙ f .1));
-      sent-part = omega arith;
-      last-bit = λ n q. let m : n ≡ s .access .sent = omega arith in cc;
-    }
-sound-outcome x1 x2 e s s′ d done h act bod cnt (stopped r) =
-    record {
-      counted = rw (cnt (r .in-F7)) (count-most x2 e (s .access .count) (h .counted));
-      outside = λ f. absurd (false≢true (sym f ∙ act ∙ r .in-F7));
-      class-known = omega arith;
-      none-held = λ z. absurd (omega (arith, h .none-held (sym (r .held-now) ∙ z)));
-      frame-held = λ k. let f = h .frame-held (omega arith) in (rw bod (f .0), rw bod (r .length-now ∙ f .1));
-      sent-part = omega arith;
-      last-bit = λ n q. absurd (omega arith);
-    }
-sound-outcome x1 x2 e s s′ d done h act bod cnt (started r) =
-    record {
-      counted = rw (cnt (r .in-F7)) (count-most x2 e (s .access .count) (h .counted));
-      outside = λ f. absurd (false≢true (sym f ∙ act ∙ r .in-F7));
-      class-known = omega arith;
-      none-held = λ z. absurd (omega arith);
-      frame-held = λ k. let f = h .frame-held (omega arith) in (rw bod (f .0), rw bod (r .length-now ∙ f .1));
-      sent-part = omega (arith, h .frame-held (r .holds) .1, length-image (s .body));
-      last-bit = λ n q. let m : n ≡ s .access .sent = omega arith in cc;
-    }
-sound-outcome x1 x2 e s s′ d done h act bod cnt (idled r) =
-    record {
-      counted = rw (cnt (r .in-F7)) (count-most x2 e (s .access .count) (h .counted));
-      outside = λ f. absurd (false≢true (sym f ∙ act ∙ r .in-F7));
-      class-known = omega arith;
-      none-held = λ z. (r .length-now ∙ h .none-held (sym (r .held-now) ∙ z) .0, r .sent-now);
-      frame-held = λ k. let f = h .frame-held (omega arith) in (rw bod (f .0), rw bod (r .length-now ∙ f .1));
-      sent-part = omega arith;
-      last-bit = λ n q. absurd (omega arith);
-    }
-sound-outcome x1 x2 e s s′ d done h act bod cnt (outside r) = rw (r .as-before) h
+module _ {x1 x2 : ℕ} {e : Bool} {s s′ : Station} {d : Bool} {done : ℕ} where
+  sound-outcome : Sound x2 s → s′ .active ≡ s .active → s′ .body ≡ s .body
+      → (s .active ≡ true → s′ .access .count ≡ countAfter x2 e (s .access .count)) → Outcome x1 x2 e s s′ d done → Sound x2 s′
+  unfolding nextBit
+  sound-outcome h act bod cnt (completed r) =
+      record {
+        counted = rw (cnt (r .in-F7)) (count-most x2 e (s .access .count) (h .counted));
+        outside = λ f. absurd (false≢true (sym f ∙ act ∙ r .in-F7));
+        class-known = omega arith;
+        none-held = λ _. (r .length-now, r .sent-now);
+        frame-held = λ k. absurd (omega arith);
+        sent-part = omega arith;
+        last-bit = λ n q. absurd (omega arith);
+      }
+  sound-outcome h act bod cnt (went-on r) =
+      record {
+        counted = rw (cnt (r .in-F7)) (count-most x2 e (s .access .count) (h .counted));
+        outside = λ f. absurd (false≢true (sym f ∙ act ∙ r .in-F7));
+        class-known = omega arith;
+        none-held = λ z. absurd (omega (arith, h .none-held (sym (r .held-now) ∙ z)));
+        frame-held = λ k. let f = h .frame-held (omega arith) in (rw bod (f .0), rw bod (r .length-now ∙ f .1));
+        sent-part = omega arith;
+        last-bit = λ n q. let m : n ≡ s .access .sent = omega arith in cc;
+      }
+  sound-outcome h act bod cnt (stopped r) =
+      record {
+        counted = rw (cnt (r .in-F7)) (count-most x2 e (s .access .count) (h .counted));
+        outside = λ f. absurd (false≢true (sym f ∙ act ∙ r .in-F7));
+        class-known = omega arith;
+        none-held = λ z. absurd (omega (arith, h .none-held (sym (r .held-now) ∙ z)));
+        frame-held = λ k. let f = h .frame-held (omega arith) in (rw bod (f .0), rw bod (r .length-now ∙ f .1));
+        sent-part = omega arith;
+        last-bit = λ n q. absurd (omega arith);
+      }
+  sound-outcome h act bod cnt (started r) =
+      record {
+        counted = rw (cnt (r .in-F7)) (count-most x2 e (s .access .count) (h .counted));
+        outside = λ f. absurd (false≢true (sym f ∙ act ∙ r .in-F7));
+        class-known = omega arith;
+        none-held = λ z. absurd (omega arith);
+        frame-held = λ k. let f = h .frame-held (omega arith) in (rw bod (f .0), rw bod (r .length-now ∙ f .1));
+        sent-part = omega (arith, h .frame-held (r .holds) .1, length-image (s .body));
+        last-bit = λ n q. let m : n ≡ s .access .sent = omega arith in cc;
+      }
+  sound-outcome h act bod cnt (idled r) =
+      record {
+        counted = rw (cnt (r .in-F7)) (count-most x2 e (s .access .count) (h .counted));
+        outside = λ f. absurd (false≢true (sym f ∙ act ∙ r .in-F7));
+        class-known = omega arith;
+        none-held = λ z. (r .length-now ∙ h .none-held (sym (r .held-now) ∙ z) .0, r .sent-now);
+        frame-held = λ k. let f = h .frame-held (omega arith) in (rw bod (f .0), rw bod (r .length-now ∙ f .1));
+        sent-part = omega arith;
+        last-bit = λ n q. absurd (omega arith);
+      }
+  sound-outcome h act bod cnt (outside r) = rw (r .as-before) h
 
 pub sound-hears : (x1 x2 : ℕ) (e : Bool) (s : Station) → Sound x2 s → Sound x2 (hears x1 x2 e s)
 sound-hears x1 x2 e s h =
-    sound-outcome x1 x2 e s (hears x1 x2 e s) (sendsD x1 x2 e s) (turnAt x1 x2 e s .done) h (active-after x1 x2 e s) (body-after x1 x2 e s)
+    sound-outcome h (active-after x1 x2 e s) (body-after x1 x2 e s)
     (count-after x1 x2 e s) (outcome x1 x2 e s)
 
 -- a terminal that is sending holds a frame
@@ -366,19 +367,22 @@ pub data Sender (x1 x2 : ℕ) (e : Bool) (s s′ : Station) (d : Bool) (done : �
   going : WentOn x1 x2 e s s′ d done → Sender x1 x2 e s s′ d done
   starting : Started x1 x2 e s s′ d done → Sender x1 x2 e s s′ d done
 
-sender-of : (x1 x2 : ℕ) (e : Bool) (s s′ : Station) (d : Bool) (done : ℕ) → Sound x2 s → 1 ≤ s′ .access .sent → Outcome x1 x2 e s s′ d done
-    → Sender x1 x2 e s s′ d done
-sender-of x1 x2 e s s′ d done snd h (completed r) = absurd (omega arith)
-sender-of x1 x2 e s s′ d done snd h (went-on r) = going r
-sender-of x1 x2 e s s′ d done snd h (stopped r) = absurd (omega arith)
-sender-of x1 x2 e s s′ d done snd h (started r) = starting r
-sender-of x1 x2 e s s′ d done snd h (idled r) = absurd (omega arith)
-sender-of x1 x2 e s s′ d done snd h (outside r) =
-    absurd (omega (arith, ap (λ (z : Station). z .access .sent) (r .as-before), ap (λ (a : Access). a .sent) (snd .outside (r .not-F7))))
+module _ {x1 x2 : ℕ} {e : Bool} {s s′ : Station} {d : Bool} {done : ℕ} where
+  sender-of : Sound x2 s → 1 ≤ s′ .access .sent → Outcome x1 x2 e s s′ d done
+      → Sender x1 x2 e s s′ d done
+  sender-of snd h (completed r) = absurd (omega arith)
+  sender-of snd h (went-on r) = going r
+  sender-of snd h (stopped r) = absurd (omega arith)
+  sender-of snd h (started r) = starting r
+  sender-of snd h (idled r) = absurd (omega arith)
+  sender-of snd h (outside r) =
+      absurd (omega (arith, ap (λ (z : Station). z .access .sent) (r .as-before), ap (λ (a : Access). a .sent) (snd .outside (r .not-F7))))
 
-pub sender : (x1 x2 : ℕ) (e : Bool) (s : Station) → Sound x2 s → 1 ≤ hears x1 x2 e s .access .sent
-    → Sender x1 x2 e s (hears x1 x2 e s) (sendsD x1 x2 e s) (turnAt x1 x2 e s .done)
-sender x1 x2 e s snd h = sender-of x1 x2 e s (hears x1 x2 e s) (sendsD x1 x2 e s) (turnAt x1 x2 e s .done) snd h (outcome x1 x2 e s)
+abbrev pub SenderAt : ℕ → ℕ → Bool → Station → Type 0
+SenderAt x1 x2 e s = Sender x1 x2 e s (hears x1 x2 e s) (sendsD x1 x2 e s) (turnAt x1 x2 e s .done)
+
+pub sender : (x1 x2 : ℕ) (e : Bool) (s : Station) → Sound x2 s → 1 ≤ hears x1 x2 e s .access .sent → SenderAt x1 x2 e s
+sender x1 x2 e s snd h = sender-of snd h (outcome x1 x2 e s)
 
 module _ (x1 x2 : ℕ) (c : Channel) (inv : Invariant x2 c) where
   -- the 1s that end what a sender has heard of itself, with this E its last bit, bound every C
@@ -405,7 +409,7 @@ module _ (x1 x2 : ℕ) (c : Channel) (inv : Invariant x2 c) where
 
   -- "so nobody starts"
   pub nobody-starts : 8 ≤ x1 → x1 + 2 ≤ x2 → (e : Bool) (i j : ℕ) → 1 ≤ station i c .access .sent → e ≡ station i c .access .last
-      → Started x1 x2 e (station j c) (hears x1 x2 e (station j c)) (sendsD x1 x2 e (station j c)) (turnAt x1 x2 e (station j c) .done) → ⊥
+      → StartedAt x1 x2 e (station j c) → ⊥
   nobody-starts h1 h2 e i j h a r =
       omega (
         arith,
@@ -433,8 +437,8 @@ module _ (x1 x2 : ℕ) (h1 : 8 ≤ x1) (h2 : x1 + 2 ≤ x2) (c : Channel) (inv :
       (λ l. inv .in-phase i j (omega arith) (omega arith) .1 t (omega (arith, eqb-false t n l)))
 
   phase-hears : (i j : ℕ)
-      → Sender x1 x2 e (station i c) (hears x1 x2 e (station i c)) (sendsD x1 x2 e (station i c)) (turnAt x1 x2 e (station i c) .done)
-      → Sender x1 x2 e (station j c) (hears x1 x2 e (station j c)) (sendsD x1 x2 e (station j c)) (turnAt x1 x2 e (station j c) .done)
+      → SenderAt x1 x2 e (station i c)
+      → SenderAt x1 x2 e (station j c)
       → Phase (hears x1 x2 e (station i c)) (hears x1 x2 e (station j c))
   phase-hears i j (going r) (going q) =
       let same-sent = inv .in-phase i j (r .sending) (q .sending) .0 in (
@@ -452,7 +456,7 @@ module _ (x1 x2 : ℕ) (h1 : 8 ≤ x1) (h2 : x1 + 2 ≤ x2) (c : Channel) (inv :
   phase-hears i j (starting r) (starting q) = (omega arith, λ t h. absurd (omega arith))
 
   held-hears : (i j n : ℕ) → hears x1 x2 e (station i c) .access .sent ≡ suc (suc n)
-      → Sender x1 x2 e (station i c) (hears x1 x2 e (station i c)) (sendsD x1 x2 e (station i c)) (turnAt x1 x2 e (station i c) .done)
+      → SenderAt x1 x2 e (station i c)
       → hears x1 x2 e (station j c) .access .count ≤ endingOnes (take (suc n) (image (hears x1 x2 e (station i c) .body)))
   held-hears i j n q (going r) = rw (body-after x1 x2 e (station i c)) (heard-bound x1 x2 c inv e i j n (omega arith) (r .agreed))
   held-hears i j n q (starting r) = absurd (omega arith)
