@@ -14,7 +14,7 @@ use Rattle.cases.proofs.ByCases.{by-test}
 use Rattle.hdlc.proofs.OnesLaws.{ending-one}
 use Rattle.hdlc.specs.Image.{image, isBody}
 use Rattle.hdlc.proofs.ImageLaws.{length-image, image-starts, image-endingOnes}
-use Rattle.dchannel.specs.Access.{entered, countAfter, lowOf}
+use Rattle.dchannel.specs.Access.{fresh, entered, countAfter, lowOf}
 use Rattle.dchannel.specs.Handing.{takenUp, left}
 use Rattle.contention.specs.Channel.{Station, Channel, Action, freshStation, freshChannel, mayHold, holding, entering, leaving, nextBit, turnAt, hears, sendsD, step, run}
 use Rattle.contention.specs.Channel.Action.{hand, enter, leave, clear, opportunity}
@@ -36,16 +36,17 @@ module _ (x1 x2 : ℕ) where
 
 -- ---- one terminal stays sound
 
-pub sound-fresh : (x2 : ℕ) → Sound x2 freshStation
-sound-fresh x2 =
+-- one that holds nothing and has all at its start
+pub sound-fresh : (x2 : ℕ) (s : Station) → s .access ≡ fresh → Sound x2 s
+sound-fresh x2 s q =
     record {
-      counted = omega arith;
-      outside = λ _. refl;
-      class-known = omega arith;
-      none-held = λ _. (refl, refl);
-      frame-held = λ h. absurd (omega arith);
-      sent-part = omega arith;
-      last-bit = λ n h. absurd (omega arith);
+      counted = rw q (omega arith);
+      outside = λ _. q;
+      class-known = rw q (omega arith);
+      none-held = rw q (λ _. (refl, refl));
+      frame-held = rw q (λ h. absurd (omega arith));
+      sent-part = rw q (omega arith);
+      last-bit = rw q (λ n h. absurd (omega arith));
     }
 
 module _ {x1 x2 : ℕ} {e : Bool} {s s′ : Station} {d : Bool} {done : ℕ} where
@@ -174,29 +175,11 @@ sound-entering : (x2 : ℕ) (s : Station) → Sound x2 s → Sound x2 (entering 
 unfolding entered
 sound-entering x2 s h =
     by-test (s .active) (λ m. rw (entering-active s m) h)
-    (λ m. rw (entering-outside s m, h .outside m)
-    (record {
-      counted = omega arith;
-      outside = λ f. absurd (true≢false f);
-      class-known = omega arith;
-      none-held = λ _. (refl, refl);
-      frame-held = λ k. absurd (omega arith);
-      sent-part = omega arith;
-      last-bit = λ n q. absurd (omega arith);
-    }))
+    (λ m. rw (entering-outside s m) (sound-fresh x2 (record { active = true; access = entered (s .access); body = s .body }) (ap entered (h .outside m))))
 
 sound-leaving : (x2 : ℕ) (s : Station) → Sound x2 (leaving s)
 unfolding leaving left
-sound-leaving x2 s =
-    record {
-      counted = omega arith;
-      outside = λ _. refl;
-      class-known = omega arith;
-      none-held = λ _. (refl, refl);
-      frame-held = λ h. absurd (omega arith);
-      sent-part = omega arith;
-      last-bit = λ n h. absurd (omega arith);
-    }
+sound-leaving x2 s = sound-fresh x2 (leaving s) refl
 
 -- ---- what a hand-over or an entry into F7 leaves of a terminal: all that is counted, and a held frame with it
 pub record Quietly (s s′ : Station) : Type 0 where
@@ -487,7 +470,7 @@ fresh-station n j = all-fresh n j
 pub invariant-fresh : (x2 n : ℕ) → Invariant x2 (freshChannel n)
 invariant-fresh x2 n =
     record {
-      sound = λ i. rw (fresh-station n i) (sound-fresh x2);
+      sound = λ i. rw (fresh-station n i) (sound-fresh x2 freshStation refl);
       in-phase = λ i j hi hj. absurd (omega (arith, ap (λ (s : Station). s .access .sent) (fresh-station n i)));
       held-back = λ i j m q. absurd (omega (arith, ap (λ (s : Station). s .access .sent) (fresh-station n i)));
     }
