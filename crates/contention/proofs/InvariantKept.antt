@@ -49,11 +49,26 @@ sound-fresh x2 s q =
       last-bit = rw q (λ n h. absurd (omega arith));
     }
 
-module _ {x1 x2 : ℕ} {e : Bool} {s s′ : Station} {d : Bool} {done : ℕ} where
-  sound-outcome : Sound x2 s → s′ .active ≡ s .active → s′ .body ≡ s .body
-      → (s .active ≡ true → s′ .access .count ≡ countAfter x2 e (s .access .count)) → Outcome x1 x2 e s s′ d done → Sound x2 s′
+-- A terminal s that becomes s′ at E in F7: C follows E, and the held frame stays, or is completed.
+module _ {x2 : ℕ} (e : Bool) {s s′ : Station} (h : Sound x2 s) (act : s′ .active ≡ s .active) (bod : s′ .body ≡ s .body)
+    (cnt : s .active ≡ true → s′ .access .count ≡ countAfter x2 e (s .access .count)) where
+  sound-kept : s .active ≡ true → s′ .access .held ≡ s .access .held → s′ .access .length ≡ s .access .length
+      → (s .access .held ≡ 0 → s′ .access .sent ≡ 0) → s′ .access .sent ≤ s′ .access .length
+      → ((n : ℕ) → s′ .access .sent ≡ suc n → s′ .access .last ≡ getD (image (s .body)) n true) → Sound x2 s′
+  sound-kept on held len none part last =
+      record {
+        counted = rw (cnt on) (count-most x2 e (s .access .count) (h .counted));
+        outside = λ f. absurd (false≢true (sym f ∙ act ∙ on));
+        class-known = omega (arith, h .class-known);
+        none-held = λ z. (len ∙ h .none-held (sym held ∙ z) .0, none (sym held ∙ z));
+        frame-held = λ k. let f = h .frame-held (omega arith) in (rw bod (f .0), rw bod (len ∙ f .1));
+        sent-part = part;
+        last-bit = λ n q. rw bod (last n q);
+      }
+
+  sound-outcome : {x1 : ℕ} {d : Bool} {done : ℕ} → Outcome x1 x2 e s s′ d done → Sound x2 s′
   unfolding nextBit
-  sound-outcome h act bod cnt (completed r) =
+  sound-outcome (completed r) =
       record {
         counted = rw (cnt (r .in-F7)) (count-most x2 e (s .access .count) (h .counted));
         outside = λ f. absurd (false≢true (sym f ∙ act ∙ r .in-F7));
@@ -63,51 +78,22 @@ module _ {x1 x2 : ℕ} {e : Bool} {s s′ : Station} {d : Bool} {done : ℕ} whe
         sent-part = omega arith;
         last-bit = λ n q. absurd (omega arith);
       }
-  sound-outcome h act bod cnt (went-on r) =
-      record {
-        counted = rw (cnt (r .in-F7)) (count-most x2 e (s .access .count) (h .counted));
-        outside = λ f. absurd (false≢true (sym f ∙ act ∙ r .in-F7));
-        class-known = omega arith;
-        none-held = λ z. absurd (omega (arith, h .none-held (sym (r .held-now) ∙ z)));
-        frame-held = λ k. let f = h .frame-held (omega arith) in (rw bod (f .0), rw bod (r .length-now ∙ f .1));
-        sent-part = omega arith;
-        last-bit = λ n q. let m : n ≡ s .access .sent = omega arith in cc;
-      }
-  sound-outcome h act bod cnt (stopped r) =
-      record {
-        counted = rw (cnt (r .in-F7)) (count-most x2 e (s .access .count) (h .counted));
-        outside = λ f. absurd (false≢true (sym f ∙ act ∙ r .in-F7));
-        class-known = omega arith;
-        none-held = λ z. absurd (omega (arith, h .none-held (sym (r .held-now) ∙ z)));
-        frame-held = λ k. let f = h .frame-held (omega arith) in (rw bod (f .0), rw bod (r .length-now ∙ f .1));
-        sent-part = omega arith;
-        last-bit = λ n q. absurd (omega arith);
-      }
-  sound-outcome h act bod cnt (started r) =
-      record {
-        counted = rw (cnt (r .in-F7)) (count-most x2 e (s .access .count) (h .counted));
-        outside = λ f. absurd (false≢true (sym f ∙ act ∙ r .in-F7));
-        class-known = omega arith;
-        none-held = λ z. absurd (omega arith);
-        frame-held = λ k. let f = h .frame-held (omega arith) in (rw bod (f .0), rw bod (r .length-now ∙ f .1));
-        sent-part = omega (arith, h .frame-held (r .holds) .1, length-image (s .body));
-        last-bit = λ n q. let m : n ≡ s .access .sent = omega arith in cc;
-      }
-  sound-outcome h act bod cnt (idled r) =
-      record {
-        counted = rw (cnt (r .in-F7)) (count-most x2 e (s .access .count) (h .counted));
-        outside = λ f. absurd (false≢true (sym f ∙ act ∙ r .in-F7));
-        class-known = omega arith;
-        none-held = λ z. (r .length-now ∙ h .none-held (sym (r .held-now) ∙ z) .0, r .sent-now);
-        frame-held = λ k. let f = h .frame-held (omega arith) in (rw bod (f .0), rw bod (r .length-now ∙ f .1));
-        sent-part = omega arith;
-        last-bit = λ n q. absurd (omega arith);
-      }
-  sound-outcome h act bod cnt (outside r) = rw (r .as-before) h
+  sound-outcome (went-on r) =
+      sound-kept (r .in-F7) (r .held-now) (r .length-now) (λ z. absurd (omega (arith, h .none-held z))) (omega arith)
+      (λ n q. let m : n ≡ s .access .sent = omega arith in cc)
+  sound-outcome (stopped r) =
+      sound-kept (r .in-F7) (r .held-now) (r .length-now) (λ _. r .sent-now) (omega arith) (λ n q. absurd (omega arith))
+  sound-outcome (started r) =
+      sound-kept (r .in-F7) (r .held-now) (r .length-now) (λ z. absurd (omega arith))
+      (omega (arith, h .frame-held (r .holds) .1, length-image (s .body)))
+      (λ n q. let m : n ≡ s .access .sent = omega arith in cc)
+  sound-outcome (idled r) =
+      sound-kept (r .in-F7) (r .held-now) (r .length-now) (λ _. r .sent-now) (omega arith) (λ n q. absurd (omega arith))
+  sound-outcome (outside r) = rw (r .as-before) h
 
 pub sound-hears : (x1 x2 : ℕ) (e : Bool) (s : Station) → Sound x2 s → Sound x2 (hears x1 x2 e s)
 sound-hears x1 x2 e s h =
-    sound-outcome h (active-after x1 x2 e s) (body-after x1 x2 e s)
+    sound-outcome e h (active-after x1 x2 e s) (body-after x1 x2 e s)
     (count-after x1 x2 e s) (outcome x1 x2 e s)
 
 -- a terminal that is sending holds a frame
