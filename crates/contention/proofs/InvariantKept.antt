@@ -12,8 +12,8 @@ use Rattle.dchannel.specs.declared.access.Access.{Access}
 use Rattle.hdlc.specs.Ones.{endingOnes}
 use Rattle.cases.proofs.ByCases.{by-test}
 use Rattle.hdlc.proofs.OnesLaws.{ending-one}
-use Rattle.hdlc.specs.Image.{image, isBody}
-use Rattle.hdlc.proofs.ImageLaws.{length-image, image-starts, image-endingOnes}
+use Rattle.hdlc.specs.Image.{image, IsBody, isBody}
+use Rattle.hdlc.proofs.ImageLaws.{is-body, length-image, image-starts, image-endingOnes}
 use Rattle.dchannel.specs.Access.{fresh, entered, countAfter, lowOf}
 use Rattle.dchannel.specs.Handing.{takenUp, left}
 use Rattle.contention.specs.Channel.{Station, Channel, Action, freshStation, freshChannel, mayHold, holding, entering, leaving, nextBit, turnAt, hears, sendsD, step, run}
@@ -116,7 +116,7 @@ pub record Taken (k : ℕ) (body : List ℕ) (s : Station) : Type 0 where
   pub free : s .access .held ≡ 0
   pub class-least : 1 ≤ k
   pub class-most : k ≤ 2
-  pub is-body : isBody body ≡ true
+  pub of-octets : IsBody body
 
 pub taken : (k : ℕ) (body : List ℕ) (s : Station) → mayHold k body s ≡ true → Taken k body s
 unfolding mayHold
@@ -129,7 +129,7 @@ taken k body s h =
       free = eqb-true (s .access .held) 0 (left .1);
       class-least = one-or-two k (right .0) .0;
       class-most = one-or-two k (right .0) .1;
-      is-body = right .1;
+      of-octets = is-body body (right .1);
     }
 
 sound-holding : (x2 k : ℕ) (body : List ℕ) (s : Station) → Sound x2 s → Sound x2 (holding k body s)
@@ -143,7 +143,7 @@ sound-holding x2 k body s h =
       outside = λ f. absurd (false≢true (sym f ∙ t .in-F7));
       class-known = t .class-most;
       none-held = λ z. absurd (omega arith);
-      frame-held = λ _. (t .is-body, refl);
+      frame-held = λ _. (t .of-octets, refl);
       sent-part = omega arith;
       last-bit = λ n q. absurd (omega arith);
     }))

@@ -1,4 +1,4 @@
--- The class 2 wait (document 02, 2.11), as a statement about a channel where a stretch starts and the stretch from it.
+-- The class 2 wait (document 02, 2.11), as a statement about the channel where a stretch starts and the stretch.
 use mathlib.Core.Bool.{Bool, false, cond, _&&_}
 use mathlib.Core.List.{List, [], _∷_}
 use Prim.Native.Nat.{ℕ, _+_, _≤_, _<_}
@@ -31,8 +31,8 @@ module _ (x1 x2 : ℕ) where
   onesTaken c [] = 0
   onesTaken c (a ∷ more) = cond (takesOne c a) 1 0 + onesTaken (step x1 x2 c a) more
 
-  -- "With at most k class 1 frames held or handed in during the stretch, a class 2 frame waiting at normal level is completed .. if the
-  -- stretch lasts that long, within (n + 1 + k) times (L + 10) D opportunities": `ones` is that k, and x2 stands for 10
+  -- "with at most k class 1 frames held or handed in during the stretch, a class 2 frame waiting at normal level is completed, counted as
+  -- there and if the stretch lasts that long, within (n + 1 + k) times (L + 10) D opportunities. After 2.9, x2 replaces 10": `ones` is that k
   abbrev pub WaitEndsClassTwo : Channel → List Action → Type 0
   WaitEndsClassTwo c during =
       (n L ones i p : ℕ) →
