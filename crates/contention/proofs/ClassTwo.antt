@@ -11,7 +11,7 @@ use borrow.Author.Tests.{eqb-true, eq-eqb, ne-eqb}
 use Rattle.cases.proofs.ByCases.{by-test}
 use Rattle.dchannel.specs.Access.{entered}
 use Rattle.dchannel.specs.Handing.{takenUp}
-use Rattle.contention.specs.Channel.{Station, Channel, Action, freshStation, mayHold, holding, entering, change, turnAt, hears, sendsD, step}
+use Rattle.contention.specs.Channel.{Station, Channel, Action, freshStation, mayHold, holding, entering, change, turnAt, hears, step}
 use Rattle.contention.specs.Channel.Action.{hand, enter, leave, clear, opportunity}
 use Rattle.contention.specs.Stretch.{Stretch, opportunities, station, Completes, howMany}
 use Rattle.contention.specs.Claims.{at, InStretches}
@@ -46,13 +46,14 @@ unfolding entered
 ones-entering s =
     by-test (s .active) (λ m. rw (entering-active s m) (omega arith)) (λ m. rw (entering-outside s m) (omega arith))
 
-held-before : (x1 x2 : ℕ) (e : Bool) (s s′ : Station) (d : Bool) (done : ℕ) → Outcome x1 x2 e s s′ d done → s′ .access .held ≡ 1 → s .access .held ≡ 1
-held-before x1 x2 e s s′ d done (completed r) h = absurd (omega arith)
-held-before x1 x2 e s s′ d done (went-on r) h = sym (r .held-now) ∙ h
-held-before x1 x2 e s s′ d done (stopped r) h = sym (r .held-now) ∙ h
-held-before x1 x2 e s s′ d done (started r) h = sym (r .held-now) ∙ h
-held-before x1 x2 e s s′ d done (idled r) h = sym (r .held-now) ∙ h
-held-before x1 x2 e s s′ d done (outside r) h = sym (ap (λ (z : Station). z .access .held) (r .as-before)) ∙ h
+module _ {x1 x2 : ℕ} {e : Bool} {s s′ : Station} {d : Bool} {done : ℕ} where
+  held-before : Outcome x1 x2 e s s′ d done → s′ .access .held ≡ 1 → s .access .held ≡ 1
+  held-before (completed r) h = absurd (omega arith)
+  held-before (went-on r) h = sym (r .held-now) ∙ h
+  held-before (stopped r) h = sym (r .held-now) ∙ h
+  held-before (started r) h = sym (r .held-now) ∙ h
+  held-before (idled r) h = sym (r .held-now) ∙ h
+  held-before (outside r) h = sym (ap (λ (z : Station). z .access .held) (r .as-before)) ∙ h
 
 module _ (x1 x2 : ℕ) (c : Channel) where
   ones-hand : (i k : ℕ) (body : List ℕ)
@@ -70,7 +71,7 @@ module _ (x1 x2 : ℕ) (c : Channel) where
     one-before : (i : ℕ) → holdsOne (station i (step x1 x2 c (opportunity e bit on))) ≡ true → holdsOne (station i c) ≡ true
     one-before i h =
         eq-eqb (station i c .access .held) 1
-        (held-before x1 x2 e (station i c) (hears x1 x2 e (station i c)) (sendsD x1 x2 e (station i c)) (turnAt x1 x2 e (station i c) .done) (outcome x1 x2 e (station i c))
+        (held-before (outcome x1 x2 e (station i c))
         (eqb-true _ 1 (rw (station-hears x1 x2 e bit on c i) at h)))
 
     ones-hear : onesHeld (step x1 x2 c (opportunity e bit on)) ≤ onesHeld c
@@ -83,7 +84,7 @@ module _ (x1 x2 : ℕ) (c : Channel) where
         → suc (onesHeld (step x1 x2 c (opportunity e bit on))) ≤ onesHeld c
     unfolding onesHeld station
     ones-less g act q =
-        let r = completion x1 x2 1 e (station g c) (hears x1 x2 e (station g c)) (sendsD x1 x2 e (station g c)) (turnAt x1 x2 e (station g c) .done) (omega arith) act q (outcome x1 x2 e (station g c)) in
+        let r = completion 1 (omega arith) act q (outcome x1 x2 e (station g c)) in
         howMany-lt holdsOne holdsOne (step x1 x2 c (opportunity e bit on) .stations) (c .stations) (sym (length-hears x1 x2 e bit on c)) one-before refl g
         (rw (station-hears x1 x2 e bit on c g) (ne-eqb (hears x1 x2 e (station g c) .access .held) 1 (λ z. omega (arith, r .held-now))))
         (eq-eqb (station g c .access .held) 1 (sym (r .done-now) ∙ q))

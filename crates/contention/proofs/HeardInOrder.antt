@@ -65,7 +65,7 @@ module _ (x1 x2 : ℕ) (c : Channel) (during : List Action) (h1 : 8 ≤ x1) (h2 
       let more : suc t < many = rw (← add-one t) h in
       let f = next t more in
       let a = advance h1 h2 f p t (phase-at j p b t (omega arith) (omega arith)) in
-      let told = a .told past in
+      let told = a .told (omega arith) in
       record {
         heard-completed = rw (add-one t) (told .heard-completed);
         completed-heard = rw (add-one t) (told .completed-heard);

@@ -6,7 +6,6 @@ use Prim.Native.Nat.{ℕ, zero, suc, _+_, _≤_, _<_}
 use native.Mathlib.Omega.{arith}
 use lib.ListN.{length}
 use Rattle.hdlc.specs.Image.{image, IsBody}
-use Rattle.hdlc.proofs.ImageLaws.{is-body}
 use Rattle.cases.proofs.ByCases.{by-test}
 use Rattle.contention.specs.Channel.{Station, Channel, Action, step}
 use Rattle.contention.specs.Channel.Action.{hand, enter, leave, clear, opportunity}
@@ -33,7 +32,7 @@ frame {x2} {s} o h =
     record {
       in-F7 = on;
       class-held = sending-holds x2 s o h;
-      body-held = is-body (s .body) (held .0);
+      body-held = held .0;
       whole = held .1;
       part = omega (arith, held .1, o .sent-part);
     }

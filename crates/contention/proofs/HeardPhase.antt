@@ -20,7 +20,7 @@ use Rattle.hdlc.proofs.PrefixLaws.{prefix-free-bits}
 use Rattle.contention.specs.Channel.{Channel}
 use Rattle.contention.specs.Stretch.{station, Completes, Begins, saidAt}
 use Rattle.contention.specs.Invariant.{Invariant}
-use Rattle.contention.proofs.Trace.{Echo, Anyone, somebody, nobody, anyone}
+use Rattle.contention.proofs.Trace.{Echo, echo-agrees, echo-idle, echo-first, Anyone, somebody, nobody, anyone}
 use Rattle.contention.proofs.HeardNext.{frame, Follows}
 use Rattle.contention.proofs.HeardSteps.{echo-next, same-body, reading-next, said-next, back-more, back-begins, forth-begins, forth-more, none-begins, Whole, completes-whole, whole-completes}
 
@@ -44,13 +44,8 @@ pub record Idle (c : Channel) : Type 0 where
 -- while a frame is under way somebody's last bit is the last D
 pub echoed-some : {s : ℕ} {r : Reading} {c : Channel} → UnderWay s r c → (i : ℕ) × Echoed i c
 echoed-some {s} {r} {c} u =
-    let j = u .some .0 in
-    let some : 1 ≤ station j c .access .sent = omega (arith, u .some .1, u .positive) in
-    by-test (c .heardD)
-    (λ e. by-test (station j c .access .last)
-    (λ l. (j, record { sends = some; agrees = l ∙ sym e }))
-    (λ l. (j, record { sends = some; agrees = l ∙ sym (u .echo .zero-heard j some l) })))
-    (λ e. let w = u .echo .zero-sent e in (w .0, record { sends = w .1; agrees = w .2 ∙ sym e }))
+    let w = echo-agrees (u .echo) (u .some .0) (omega (arith, u .some .1, u .positive)) in
+    (w .0, record { sends = w .1; agrees = sym (w .2) })
 
 -- all that send have sent s bits
 pub all-sent : {s x2 : ℕ} {r : Reading} {c : Channel} → Invariant x2 c → UnderWay s r c → (i : ℕ) → 1 ≤ station i c .access .sent
@@ -75,10 +70,6 @@ same-frame {x2} {c} v i j w b =
     (λ t h. same-bits v i j (record { sends = w .sends; agrees = w .echoed }) b t (rw (w .all) h))
 
 module _ {x1 x2 : ℕ} {c c' : Channel} (f : Follows x1 x2 c c') where
-  -- a first bit is 0
-  first-zero : (j : ℕ) → station j c' .access .sent ≡ 1 → station j c' .access .last ≡ false
-  first-zero j e = f .now .sound j .last-bit 0 e ∙ image-starts (station j c' .body)
-
   -- where a frame is begun, it is under way at the next opportunity, with its first bit sent
   pub begins-next : (j : ℕ) → Begins x1 x2 j c → UnderWay 1 (c .reading) c'
   unfolding after image
@@ -94,7 +85,7 @@ module _ {x1 x2 : ℕ} {c c' : Channel} (f : Follows x1 x2 c c') where
       one = forth-begins f j b
 
       low : c' .heardD ≡ false
-      low = echo-next f .zero-heard j (omega (arith, one)) (first-zero j one)
+      low = echo-first (echo-next f) j (f .now .sound j) one
 
   -- what the reader does with the D of an opportunity at which a sending goes on: it reads that bit of the image
   record Bit (s : ℕ) (k : ℕ) : Type 0 where
@@ -142,12 +133,9 @@ module _ {x1 x2 : ℕ} {c c' : Channel} (f : Follows x1 x2 c c') where
       ∙ ap (λ (l : List ℕ). said (after r (take s (image l))) (getD (image l) s true)) (sym (b .body))
 
   -- where nobody sends, the reader reads a 1
-  one-read : ((i : ℕ) → station i c' .access .sent ≡ 0) → c' .heardD ≡ true
-  one-read none = by-test (c' .heardD) (λ e. e) (λ e. absurd (let w = echo-next f .zero-sent e in omega (arith, w .1, none (w .0))))
-
   idle-next : ((i : ℕ) → station i c' .access .sent ≡ 0) → Quiet (c .reading) → Idle c' × (saidAt x1 x2 c ≡ nothing)
   idle-next none q =
-      let one = one-read none in (
+      let one = echo-idle (echo-next f) none in (
         record { none = none; quiet = rw (reading-next f ∙ ap (next (c .reading)) one) (quiet-one (c .reading) q) },
         said-next f ∙ ap (said (c .reading)) one ∙ quiet-one-silent (c .reading) q,
       )
@@ -203,7 +191,7 @@ module _ {x1 x2 : ℕ} {c c' : Channel} (f : Follows x1 x2 c c') where
           let is = frame (f .now .sound j) h .body-held in (
             inr (begins-next j (back-begins f j one)),
             said-next f
-                ∙ ap (said (c .reading)) (echo-next f .zero-heard j h (first-zero j one) ∙ sym (image-starts body))
+                ∙ ap (said (c .reading)) (echo-first (echo-next f) j (f .now .sound j) one ∙ sym (image-starts body))
                 ∙ within-silent is (within-start body (c .reading) (q .quiet)) (omega (arith, image-least body is)),
           )
 

@@ -1,26 +1,19 @@
 -- What an opportunity of a stretch leaves for the next one: who goes on, who begins, who completes, and the D.
-use mathlib.Core.Bool.{Bool, true≢false}
+use mathlib.Core.Bool.{true≢false}
 use mathlib.Core.Path.{_≡_, sym, ap, _∙_}
 use Prim.Native.Nat.{ℕ, suc, _+_, _≤_, _<_}
 use native.Mathlib.Omega.{arith}
 use lib.ListN.{length}
 use Rattle.hdlc.specs.Image.{image}
 use Rattle.hdlc.specs.Reading.{said, next}
-use Rattle.contention.specs.Channel.{Station, Channel, turnAt, hears, sendsD, step}
-use Rattle.contention.specs.Stretch.{station, Completes, Begins, saidAt}
+use Rattle.contention.specs.Channel.{Station, Channel, hears, step}
+use Rattle.contention.specs.Stretch.{onward, station, Completes, Begins, saidAt}
 use Rattle.contention.specs.Invariant.{Invariant}
-use Rattle.contention.proofs.Terminal.{Outcome, completed, went-on, stopped, started, idled, outside, outcome, hears-active, body-after}
-use Rattle.contention.proofs.InvariantKept.{Sender, going, starting, sender, nobody-starts}
+use Rattle.contention.proofs.Terminal.{OutcomeAt, completed, went-on, stopped, started, idled, outside, outcome, hears-active, body-after}
+use Rattle.contention.proofs.InvariantKept.{SenderAt, going, starting, sender, nobody-starts}
 use Rattle.contention.proofs.Trace.{onward-station, Echo, echo-onward, sender-kept, echo-quiet}
-use Rattle.contention.specs.Stretch.{onward}
+use Rattle.contention.proofs.Waiting.{completed-at}
 use Rattle.contention.proofs.HeardNext.{Frame, frame, Follows}
-
--- what a terminal's opportunity comes to, and what a sender's did
-abbrev OutcomeAt : ℕ → ℕ → Bool → Station → Type 0
-OutcomeAt x1 x2 e s = Outcome x1 x2 e s (hears x1 x2 e s) (sendsD x1 x2 e s) (turnAt x1 x2 e s .done)
-
-abbrev SenderAt : ℕ → ℕ → Bool → Station → Type 0
-SenderAt x1 x2 e s = Sender x1 x2 e s (hears x1 x2 e s) (sendsD x1 x2 e s) (turnAt x1 x2 e s .done)
 
 module _ {x1 x2 : ℕ} {c c' : Channel} (f : Follows x1 x2 c c') where
   after-sent : (i : ℕ) → station i c' .access .sent ≡ hears x1 x2 (c .heardD) (station i c) .access .sent
@@ -115,17 +108,10 @@ pub record Whole (i : ℕ) (c : Channel) : Type 0 where
   pub all : station i c .access .sent ≡ length (image (station i c .body))
 
 pub completes-whole : {x1 x2 : ℕ} {c : Channel} → Invariant x2 c → (i k : ℕ) → 1 ≤ k → Completes x1 x2 k i c → Whole i c
-completes-whole {x1} {x2} {c} v i k h w = go (outcome x1 x2 (c .heardD) (station i c))
-  where
-    go : OutcomeAt x1 x2 (c .heardD) (station i c) → Whole i c
-    go (completed r) =
-        let has = frame (v .sound i) (r .sending) in
-        record { sends = r .sending; echoed = sym (r .agreed); all = omega (arith, r .whole, has .whole, has .part) }
-    go (went-on r) = absurd (omega (arith, w .done, r .done-now))
-    go (stopped r) = absurd (omega (arith, w .done, r .done-now))
-    go (started r) = absurd (omega (arith, w .done, r .done-now))
-    go (idled r) = absurd (omega (arith, w .done, r .done-now))
-    go (outside r) = absurd (true≢false (sym (w .in-F7) ∙ r .not-F7))
+completes-whole {x1} {x2} {c} v i k h w =
+    let r = completed-at x1 x2 c v k i h w in
+    let has = frame (v .sound i) (r .sending) in
+    record { sends = r .sending; echoed = sym (r .agreed); all = omega (arith, r .whole, has .whole, has .part) }
 
 pub whole-completes : {x1 x2 : ℕ} {c : Channel} → Invariant x2 c → (i : ℕ) → Whole i c
     → (1 ≤ station i c .access .held) × Completes x1 x2 (station i c .access .held) i c

@@ -12,16 +12,16 @@ use Rattle.dchannel.specs.declared.access.Access.{Access}
 use Rattle.hdlc.specs.Ones.{endingOnes}
 use Rattle.cases.proofs.ByCases.{by-test}
 use Rattle.hdlc.proofs.OnesLaws.{ending-one}
-use Rattle.hdlc.specs.Image.{image, isBody}
-use Rattle.hdlc.proofs.ImageLaws.{length-image, image-starts, image-endingOnes}
-use Rattle.dchannel.specs.Access.{entered, countAfter, lowOf}
+use Rattle.hdlc.specs.Image.{image, IsBody, isBody}
+use Rattle.hdlc.proofs.ImageLaws.{is-body, length-image, image-starts, image-endingOnes}
+use Rattle.dchannel.specs.Access.{fresh, entered, countAfter, lowOf}
 use Rattle.dchannel.specs.Handing.{takenUp, left}
 use Rattle.contention.specs.Channel.{Station, Channel, Action, freshStation, freshChannel, mayHold, holding, entering, leaving, nextBit, turnAt, hears, sendsD, step, run}
 use Rattle.contention.specs.Channel.Action.{hand, enter, leave, clear, opportunity}
 use Rattle.contention.specs.Stretch.{station}
 use Rattle.contention.specs.Invariant.{Sound, Invariant}
 use Rattle.contention.proofs.Change.{change-each, length-change}
-use Rattle.contention.proofs.Terminal.{Outcome, outcome, WentOn, Started, completed, went-on, stopped, started, idled, outside, hears-outside, active-after, body-after, count-after, count-most, count-step, count-zero, threshold-least, level-least}
+use Rattle.contention.proofs.Terminal.{Outcome, outcome, WentOn, Started, StartedAt, completed, went-on, stopped, started, idled, outside, hears-outside, active-after, body-after, count-after, count-most, count-step, count-zero, threshold-least, level-least}
 
 module _ (x1 x2 : ℕ) where
   -- every terminal hears the E of an opportunity
@@ -36,76 +36,64 @@ module _ (x1 x2 : ℕ) where
 
 -- ---- one terminal stays sound
 
-pub sound-fresh : (x2 : ℕ) → Sound x2 freshStation
-sound-fresh x2 =
+-- one that holds nothing and has all at its start
+pub sound-fresh : (x2 : ℕ) (s : Station) → s .access ≡ fresh → Sound x2 s
+sound-fresh x2 s q =
     record {
-      counted = omega arith;
-      outside = λ _. refl;
-      class-known = omega arith;
-      none-held = λ _. (refl, refl);
-      frame-held = λ h. absurd (omega arith);
-      sent-part = omega arith;
-      last-bit = λ n h. absurd (omega arith);
+      counted = rw q (omega arith);
+      outside = λ _. q;
+      class-known = rw q (omega arith);
+      none-held = rw q (λ _. (refl, refl));
+      frame-held = rw q (λ h. absurd (omega arith));
+      sent-part = rw q (omega arith);
+      last-bit = rw q (λ n h. absurd (omega arith));
     }
 
-sound-outcome : (x1 x2 : ℕ) (e : Bool) (s s′ : Station) (d : Bool) (done : ℕ) → Sound x2 s → s′ .active ≡ s .active → s′ .body ≡ s .body
-    → (s .active ≡ true → s′ .access .count ≡ countAfter x2 e (s .access .count)) → Outcome x1 x2 e s s′ d done → Sound x2 s′
-unfolding nextBit
-sound-outcome x1 x2 e s s′ d done h act bod cnt (completed r) =
-    record {
-      counted = rw (cnt (r .in-F7)) (count-most x2 e (s .access .count) (h .counted));
-      outside = λ f. absurd (false≢true (sym f ∙ act ∙ r .in-F7));
-      class-known = omega arith;
-      none-held = λ _. (r .length-now, r .sent-now);
-      frame-held = λ k. absurd (omega arith);
-      sent-part = omega arith;
-      last-bit = λ n q. absurd (omega arith);
-    }
-sound-outcome x1 x2 e s s′ d done h act bod cnt (went-on r) =
-    record {
-      counted = rw (cnt (r .in-F7)) (count-most x2 e (s .access .count) (h .counted));
-      outside = λ f. absurd (false≢true (sym f ∙ act ∙ r .in-F7));
-      class-known = omega arith;
-      none-held = λ z. absurd (omega (arith, h .none-held (sym (r .held-now) ∙ z)));
-      frame-held = λ k. let f = h .frame-held (omega arith) in (rw bod (f .0), rw bod (r .length-now ∙ f .1));
-      sent-part = omega arith;
-      last-bit = λ n q. let m : n ≡ s .access .sent = omega arith in cc;
-    }
-sound-outcome x1 x2 e s s′ d done h act bod cnt (stopped r) =
-    record {
-      counted = rw (cnt (r .in-F7)) (count-most x2 e (s .access .count) (h .counted));
-      outside = λ f. absurd (false≢true (sym f ∙ act ∙ r .in-F7));
-      class-known = omega arith;
-      none-held = λ z. absurd (omega (arith, h .none-held (sym (r .held-now) ∙ z)));
-      frame-held = λ k. let f = h .frame-held (omega arith) in (rw bod (f .0), rw bod (r .length-now ∙ f .1));
-      sent-part = omega arith;
-      last-bit = λ n q. absurd (omega arith);
-    }
-sound-outcome x1 x2 e s s′ d done h act bod cnt (started r) =
-    record {
-      counted = rw (cnt (r .in-F7)) (count-most x2 e (s .access .count) (h .counted));
-      outside = λ f. absurd (false≢true (sym f ∙ act ∙ r .in-F7));
-      class-known = omega arith;
-      none-held = λ z. absurd (omega arith);
-      frame-held = λ k. let f = h .frame-held (omega arith) in (rw bod (f .0), rw bod (r .length-now ∙ f .1));
-      sent-part = omega (arith, h .frame-held (r .holds) .1, length-image (s .body));
-      last-bit = λ n q. let m : n ≡ s .access .sent = omega arith in cc;
-    }
-sound-outcome x1 x2 e s s′ d done h act bod cnt (idled r) =
-    record {
-      counted = rw (cnt (r .in-F7)) (count-most x2 e (s .access .count) (h .counted));
-      outside = λ f. absurd (false≢true (sym f ∙ act ∙ r .in-F7));
-      class-known = omega arith;
-      none-held = λ z. (r .length-now ∙ h .none-held (sym (r .held-now) ∙ z) .0, r .sent-now);
-      frame-held = λ k. let f = h .frame-held (omega arith) in (rw bod (f .0), rw bod (r .length-now ∙ f .1));
-      sent-part = omega arith;
-      last-bit = λ n q. absurd (omega arith);
-    }
-sound-outcome x1 x2 e s s′ d done h act bod cnt (outside r) = rw (r .as-before) h
+-- A terminal s that becomes s′ at E in F7: C follows E, and the held frame stays, or is completed.
+module _ {x2 : ℕ} (e : Bool) {s s′ : Station} (h : Sound x2 s) (act : s′ .active ≡ s .active) (bod : s′ .body ≡ s .body)
+    (cnt : s .active ≡ true → s′ .access .count ≡ countAfter x2 e (s .access .count)) where
+  sound-kept : s .active ≡ true → s′ .access .held ≡ s .access .held → s′ .access .length ≡ s .access .length
+      → (s .access .held ≡ 0 → s′ .access .sent ≡ 0) → s′ .access .sent ≤ s′ .access .length
+      → ((n : ℕ) → s′ .access .sent ≡ suc n → s′ .access .last ≡ getD (image (s .body)) n true) → Sound x2 s′
+  sound-kept on held len none part last =
+      record {
+        counted = rw (cnt on) (count-most x2 e (s .access .count) (h .counted));
+        outside = λ f. absurd (false≢true (sym f ∙ act ∙ on));
+        class-known = omega (arith, h .class-known);
+        none-held = λ z. (len ∙ h .none-held (sym held ∙ z) .0, none (sym held ∙ z));
+        frame-held = λ k. let f = h .frame-held (omega arith) in (rw bod (f .0), rw bod (len ∙ f .1));
+        sent-part = part;
+        last-bit = λ n q. rw bod (last n q);
+      }
+
+  sound-outcome : {x1 : ℕ} {d : Bool} {done : ℕ} → Outcome x1 x2 e s s′ d done → Sound x2 s′
+  unfolding nextBit
+  sound-outcome (completed r) =
+      record {
+        counted = rw (cnt (r .in-F7)) (count-most x2 e (s .access .count) (h .counted));
+        outside = λ f. absurd (false≢true (sym f ∙ act ∙ r .in-F7));
+        class-known = omega arith;
+        none-held = λ _. (r .length-now, r .sent-now);
+        frame-held = λ k. absurd (omega arith);
+        sent-part = omega arith;
+        last-bit = λ n q. absurd (omega arith);
+      }
+  sound-outcome (went-on r) =
+      sound-kept (r .in-F7) (r .held-now) (r .length-now) (λ z. absurd (omega (arith, h .none-held z))) (omega arith)
+      (λ n q. let m : n ≡ s .access .sent = omega arith in cc)
+  sound-outcome (stopped r) =
+      sound-kept (r .in-F7) (r .held-now) (r .length-now) (λ _. r .sent-now) (omega arith) (λ n q. absurd (omega arith))
+  sound-outcome (started r) =
+      sound-kept (r .in-F7) (r .held-now) (r .length-now) (λ z. absurd (omega arith))
+      (omega (arith, h .frame-held (r .holds) .1, length-image (s .body)))
+      (λ n q. let m : n ≡ s .access .sent = omega arith in cc)
+  sound-outcome (idled r) =
+      sound-kept (r .in-F7) (r .held-now) (r .length-now) (λ _. r .sent-now) (omega arith) (λ n q. absurd (omega arith))
+  sound-outcome (outside r) = rw (r .as-before) h
 
 pub sound-hears : (x1 x2 : ℕ) (e : Bool) (s : Station) → Sound x2 s → Sound x2 (hears x1 x2 e s)
 sound-hears x1 x2 e s h =
-    sound-outcome x1 x2 e s (hears x1 x2 e s) (sendsD x1 x2 e s) (turnAt x1 x2 e s .done) h (active-after x1 x2 e s) (body-after x1 x2 e s)
+    sound-outcome e h (active-after x1 x2 e s) (body-after x1 x2 e s)
     (count-after x1 x2 e s) (outcome x1 x2 e s)
 
 -- a terminal that is sending holds a frame
@@ -128,7 +116,7 @@ pub record Taken (k : ℕ) (body : List ℕ) (s : Station) : Type 0 where
   pub free : s .access .held ≡ 0
   pub class-least : 1 ≤ k
   pub class-most : k ≤ 2
-  pub is-body : isBody body ≡ true
+  pub of-octets : IsBody body
 
 pub taken : (k : ℕ) (body : List ℕ) (s : Station) → mayHold k body s ≡ true → Taken k body s
 unfolding mayHold
@@ -141,7 +129,7 @@ taken k body s h =
       free = eqb-true (s .access .held) 0 (left .1);
       class-least = one-or-two k (right .0) .0;
       class-most = one-or-two k (right .0) .1;
-      is-body = right .1;
+      of-octets = is-body body (right .1);
     }
 
 sound-holding : (x2 k : ℕ) (body : List ℕ) (s : Station) → Sound x2 s → Sound x2 (holding k body s)
@@ -155,7 +143,7 @@ sound-holding x2 k body s h =
       outside = λ f. absurd (false≢true (sym f ∙ t .in-F7));
       class-known = t .class-most;
       none-held = λ z. absurd (omega arith);
-      frame-held = λ _. (t .is-body, refl);
+      frame-held = λ _. (t .of-octets, refl);
       sent-part = omega arith;
       last-bit = λ n q. absurd (omega arith);
     }))
@@ -173,29 +161,11 @@ sound-entering : (x2 : ℕ) (s : Station) → Sound x2 s → Sound x2 (entering 
 unfolding entered
 sound-entering x2 s h =
     by-test (s .active) (λ m. rw (entering-active s m) h)
-    (λ m. rw (entering-outside s m, h .outside m)
-    (record {
-      counted = omega arith;
-      outside = λ f. absurd (true≢false f);
-      class-known = omega arith;
-      none-held = λ _. (refl, refl);
-      frame-held = λ k. absurd (omega arith);
-      sent-part = omega arith;
-      last-bit = λ n q. absurd (omega arith);
-    }))
+    (λ m. rw (entering-outside s m) (sound-fresh x2 (record { active = true; access = entered (s .access); body = s .body }) (ap entered (h .outside m))))
 
 sound-leaving : (x2 : ℕ) (s : Station) → Sound x2 (leaving s)
 unfolding leaving left
-sound-leaving x2 s =
-    record {
-      counted = omega arith;
-      outside = λ _. refl;
-      class-known = omega arith;
-      none-held = λ _. (refl, refl);
-      frame-held = λ h. absurd (omega arith);
-      sent-part = omega arith;
-      last-bit = λ n h. absurd (omega arith);
-    }
+sound-leaving x2 s = sound-fresh x2 (leaving s) refl
 
 -- ---- what a hand-over or an entry into F7 leaves of a terminal: all that is counted, and a held frame with it
 pub record Quietly (s s′ : Station) : Type 0 where
@@ -366,19 +336,22 @@ pub data Sender (x1 x2 : ℕ) (e : Bool) (s s′ : Station) (d : Bool) (done : �
   going : WentOn x1 x2 e s s′ d done → Sender x1 x2 e s s′ d done
   starting : Started x1 x2 e s s′ d done → Sender x1 x2 e s s′ d done
 
-sender-of : (x1 x2 : ℕ) (e : Bool) (s s′ : Station) (d : Bool) (done : ℕ) → Sound x2 s → 1 ≤ s′ .access .sent → Outcome x1 x2 e s s′ d done
-    → Sender x1 x2 e s s′ d done
-sender-of x1 x2 e s s′ d done snd h (completed r) = absurd (omega arith)
-sender-of x1 x2 e s s′ d done snd h (went-on r) = going r
-sender-of x1 x2 e s s′ d done snd h (stopped r) = absurd (omega arith)
-sender-of x1 x2 e s s′ d done snd h (started r) = starting r
-sender-of x1 x2 e s s′ d done snd h (idled r) = absurd (omega arith)
-sender-of x1 x2 e s s′ d done snd h (outside r) =
-    absurd (omega (arith, ap (λ (z : Station). z .access .sent) (r .as-before), ap (λ (a : Access). a .sent) (snd .outside (r .not-F7))))
+module _ {x1 x2 : ℕ} {e : Bool} {s s′ : Station} {d : Bool} {done : ℕ} where
+  sender-of : Sound x2 s → 1 ≤ s′ .access .sent → Outcome x1 x2 e s s′ d done
+      → Sender x1 x2 e s s′ d done
+  sender-of snd h (completed r) = absurd (omega arith)
+  sender-of snd h (went-on r) = going r
+  sender-of snd h (stopped r) = absurd (omega arith)
+  sender-of snd h (started r) = starting r
+  sender-of snd h (idled r) = absurd (omega arith)
+  sender-of snd h (outside r) =
+      absurd (omega (arith, ap (λ (z : Station). z .access .sent) (r .as-before), ap (λ (a : Access). a .sent) (snd .outside (r .not-F7))))
 
-pub sender : (x1 x2 : ℕ) (e : Bool) (s : Station) → Sound x2 s → 1 ≤ hears x1 x2 e s .access .sent
-    → Sender x1 x2 e s (hears x1 x2 e s) (sendsD x1 x2 e s) (turnAt x1 x2 e s .done)
-sender x1 x2 e s snd h = sender-of x1 x2 e s (hears x1 x2 e s) (sendsD x1 x2 e s) (turnAt x1 x2 e s .done) snd h (outcome x1 x2 e s)
+abbrev pub SenderAt : ℕ → ℕ → Bool → Station → Type 0
+SenderAt x1 x2 e s = Sender x1 x2 e s (hears x1 x2 e s) (sendsD x1 x2 e s) (turnAt x1 x2 e s .done)
+
+pub sender : (x1 x2 : ℕ) (e : Bool) (s : Station) → Sound x2 s → 1 ≤ hears x1 x2 e s .access .sent → SenderAt x1 x2 e s
+sender x1 x2 e s snd h = sender-of snd h (outcome x1 x2 e s)
 
 module _ (x1 x2 : ℕ) (c : Channel) (inv : Invariant x2 c) where
   -- the 1s that end what a sender has heard of itself, with this E its last bit, bound every C
@@ -405,7 +378,7 @@ module _ (x1 x2 : ℕ) (c : Channel) (inv : Invariant x2 c) where
 
   -- "so nobody starts"
   pub nobody-starts : 8 ≤ x1 → x1 + 2 ≤ x2 → (e : Bool) (i j : ℕ) → 1 ≤ station i c .access .sent → e ≡ station i c .access .last
-      → Started x1 x2 e (station j c) (hears x1 x2 e (station j c)) (sendsD x1 x2 e (station j c)) (turnAt x1 x2 e (station j c) .done) → ⊥
+      → StartedAt x1 x2 e (station j c) → ⊥
   nobody-starts h1 h2 e i j h a r =
       omega (
         arith,
@@ -433,8 +406,8 @@ module _ (x1 x2 : ℕ) (h1 : 8 ≤ x1) (h2 : x1 + 2 ≤ x2) (c : Channel) (inv :
       (λ l. inv .in-phase i j (omega arith) (omega arith) .1 t (omega (arith, eqb-false t n l)))
 
   phase-hears : (i j : ℕ)
-      → Sender x1 x2 e (station i c) (hears x1 x2 e (station i c)) (sendsD x1 x2 e (station i c)) (turnAt x1 x2 e (station i c) .done)
-      → Sender x1 x2 e (station j c) (hears x1 x2 e (station j c)) (sendsD x1 x2 e (station j c)) (turnAt x1 x2 e (station j c) .done)
+      → SenderAt x1 x2 e (station i c)
+      → SenderAt x1 x2 e (station j c)
       → Phase (hears x1 x2 e (station i c)) (hears x1 x2 e (station j c))
   phase-hears i j (going r) (going q) =
       let same-sent = inv .in-phase i j (r .sending) (q .sending) .0 in (
@@ -452,7 +425,7 @@ module _ (x1 x2 : ℕ) (h1 : 8 ≤ x1) (h2 : x1 + 2 ≤ x2) (c : Channel) (inv :
   phase-hears i j (starting r) (starting q) = (omega arith, λ t h. absurd (omega arith))
 
   held-hears : (i j n : ℕ) → hears x1 x2 e (station i c) .access .sent ≡ suc (suc n)
-      → Sender x1 x2 e (station i c) (hears x1 x2 e (station i c)) (sendsD x1 x2 e (station i c)) (turnAt x1 x2 e (station i c) .done)
+      → SenderAt x1 x2 e (station i c)
       → hears x1 x2 e (station j c) .access .count ≤ endingOnes (take (suc n) (image (hears x1 x2 e (station i c) .body)))
   held-hears i j n q (going r) = rw (body-after x1 x2 e (station i c)) (heard-bound x1 x2 c inv e i j n (omega arith) (r .agreed))
   held-hears i j n q (starting r) = absurd (omega arith)
@@ -483,7 +456,7 @@ fresh-station n j = all-fresh n j
 pub invariant-fresh : (x2 n : ℕ) → Invariant x2 (freshChannel n)
 invariant-fresh x2 n =
     record {
-      sound = λ i. rw (fresh-station n i) (sound-fresh x2);
+      sound = λ i. rw (fresh-station n i) (sound-fresh x2 freshStation refl);
       in-phase = λ i j hi hj. absurd (omega (arith, ap (λ (s : Station). s .access .sent) (fresh-station n i)));
       held-back = λ i j m q. absurd (omega (arith, ap (λ (s : Station). s .access .sent) (fresh-station n i)));
     }

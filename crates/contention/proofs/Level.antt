@@ -11,10 +11,10 @@ use Rattle.contention.specs.Channel.{Station, Channel, hears}
 use Rattle.contention.specs.Stretch.{onward, station, Waits, Completes}
 use Rattle.contention.specs.Claims.{NoRivalTwice, InStretches}
 use Rattle.contention.specs.Invariant.{Invariant}
-use Rattle.contention.proofs.Terminal.{active-after, level, level-least, threshold-low, threshold-of, low-stays, completed-low}
-use Rattle.contention.proofs.InvariantKept.{going, starting, Quiet, count-up}
-use Rattle.contention.proofs.Trace.{onward-station, echo-onward, sender-kept, opp, many, invariant-at, invariant-past, quiet-at}
-use Rattle.contention.proofs.Waiting.{outcome-at, SenderAt, sender-at, completed-at, completes-zero, zero-counts, waits-class, waits-hears, waits-quiet, sending-count, idle-below, first-stays, first-zero, low-quiet}
+use Rattle.contention.proofs.Terminal.{outcome, active-after, level, level-least, threshold-low, threshold-of, low-stays, completed-low}
+use Rattle.contention.proofs.InvariantKept.{SenderAt, sender, going, starting, Quiet, count-up}
+use Rattle.contention.proofs.Trace.{onward-station, echo-first, echo-onward, sender-kept, opp, many, invariant-at, invariant-past, quiet-at}
+use Rattle.contention.proofs.Waiting.{completed-at, completes-zero, zero-counts, waits-class, waits-hears, waits-quiet, sending-count, idle-below, first-stays, low-quiet}
 
 -- While i waits in class k after a completion of its rival j in that class: i is the first to reach the level, and j is low.
 record Ahead (x1 x2 k i j : ℕ) (c : Channel) : Type 0 where
@@ -53,7 +53,7 @@ module _ (x1 x2 : ℕ) (h1 : 8 ≤ x1) (h2 : x1 + 2 ≤ x2) (k i j : ℕ) (k1 : 
         rival-barred = λ h q. omega arith;
         below = λ q. omega (arith, z i);
         reached = λ q. omega (arith, z i);
-        zero-next = λ q. first-zero x2 (onward x1 x2 c) i next-inv (echo-onward x1 x2 c inv) q;
+        zero-next = λ q. echo-first (echo-onward x1 x2 c inv) i (next-inv .sound i) q;
       }
 
   module _ (a : Ahead x1 x2 k i j c) where
@@ -67,7 +67,7 @@ module _ (x1 x2 : ℕ) (h1 : 8 ≤ x1) (h2 : x1 + 2 ≤ x2) (k i j : ℕ) (k1 : 
     first-now : (m : ℕ) → later m .access .count ≤ later i .access .count
     first-now = first-stays x1 x2 c inv i (a .waits .in-F7) (a .first)
 
-    barred-now : 1 ≤ later j .access .sent → later j .access .held ≡ k → lowOf k (later j .access) ≡ true → SenderAt x1 x2 c inv j → ⊥
+    barred-now : 1 ≤ later j .access .sent → later j .access .held ≡ k → lowOf k (later j .access) ≡ true → SenderAt x1 x2 (c .heardD) (station j c) → ⊥
     barred-now h q low (going r) = a .rival-barred (r .sending) (sym (r .held-now) ∙ q)
     barred-now h q low (starting r) =
         omega (
@@ -83,7 +83,7 @@ module _ (x1 x2 : ℕ) (h1 : 8 ≤ x1) (h2 : x1 + 2 ≤ x2) (k i j : ℕ) (k1 : 
     below-now w q =
         by-test (leb 1 (station i c .access .sent))
         (λ l. omega (arith, sending-count x1 x2 c inv i i (leb-true 1 (station i c .access .sent) l) (a .zero-next), level-least x1 x2 k h2))
-        (λ l. idle-below x1 x2 c inv k i k1 (a .waits) w (omega (arith, leb-false 1 (station i c .access .sent) l)) q (outcome-at x1 x2 c inv i))
+        (λ l. idle-below x1 x2 c inv k i k1 (a .waits) w (omega (arith, leb-false 1 (station i c .access .sent) l)) q (outcome x1 x2 (c .heardD) (station i c)))
 
     ahead-onward : (Completes x1 x2 k i c → ⊥) → Ahead x1 x2 k i j (onward x1 x2 c)
     ahead-onward n =
@@ -97,10 +97,10 @@ module _ (x1 x2 : ℕ) (h1 : 8 ≤ x1) (h2 : x1 + 2 ≤ x2) (k i j : ℕ) (k1 : 
           first = λ m. rw (onward-station x1 x2 c m, onward-station x1 x2 c i) (first-now m);
           rival-in-F7 = rw (onward-station x1 x2 c j) (active-after x1 x2 (c .heardD) (station j c) ∙ a .rival-in-F7);
           rival-low = rw (onward-station x1 x2 c j) low;
-          rival-barred = rw (onward-station x1 x2 c j) (λ h q. barred-now h q low (sender-at x1 x2 c inv j h));
+          rival-barred = rw (onward-station x1 x2 c j) (λ h q. barred-now h q low (sender x1 x2 (c .heardD) (station j c) (inv .sound j) h));
           below = rw (onward-station x1 x2 c i) (below-now w);
           reached = λ _. rw (onward-station x1 x2 c i) count-i;
-          zero-next = λ q. first-zero x2 (onward x1 x2 c) i next-inv (echo-onward x1 x2 c inv) q;
+          zero-next = λ q. echo-first (echo-onward x1 x2 c inv) i (next-inv .sound i) q;
         }
 
 module _ (x1 x2 k i j : ℕ) (k1 : 1 ≤ k) where
@@ -125,7 +125,7 @@ module _ (x1 x2 k i j : ℕ) (k1 : 1 ≤ k) where
 pub no-rival-twice : InStretches NoRivalTwice
 no-rival-twice x1 x2 c during h1 h2 start st i j k p q ne k1 pq len done-p done-q waits open-frame =
     let r = completed-at x1 x2 (o q) (inv q len) k j k1 done-q in
-    ahead q pq (omega arith) .rival-barred (r .sending) (sym (r .done-now) ∙ done-q .done)
+    ahead q (omega arith) (omega arith) .rival-barred (r .sending) (sym (r .done-now) ∙ done-q .done)
   where
     o : ℕ → Channel
     o t = opp x1 x2 c during h1 h2 start st t

@@ -1,5 +1,6 @@
 -- Demand 3 for the D channel: one terminal's opportunity (Terminal), the invariant (InvariantKept), from one opportunity to the next
--- (Trace, Waiting), no rival twice (Level), the wait (Wait, ClassTwo), what is heard (Heard..), all together (Demand3).
+-- (Trace, Waiting), no rival twice (Level), the wait (Wait, ClassTwo), what is heard (Heard.., OpeningFlag), all together (Demand3). For a
+-- bus over the channel: a stretch as a part of a list (WholeList), what its steps are to the channel (Crossing).
 pub mod Change
 pub mod Terminal
 pub mod InvariantKept

@@ -1,5 +1,5 @@
 -- No sending stops inside its opening flag: all that send have sent equally many bits of the same flag, so their echo agrees.
-use mathlib.Core.Bool.{true, true≢false}
+use mathlib.Core.Bool.{true}
 use mathlib.Core.Path.{_≡_, sym, ap, _∙_}
 use mathlib.Core.List.{List, _++_}
 use Prim.Native.Nat.{ℕ, zero, suc, _+_, _≤_, _<_}
@@ -10,12 +10,11 @@ use lib.ListN.{length, getD, List·getD-append}
 use Rattle.hdlc.specs.Bits.{bodyBits}
 use Rattle.hdlc.specs.Image.{flag, stuff, image}
 use Rattle.hdlc.proofs.ImageLaws.{length-image}
-use Rattle.cases.proofs.ByCases.{by-test}
 use Rattle.contention.specs.Channel.{Channel, Action}
 use Rattle.contention.specs.Stretch.{Stretch, station}
 use Rattle.contention.specs.Claims.{at, opps, NoStopInFlag, InStretches}
 use Rattle.contention.specs.Invariant.{Invariant}
-use Rattle.contention.proofs.Trace.{Echo}
+use Rattle.contention.proofs.Trace.{Echo, echo-agrees}
 use Rattle.contention.proofs.HeardNext.{Follows, follows}
 use Rattle.contention.proofs.HeardSteps.{echo-next, forth-begins, forth-more}
 
@@ -28,13 +27,8 @@ image-flag body n h = List·getD-append flag (stuff 0 (bodyBits body) ++ flag) t
 flag-echoed : {x2 : ℕ} {c : Channel} → Invariant x2 c → Echo c → (j n : ℕ) → station j c .access .sent ≡ suc n → n < 8
     → station j c .access .last ≡ c .heardD
 flag-echoed {x2} {c} v e j n sent h =
-    by-test (station j c .access .last)
-    (λ l. by-test (c .heardD) (λ d. l ∙ sym d)
-    (λ d.
-    let w = e .zero-sent d in
-    let same : station (w .0) c .access .sent ≡ suc n = v .in-phase (w .0) j (w .1) (omega arith) .0 ∙ sent in
-    absurd (true≢false (sym l ∙ bit j sent ∙ sym (bit (w .0) same) ∙ w .2))))
-    (λ l. l ∙ sym (e .zero-heard j (omega arith) l))
+    let w = echo-agrees e j (omega arith) in
+    bit j sent ∙ sym (bit (w .0) (v .in-phase (w .0) j (w .1) (omega arith) .0 ∙ sent)) ∙ sym (w .2)
   where
     bit : (i : ℕ) → station i c .access .sent ≡ suc n → station i c .access .last ≡ getD flag n true
     bit i q = v .sound i .last-bit n q ∙ image-flag (station i c .body) n h

@@ -1,4 +1,4 @@
--- One terminal at one D opportunity: what can come of it, as five outcomes, and what a hand-over, an entry into F7 and a leave change.
+-- One terminal at one D opportunity: what can come of it, as six outcomes, and what they leave of C and the levels.
 use mathlib.Core.Bool.{Bool, true, false, cond, false≢true}
 use mathlib.Core.Path.{_≡_, refl, sym, ap, _∙_}
 use mathlib.Core.List.{List}
@@ -84,6 +84,16 @@ module _ (x1 x2 : ℕ) (e : Bool) (s s′ : Station) (d : Bool) (done : ℕ) whe
     idled : Idled → Outcome
     outside : Outside → Outcome
 
+-- the outcome of a terminal at an E
+abbrev pub OutcomeAt : ℕ → ℕ → Bool → Station → Type 0
+OutcomeAt x1 x2 e s = Outcome x1 x2 e s (hears x1 x2 e s) (sendsD x1 x2 e s) (turnAt x1 x2 e s .done)
+
+abbrev pub CompletedAt : ℕ → ℕ → Bool → Station → Type 0
+CompletedAt x1 x2 e s = Completed x1 x2 e s (hears x1 x2 e s) (sendsD x1 x2 e s) (turnAt x1 x2 e s .done)
+
+abbrev pub StartedAt : ℕ → ℕ → Bool → Station → Type 0
+StartedAt x1 x2 e s = Started x1 x2 e s (hears x1 x2 e s) (sendsD x1 x2 e s) (turnAt x1 x2 e s .done)
+
 may-start : (x1 x2 : ℕ) (a : Access) → mayStart x1 x2 a ≡ true
     → (1 ≤ a .held) × (threshold x1 x2 (a .held) (lowOf (a .held) a) ≤ a .count)
 unfolding mayStart
@@ -128,7 +138,7 @@ module _ (x1 x2 : ℕ) (e : Bool) (s : Station) where
       (λ h m. idled (record { in-F7 = act; idle = h; short = may-not-start _ _ _ m; sent-now = h; held-now = refl; length-now = refl; done-now = refl; d-now = refl }))
 
   -- every terminal has one of the outcomes
-  pub outcome : Outcome x1 x2 e s (hears x1 x2 e s) (sendsD x1 x2 e s) (turnAt x1 x2 e s .done)
+  pub outcome : OutcomeAt x1 x2 e s
   outcome =
       by-test (s .active) (λ act. rw (hears-active act, sendsD-active act) (turn-outcome act))
       (λ out. outside (record { not-F7 = out; as-before = hears-outside out; d-now = sendsD-outside out }))

@@ -10,11 +10,12 @@ use lib.Dec.{leb}
 use lib.ListN.{length, getD}
 use borrow.Author.Tests.{leb-true, leb-false}
 use Rattle.cases.proofs.ByCases.{by-test}
-use Rattle.contention.specs.Channel.{Station, Channel, Action, freshStation, hears, sendsD, turnAt, combinedD, step, run}
+use Rattle.contention.specs.Channel.{Station, Channel, Action, freshStation, hears, sendsD, combinedD, step, run}
 use Rattle.contention.specs.Channel.Action.{hand, enter, leave, clear, opportunity}
 use Rattle.contention.specs.Stretch.{Calm, Stretch, onward, opportunities, station, howMany, activeCount}
 use Rattle.contention.specs.Claims.{at, opps}
-use Rattle.contention.specs.Invariant.{Invariant}
+use Rattle.contention.specs.Invariant.{Sound, Invariant}
+use Rattle.hdlc.proofs.ImageLaws.{image-starts}
 use Rattle.contention.proofs.Terminal.{Outcome, outcome, completed, went-on, stopped, started, idled, outside, active-after}
 use Rattle.contention.proofs.InvariantKept.{Sender, sender, going, starting, sending-holds, Quiet, quiet-same, quiet-then, quiet-hand, quiet-enter, station-hears, length-hears, invariant-step}
 
@@ -115,20 +116,38 @@ pub record Echo (c : Channel) : Type 0 where
   pub zero-heard : (i : ℕ) → 1 ≤ station i c .access .sent → station i c .access .last ≡ false → c .heardD ≡ false
   pub zero-sent : c .heardD ≡ false → (i : ℕ) × (1 ≤ station i c .access .sent) × (station i c .access .last ≡ false)
 
--- the bit that a sender sends is its last one
-sender-last : (x1 x2 : ℕ) (e : Bool) (s s′ : Station) (d : Bool) (done : ℕ) → Sender x1 x2 e s s′ d done → d ≡ s′ .access .last
-sender-last x1 x2 e s s′ d done (going r) = r .d-now ∙ sym (r .last-now)
-sender-last x1 x2 e s s′ d done (starting r) = r .d-now ∙ sym (r .last-now)
+module _ {c : Channel} (e : Echo c) where
+  -- the E agrees with a bit that was sent
+  pub echo-agrees : (j : ℕ) → 1 ≤ station j c .access .sent → (g : ℕ) × (1 ≤ station g c .access .sent) × (c .heardD ≡ station g c .access .last)
+  echo-agrees j h =
+      by-test (c .heardD)
+      (λ one. by-test (station j c .access .last) (λ l. (j, h, one ∙ sym l))
+      (λ l. absurd (true≢false (sym one ∙ e .zero-heard j h l))))
+      (λ zer. let p = e .zero-sent zer in (p .0, p .1, zer ∙ sym (p .2)))
 
--- a 0 comes from a sender
-zero-sender : (x1 x2 : ℕ) (e : Bool) (s s′ : Station) (d : Bool) (done : ℕ) → Outcome x1 x2 e s s′ d done → d ≡ false
-    → (1 ≤ s′ .access .sent) × (s′ .access .last ≡ false)
-zero-sender x1 x2 e s s′ d done (completed r) h = absurd (false≢true (sym h ∙ r .d-now))
-zero-sender x1 x2 e s s′ d done (went-on r) h = (omega arith, r .last-now ∙ sym (r .d-now) ∙ h)
-zero-sender x1 x2 e s s′ d done (stopped r) h = absurd (false≢true (sym h ∙ r .d-now))
-zero-sender x1 x2 e s s′ d done (started r) h = (omega arith, r .last-now ∙ sym (r .d-now) ∙ h)
-zero-sender x1 x2 e s s′ d done (idled r) h = absurd (false≢true (sym h ∙ r .d-now))
-zero-sender x1 x2 e s s′ d done (outside r) h = absurd (false≢true (sym h ∙ r .d-now))
+  -- where nobody is sending, a 1 is heard
+  pub echo-idle : ((j : ℕ) → station j c .access .sent ≡ 0) → c .heardD ≡ true
+  echo-idle z = by-test (c .heardD) (λ q. q) (λ q. let p = e .zero-sent q in absurd (omega (arith, p .1, z (p .0))))
+
+  -- the E after a start is 0
+  pub echo-first : {x2 : ℕ} (i : ℕ) → Sound x2 (station i c) → station i c .access .sent ≡ 1 → c .heardD ≡ false
+  echo-first i snd q = e .zero-heard i (omega arith) (snd .last-bit 0 q ∙ image-starts (station i c .body))
+
+module _ {x1 x2 : ℕ} {e : Bool} {s s′ : Station} {d : Bool} {done : ℕ} where
+  -- the bit that a sender sends is its last one
+  sender-last : Sender x1 x2 e s s′ d done → d ≡ s′ .access .last
+  sender-last (going r) = r .d-now ∙ sym (r .last-now)
+  sender-last (starting r) = r .d-now ∙ sym (r .last-now)
+
+  -- a 0 comes from a sender
+  zero-sender : Outcome x1 x2 e s s′ d done → d ≡ false
+      → (1 ≤ s′ .access .sent) × (s′ .access .last ≡ false)
+  zero-sender (completed r) h = absurd (false≢true (sym h ∙ r .d-now))
+  zero-sender (went-on r) h = (omega arith, r .last-now ∙ sym (r .d-now) ∙ h)
+  zero-sender (stopped r) h = absurd (false≢true (sym h ∙ r .d-now))
+  zero-sender (started r) h = (omega arith, r .last-now ∙ sym (r .d-now) ∙ h)
+  zero-sender (idled r) h = absurd (false≢true (sym h ∙ r .d-now))
+  zero-sender (outside r) h = absurd (false≢true (sym h ∙ r .d-now))
 
 module _ (x1 x2 : ℕ) where
   onward-heard : (c : Channel) → onward x1 x2 c .heardD ≡ combinedD x1 x2 (c .heardD) (c .stations)
@@ -145,11 +164,11 @@ module _ (x1 x2 : ℕ) where
             let last-zero : hears x1 x2 (c .heardD) s .access .last ≡ false = rw (onward-station x1 x2 c i) at l in
             onward-heard c
             ∙ together-zero x1 x2 (c .heardD) (c .stations) i
-            (sender-last x1 x2 (c .heardD) s (hears x1 x2 (c .heardD) s) (sendsD x1 x2 (c .heardD) s) (turnAt x1 x2 (c .heardD) s .done) z ∙ last-zero);
+            (sender-last z ∙ last-zero);
         zero-sent = λ q.
             let p = together-some x1 x2 (c .heardD) (c .stations) (sym (onward-heard c) ∙ q) in
             let s = station (p .0) c in
-            let z = zero-sender x1 x2 (c .heardD) s (hears x1 x2 (c .heardD) s) (sendsD x1 x2 (c .heardD) s) (turnAt x1 x2 (c .heardD) s .done) (outcome x1 x2 (c .heardD) s) (p .1) in
+            let z = zero-sender (outcome x1 x2 (c .heardD) s) (p .1) in
             (p .0, rw (onward-station x1 x2 c (p .0)) (z .0), rw (onward-station x1 x2 c (p .0)) (z .1));
       }
 

@@ -13,14 +13,14 @@ use lib.ListN.{length}
 use borrow.Author.Tests.{eqb-true, eqb-false, leb-true, leb-false}
 use Rattle.cases.proofs.ByCases.{by-test}
 use Rattle.dchannel.specs.Access.{lowOf, threshold, countAfter}
-use Rattle.contention.specs.Channel.{Station, Channel, Action, turnAt, hears, sendsD, run}
+use Rattle.contention.specs.Channel.{Station, Channel, Action, turnAt, hears, run}
 use Rattle.contention.specs.Stretch.{Stretch, onward, station, Waits, Completes, howMany, activeCount, ImagesAtMost}
 use Rattle.contention.specs.Claims.{at, waitBound, CompletedWithin, WaitEnds, InStretches}
 use Rattle.contention.specs.Invariant.{Invariant}
-use Rattle.contention.proofs.Terminal.{Outcome, completed, went-on, stopped, started, idled, outside, active-after, body-after, count-after, count-one, count-full, count-some, level, level-least, level-most, threshold-least, threshold-low, threshold-of, low-stays, normal-stays, completed-low}
-use Rattle.contention.proofs.InvariantKept.{and-true, going, starting, Quiet, count-up, length-hears}
-use Rattle.contention.proofs.Trace.{howMany-le, howMany-lt, Anyone, anyone, somebody, nobody, onward-station, Echo, sender-kept, opp, many, invariant-at, invariant-past, quiet-at, echo-at, active-at}
-use Rattle.contention.proofs.Waiting.{outcome-at, SenderAt, sender-at, CompletedAt, completes-zero, zero-counts, waits-hears, waits-quiet, sending-count, idle-below, first-stays, first-zero, low-quiet, goes-on, completion-ends, idle-one}
+use Rattle.contention.proofs.Terminal.{Outcome, outcome, CompletedAt, completed, went-on, stopped, started, idled, outside, active-after, body-after, count-after, count-one, count-full, count-some, level, level-least, level-most, threshold-least, threshold-low, threshold-of, low-stays, normal-stays, completed-low}
+use Rattle.contention.proofs.InvariantKept.{and-true, SenderAt, sender, going, starting, Quiet, count-up, length-hears}
+use Rattle.contention.proofs.Trace.{howMany-le, howMany-lt, Anyone, anyone, somebody, nobody, onward-station, Echo, echo-idle, echo-first, sender-kept, opp, many, invariant-at, invariant-past, quiet-at, echo-at, active-at}
+use Rattle.contention.proofs.Waiting.{completes-zero, zero-counts, waits-hears, waits-quiet, sending-count, idle-below, first-stays, low-quiet, goes-on, completion-ends}
 
 both-true : (a b : Bool) → a ≡ true → b ≡ true → (a && b) ≡ true
 both-true a b h l = rw (h, l)
@@ -143,7 +143,7 @@ module _ (x1 x2 k : ℕ) (h1 : 8 ≤ x1) (h2 : x1 + 2 ≤ x2) (k1 : 1 ≤ k) (k2
 
   -- one more is low where a rival at the normal level completes a frame of the class
   lows-more : ((j : ℕ) → later j .access .count ≤ level x1 x2 k) → (g : ℕ) → lowOf k (station g c .access) ≡ false → station g c .access .held ≡ k
-      → CompletedAt x1 x2 c inv g → suc (lows k c) ≤ lows k (onward x1 x2 c)
+      → CompletedAt x1 x2 (c .heardD) (station g c) → suc (lows k c) ≤ lows k (onward x1 x2 c)
   unfolding lows station
   lows-more most g normal held r =
       howMany-lt (isLow k) (isLow k) (c .stations) (onward x1 x2 c .stations) onward-length (low-now most) refl g
@@ -189,7 +189,7 @@ module _ (x1 x2 k n L i : ℕ) (h1 : 8 ≤ x1) (h2 : x1 + 2 ≤ x2) (k1 : 1 ≤ 
   one-more : c .heardD ≡ true → station i c .access .sent ≡ 0 → then i .access .sent ≡ 0
       → (then i .access .count ≡ suc (station i c .access .count)) × (then i .access .count < x)
   one-more one q z =
-      let short = idle-below x1 x2 c inv k i k1 w w′ q z (outcome-at x1 x2 c inv i) in
+      let short = idle-below x1 x2 c inv k i k1 w w′ q z (outcome x1 x2 (c .heardD) (station i c)) in
       let up = up-one one in
       by-test (leb (station i c .access .count) x2)
       (λ l. (up ∙ count-one x2 (station i c .access .count) (leb-true (station i c .access .count) x2 l), short))
@@ -229,7 +229,7 @@ module _ (x1 x2 k n L i : ℕ) (h1 : 8 ≤ x1) (h2 : x1 + 2 ≤ x2) (k1 : 1 ≤ 
     behind-idle-on v r (somebody j h) =
         behind-sending (record { more = r .more; rivals = omega (arith, r .rivals); who = j; sending = h; left = omega (arith, r .left-least) })
     behind-idle-on v r (nobody z) =
-        let up = one-more (idle-one x1 x2 h1 h2 c inv e (r .idle)) (r .idle i) (sym (sent-is i) ∙ z i) in
+        let up = one-more (echo-idle e (r .idle)) (r .idle i) (sym (sent-is i) ∙ z i) in
         behind-idle
         (record {
           more = r .more;
@@ -241,7 +241,7 @@ module _ (x1 x2 k n L i : ℕ) (h1 : 8 ≤ x1) (h2 : x1 + 2 ≤ x2) (k1 : 1 ≤ 
 
     behind-sending-on : (v : ℕ) → BehindSending x k n f L i (suc v) c → Anyone (onward x1 x2 c) → Next v
     behind-sending-on v r (somebody j h) =
-        let on = goes-on x1 x2 h1 h2 c inv e (r .who) j (r .sending) (omega (arith, sent-is j)) (sender-at x1 x2 c inv j (omega (arith, sent-is j))) in
+        let on = goes-on x1 x2 h1 h2 c inv e (r .who) j (r .sending) (omega (arith, sent-is j)) (sender x1 x2 (c .heardD) (station j c) (inv .sound j) (omega (arith, sent-is j))) in
         behind-sending (record { more = r .more; rivals = omega (arith, r .rivals); who = j; sending = h; left = omega (arith, r .left, on .0, sent-is j) })
     behind-sending-on v r (nobody z) =
         let p = completion-ends x1 x2 h1 h2 c inv e (r .who) (r .sending) (λ g. sym (sent-is g) ∙ z g) in
@@ -249,7 +249,7 @@ module _ (x1 x2 k n L i : ℕ) (h1 : 8 ≤ x1) (h2 : x1 + 2 ≤ x2) (k1 : 1 ≤ 
         (omega (arith, r .left, p .2, most (p .0), inv .sound (p .0) .sent-part))
 
     -- whoever starts with no C ahead of i's may precede it
-    starts-preceding : ((j : ℕ) → then j .access .count ≤ x) → (j : ℕ) → station j c .access .sent ≡ 0 → SenderAt x1 x2 c inv j → MayPrecede k (then j)
+    starts-preceding : ((j : ℕ) → then j .access .count ≤ x) → (j : ℕ) → station j c .access .sent ≡ 0 → SenderAt x1 x2 (c .heardD) (station j c) → MayPrecede k (then j)
     starts-preceding below j q (going r) = absurd (omega arith)
     starts-preceding below j q (starting r) =
         precede-of x1 x2 k h2 k1 k2 (station j c .access .held) (then j) (r .held-now) (r .holds) (inv .sound j .class-known) (r .reached) (below j)
@@ -272,11 +272,11 @@ module _ (x1 x2 k n L i : ℕ) (h1 : 8 ≤ x1) (h2 : x1 + 2 ≤ x2) (k1 : 1 ≤ 
               sending = h;
               precede = λ g s.
                   rw (onward-station x1 x2 c g)
-                  (starts-preceding below g (r .idle g) (sender-at x1 x2 c inv g (omega (arith, sent-is g))));
+                  (starts-preceding below g (r .idle g) (sender x1 x2 (c .heardD) (station g c) (inv .sound g) (omega (arith, sent-is g))));
               left = omega (arith, r .left, r .below);
             })
         go below low (nobody z) =
-            let up = one-more (idle-one x1 x2 h1 h2 c inv e (r .idle)) (r .idle i) (sym (sent-is i) ∙ z i) in
+            let up = one-more (echo-idle e (r .idle)) (r .idle i) (sym (sent-is i) ∙ z i) in
             even-idle
             (record {
               more = r .more;
@@ -288,7 +288,7 @@ module _ (x1 x2 k n L i : ℕ) (h1 : 8 ≤ x1) (h2 : x1 + 2 ≤ x2) (k1 : 1 ≤ 
             })
 
     -- whoever goes on and could precede i still can
-    goes-preceding : (j : ℕ) → 1 ≤ station j c .access .sent → MayPrecede k (station j c) → SenderAt x1 x2 c inv j → MayPrecede k (then j)
+    goes-preceding : (j : ℕ) → 1 ≤ station j c .access .sent → MayPrecede k (station j c) → SenderAt x1 x2 (c .heardD) (station j c) → MayPrecede k (then j)
     goes-preceding j h (inl p) (going r) =
         inl (r .held-now ∙ p .0, normal-stays x1 x2 k (c .heardD) (station j c) k1 k2 (r .in-F7) (p .1) (λ q. omega (arith, r .done-now)))
     goes-preceding j h (inr p) (going r) = inr (r .held-now ∙ p .0, p .1)
@@ -296,16 +296,16 @@ module _ (x1 x2 k n L i : ℕ) (h1 : 8 ≤ x1) (h2 : x1 + 2 ≤ x2) (k1 : 1 ≤ 
     goes-preceding j h (inr p) (starting r) = absurd (omega arith)
 
     -- a completed class 1 frame is one of the f, where they count
-    module _ (spent : (g : ℕ) → CompletedAt x1 x2 c inv g → station g c .access .held ≡ 1 → k ≡ 2 → suc f′ ≤ f)
+    module _ (spent : (g : ℕ) → CompletedAt x1 x2 (c .heardD) (station g c) → station g c .access .held ≡ 1 → k ≡ 2 → suc f′ ≤ f)
         (bound : activeCount (onward x1 x2 c .stations) ≤ n) where
       even-sending-on : (v : ℕ) → EvenSending x k n f L i (suc v) c → Anyone (onward x1 x2 c) → Next v
       even-sending-on v r a =
           let below : (j : ℕ) → then j .access .count ≤ x =
-          λ j. omega (arith, sending-count x1 x2 c inv (r .who) j (r .sending) (first-zero x2 c (r .who) inv e), level-least x1 x2 k h2)
+          λ j. omega (arith, sending-count x1 x2 c inv (r .who) j (r .sending) (echo-first e (r .who) (inv .sound (r .who))), level-least x1 x2 k h2)
           in
           go below (lows-kept x1 x2 k h1 h2 k1 k2 c inv below) a
         where
-          gain : ((j : ℕ) → then j .access .count ≤ x) → (g : ℕ) → CompletedAt x1 x2 c inv g → MayPrecede k (station g c)
+          gain : ((j : ℕ) → then j .access .count ≤ x) → (g : ℕ) → CompletedAt x1 x2 (c .heardD) (station g c) → MayPrecede k (station g c)
               → suc (lows k c + f′) ≤ lows k (onward x1 x2 c) + f
           gain below g d (inl p) = omega (arith, lows-more x1 x2 k h1 h2 k1 k2 c inv below g (p .1) (p .0) d)
           gain below g d (inr p) = omega (arith, lows-kept x1 x2 k h1 h2 k1 k2 c inv below, spent g d (p .0) (p .1))
@@ -318,8 +318,8 @@ module _ (x1 x2 k n L i : ℕ) (h1 : 8 ≤ x1) (h2 : x1 + 2 ≤ x2) (k1 : 1 ≤ 
 
           go : ((j : ℕ) → then j .access .count ≤ x) → lows k c ≤ lows k (onward x1 x2 c) → Anyone (onward x1 x2 c) → Next v
           go below low (somebody j h) =
-              let sender-of : (g : ℕ) → 1 ≤ station g (onward x1 x2 c) .access .sent → SenderAt x1 x2 c inv g =
-              λ g s. sender-at x1 x2 c inv g (omega (arith, sent-is g))
+              let sender-of : (g : ℕ) → 1 ≤ station g (onward x1 x2 c) .access .sent → SenderAt x1 x2 (c .heardD) (station g c) =
+              λ g s. sender x1 x2 (c .heardD) (station g c) (inv .sound g) (omega (arith, sent-is g))
               in
               let on : (g : ℕ) → 1 ≤ station g (onward x1 x2 c) .access .sent
               → (then g .access .sent ≡ suc (station (r .who) c .access .sent)) × (1 ≤ station g c .access .sent) =
@@ -403,14 +403,15 @@ module _ (x1 x2 x k n f f′ L i v : ℕ) (c c′ : Channel) (inv : Invariant x2
 
 -- ---- along the stretch
 
--- no image grows
-length-later : (x1 x2 : ℕ) (e : Bool) (s s′ : Station) (d : Bool) (done : ℕ) → Outcome x1 x2 e s s′ d done → s′ .access .length ≤ s .access .length
-length-later x1 x2 e s s′ d done (completed r) = omega arith
-length-later x1 x2 e s s′ d done (went-on r) = omega arith
-length-later x1 x2 e s s′ d done (stopped r) = omega arith
-length-later x1 x2 e s s′ d done (started r) = omega arith
-length-later x1 x2 e s s′ d done (idled r) = omega arith
-length-later x1 x2 e s s′ d done (outside r) = omega (arith, ap (λ (z : Station). z .access .length) (r .as-before))
+module _ {x1 x2 : ℕ} {e : Bool} {s s′ : Station} {d : Bool} {done : ℕ} where
+  -- no image grows
+  length-later : Outcome x1 x2 e s s′ d done → s′ .access .length ≤ s .access .length
+  length-later (completed r) = omega arith
+  length-later (went-on r) = omega arith
+  length-later (stopped r) = omega arith
+  length-later (started r) = omega arith
+  length-later (idled r) = omega arith
+  length-later (outside r) = omega (arith, ap (λ (z : Station). z .access .length) (r .as-before))
 
 images-onward : (x1 x2 L : ℕ) (c : Channel) → Invariant x2 c → ImagesAtMost L c → ImagesAtMost L (onward x1 x2 c)
 images-onward x1 x2 L c inv most i =
@@ -418,8 +419,7 @@ images-onward x1 x2 L c inv most i =
       arith,
       most i,
       ap (λ (z : Station). z .access .length) (onward-station x1 x2 c i),
-      length-later x1 x2 (c .heardD) (station i c) (hears x1 x2 (c .heardD) (station i c)) (sendsD x1 x2 (c .heardD) (station i c)) (turnAt x1 x2 (c .heardD) (station i c) .done)
-          (outcome-at x1 x2 c inv i),
+      length-later (outcome x1 x2 (c .heardD) (station i c)),
     )
 
 -- nobody enters F7 at an opportunity

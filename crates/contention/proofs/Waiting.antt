@@ -7,15 +7,14 @@ use lib.ListN.{length}
 use Rattle.dchannel.specs.declared.access.Access.{Access}
 use Rattle.hdlc.specs.Image.{image}
 use Rattle.cases.proofs.ByCases.{by-test}
-use Rattle.hdlc.proofs.ImageLaws.{image-starts, image-ends, image-endingOnes}
+use Rattle.hdlc.proofs.ImageLaws.{image-ends, image-endingOnes}
 use Rattle.dchannel.specs.Access.{lowOf}
-use Rattle.contention.specs.Channel.{Station, Channel, turnAt, hears, sendsD}
-use Rattle.contention.specs.Stretch.{station, Waits, Completes}
+use Rattle.contention.specs.Channel.{Station, Channel, turnAt, hears}
+use Rattle.contention.specs.Stretch.{onward, station, Waits, Completes}
 use Rattle.contention.specs.Invariant.{Sound, Invariant}
-use Rattle.contention.proofs.Terminal.{Outcome, outcome, Completed, completed, went-on, stopped, started, idled, outside, active-after, count-after, count-mono, hears-outside, level, threshold-normal, threshold-of, normal-stays}
-use Rattle.contention.proofs.InvariantKept.{Sender, sender, going, starting, nobody-starts, sending-holds, Quietly, Quiet, count-up, zero-clears}
-use Rattle.contention.proofs.Trace.{onward-station, Echo}
-use Rattle.contention.specs.Stretch.{onward}
+use Rattle.contention.proofs.Terminal.{Outcome, outcome, OutcomeAt, CompletedAt, Completed, completed, went-on, stopped, started, idled, outside, active-after, count-after, count-mono, hears-outside, level, threshold-normal, threshold-of, normal-stays}
+use Rattle.contention.proofs.InvariantKept.{SenderAt, going, starting, nobody-starts, sending-holds, Quietly, Quiet, count-up, zero-clears}
+use Rattle.contention.proofs.Trace.{onward-station, Echo, echo-agrees}
 
 -- the last bit of an image is a 0
 pub whole-zero : (x2 : ℕ) (s : Station) → Sound x2 s → 1 ≤ s .access .sent → s .access .length ≤ s .access .sent → s .access .last ≡ false
@@ -24,58 +23,37 @@ whole-zero x2 s h k w =
     let n : s .access .sent ≡ suc (length (image (s .body)) - 1) = omega (arith, f .1, h .sent-part) in
     h .last-bit (length (image (s .body)) - 1) n ∙ image-ends (s .body)
 
--- the E after a start is 0
-pub first-zero : (x2 : ℕ) (c : Channel) (i : ℕ) → Invariant x2 c → Echo c → station i c .access .sent ≡ 1 → c .heardD ≡ false
-first-zero x2 c i inv e q = e .zero-heard i (omega arith) (inv .sound i .last-bit 0 q ∙ image-starts (station i c .body))
+module _ {x1 x2 : ℕ} {e : Bool} {s s′ : Station} {d : Bool} {done : ℕ} where
+  -- the outcome of a completed class
+  pub completion : (k : ℕ) → 1 ≤ k → s .active ≡ true → done ≡ k
+      → Outcome x1 x2 e s s′ d done → Completed x1 x2 e s s′ d done
+  completion k h act q (completed r) = r
+  completion k h act q (went-on r) = absurd (omega arith)
+  completion k h act q (stopped r) = absurd (omega arith)
+  completion k h act q (started r) = absurd (omega arith)
+  completion k h act q (idled r) = absurd (omega arith)
+  completion k h act q (outside r) = absurd (true≢false (sym act ∙ r .not-F7))
 
--- the outcome of a completed class
-pub completion : (x1 x2 k : ℕ) (e : Bool) (s s′ : Station) (d : Bool) (done : ℕ) → 1 ≤ k → s .active ≡ true → done ≡ k
-    → Outcome x1 x2 e s s′ d done → Completed x1 x2 e s s′ d done
-completion x1 x2 k e s s′ d done h act q (completed r) = r
-completion x1 x2 k e s s′ d done h act q (went-on r) = absurd (omega arith)
-completion x1 x2 k e s s′ d done h act q (stopped r) = absurd (omega arith)
-completion x1 x2 k e s s′ d done h act q (started r) = absurd (omega arith)
-completion x1 x2 k e s s′ d done h act q (idled r) = absurd (omega arith)
-completion x1 x2 k e s s′ d done h act q (outside r) = absurd (true≢false (sym act ∙ r .not-F7))
-
--- a held frame stays held unless it is completed
-pub held-stays : (x1 x2 k : ℕ) (e : Bool) (s s′ : Station) (d : Bool) (done : ℕ) → s .access .held ≡ k → (done ≡ k → ⊥) → s .active ≡ true
-    → Outcome x1 x2 e s s′ d done → s′ .access .held ≡ k
-held-stays x1 x2 k e s s′ d done h n act (completed r) = absurd (n (r .done-now ∙ h))
-held-stays x1 x2 k e s s′ d done h n act (went-on r) = r .held-now ∙ h
-held-stays x1 x2 k e s s′ d done h n act (stopped r) = r .held-now ∙ h
-held-stays x1 x2 k e s s′ d done h n act (started r) = r .held-now ∙ h
-held-stays x1 x2 k e s s′ d done h n act (idled r) = r .held-now ∙ h
-held-stays x1 x2 k e s s′ d done h n act (outside r) = absurd (true≢false (sym act ∙ r .not-F7))
+  -- a held frame stays held unless it is completed
+  held-stays : (k : ℕ) → s .access .held ≡ k → (done ≡ k → ⊥) → s .active ≡ true
+      → Outcome x1 x2 e s s′ d done → s′ .access .held ≡ k
+  held-stays k h n act (completed r) = absurd (n (r .done-now ∙ h))
+  held-stays k h n act (went-on r) = r .held-now ∙ h
+  held-stays k h n act (stopped r) = r .held-now ∙ h
+  held-stays k h n act (started r) = r .held-now ∙ h
+  held-stays k h n act (idled r) = r .held-now ∙ h
+  held-stays k h n act (outside r) = absurd (true≢false (sym act ∙ r .not-F7))
 
 pub low-quiet : (k : ℕ) (s s′ : Station) → Quietly s s′ → lowOf k (s′ .access) ≡ lowOf k (s .access)
 unfolding lowOf
 low-quiet k s s′ q = rw (q .low1-same, q .low2-same)
 
 module _ (x1 x2 : ℕ) (c : Channel) (inv : Invariant x2 c) where
-  -- the outcome of terminal i at the opportunity c
-  abbrev pub OutcomeAt : ℕ → Type 0
-  OutcomeAt i = Outcome x1 x2 (c .heardD) (station i c) (hears x1 x2 (c .heardD) (station i c)) (sendsD x1 x2 (c .heardD) (station i c)) (turnAt x1 x2 (c .heardD) (station i c) .done)
-
-  abbrev pub SenderAt : ℕ → Type 0
-  SenderAt i = Sender x1 x2 (c .heardD) (station i c) (hears x1 x2 (c .heardD) (station i c)) (sendsD x1 x2 (c .heardD) (station i c)) (turnAt x1 x2 (c .heardD) (station i c) .done)
-
-  abbrev pub CompletedAt : ℕ → Type 0
-  CompletedAt i = Completed x1 x2 (c .heardD) (station i c) (hears x1 x2 (c .heardD) (station i c)) (sendsD x1 x2 (c .heardD) (station i c)) (turnAt x1 x2 (c .heardD) (station i c) .done)
-
-  pub outcome-at : (i : ℕ) → OutcomeAt i
-  outcome-at i = outcome x1 x2 (c .heardD) (station i c)
-
-  pub sender-at : (i : ℕ) → 1 ≤ hears x1 x2 (c .heardD) (station i c) .access .sent → SenderAt i
-  sender-at i h = sender x1 x2 (c .heardD) (station i c) (inv .sound i) h
-
-  pub completed-at : (k i : ℕ) → 1 ≤ k → Completes x1 x2 k i c → CompletedAt i
-  completed-at k i h r =
-      completion x1 x2 k (c .heardD) (station i c) (hears x1 x2 (c .heardD) (station i c)) (sendsD x1 x2 (c .heardD) (station i c)) (turnAt x1 x2 (c .heardD) (station i c) .done)
-      h (r .in-F7) (r .done) (outcome-at i)
+  pub completed-at : (k i : ℕ) → 1 ≤ k → Completes x1 x2 k i c → CompletedAt x1 x2 (c .heardD) (station i c)
+  completed-at k i h r = completion k h (r .in-F7) (r .done) (outcome x1 x2 (c .heardD) (station i c))
 
   -- a frame is completed at an E of 0
-  pub completes-zero : (i : ℕ) → CompletedAt i → c .heardD ≡ false
+  pub completes-zero : (i : ℕ) → CompletedAt x1 x2 (c .heardD) (station i c) → c .heardD ≡ false
   completes-zero i r = r .agreed ∙ whole-zero x2 (station i c) (inv .sound i) (r .sending) (r .whole)
 
   -- and then every C is 0
@@ -93,8 +71,7 @@ module _ (x1 x2 : ℕ) (c : Channel) (inv : Invariant x2 c) where
       record {
         in-F7 = rw (onward-station x1 x2 c i) (active-after x1 x2 (c .heardD) (station i c) ∙ w .in-F7);
         holds = rw (onward-station x1 x2 c i)
-            (held-stays x1 x2 k (c .heardD) (station i c) (hears x1 x2 (c .heardD) (station i c)) (sendsD x1 x2 (c .heardD) (station i c)) (turnAt x1 x2 (c .heardD) (station i c) .done)
-            (w .holds) not-done (w .in-F7) (outcome-at i));
+            (held-stays k (w .holds) not-done (w .in-F7) (outcome x1 x2 (c .heardD) (station i c)));
         normal = rw (onward-station x1 x2 c i)
             (normal-stays x1 x2 k (c .heardD) (station i c) h (waits-class k i w) (w .in-F7) (w .normal) not-done);
       }
@@ -112,7 +89,7 @@ module _ (x1 x2 : ℕ) (c : Channel) (inv : Invariant x2 c) where
 
   -- whoever waits and does not start has its C below the level
   pub idle-below : (k i : ℕ) → 1 ≤ k → Waits k i c → Waits k i (onward x1 x2 c) → station i c .access .sent ≡ 0
-      → hears x1 x2 (c .heardD) (station i c) .access .sent ≡ 0 → OutcomeAt i
+      → hears x1 x2 (c .heardD) (station i c) .access .sent ≡ 0 → OutcomeAt x1 x2 (c .heardD) (station i c)
       → hears x1 x2 (c .heardD) (station i c) .access .count < level x1 x2 k
   idle-below k i k1 w w′ q z (completed r) = absurd (omega arith)
   idle-below k i k1 w w′ q z (went-on r) = absurd (omega arith)
@@ -147,25 +124,16 @@ waits-quiet k i c c′ h q w =
 -- ---- somebody goes on, or completes
 
 module _ (x1 x2 : ℕ) (h1 : 8 ≤ x1) (h2 : x1 + 2 ≤ x2) (c : Channel) (inv : Invariant x2 c) (e : Echo c) where
-  -- the E agrees with a bit that was sent
-  pub somebody-agrees : (j : ℕ) → 1 ≤ station j c .access .sent
-      → (g : ℕ) × (1 ≤ station g c .access .sent) × (c .heardD ≡ station g c .access .last)
-  somebody-agrees j h =
-      by-test (c .heardD)
-      (λ one. by-test (station j c .access .last) (λ l. (j, h, one ∙ sym l))
-      (λ l. absurd (true≢false (sym one ∙ e .zero-heard j h l))))
-      (λ zer. let p = e .zero-sent zer in (p .0, p .1, zer ∙ sym (p .2)))
-
   -- whoever is sending afterwards went on
-  pub goes-on : (j g : ℕ) → 1 ≤ station j c .access .sent → 1 ≤ hears x1 x2 (c .heardD) (station g c) .access .sent → SenderAt x1 x2 c inv g
+  pub goes-on : (j g : ℕ) → 1 ≤ station j c .access .sent → 1 ≤ hears x1 x2 (c .heardD) (station g c) .access .sent → SenderAt x1 x2 (c .heardD) (station g c)
       → (hears x1 x2 (c .heardD) (station g c) .access .sent ≡ suc (station j c .access .sent)) × (1 ≤ station g c .access .sent)
   goes-on j g h k (going r) = (omega (arith, inv .in-phase j g h (r .sending) .0), r .sending)
   goes-on j g h k (starting r) =
-      let p = somebody-agrees j h in absurd (nobody-starts x1 x2 c inv h1 h2 (c .heardD) (p .0) g (p .1) (p .2) r)
+      let p = echo-agrees e j h in absurd (nobody-starts x1 x2 c inv h1 h2 (c .heardD) (p .0) g (p .1) (p .2) r)
 
   -- if nobody is, a frame was completed
   ended : (g : ℕ) → 1 ≤ station g c .access .sent → c .heardD ≡ station g c .access .last
-      → hears x1 x2 (c .heardD) (station g c) .access .sent ≡ 0 → OutcomeAt x1 x2 c inv g → CompletedAt x1 x2 c inv g
+      → hears x1 x2 (c .heardD) (station g c) .access .sent ≡ 0 → OutcomeAt x1 x2 (c .heardD) (station g c) → CompletedAt x1 x2 (c .heardD) (station g c)
   ended g h a z (completed r) = r
   ended g h a z (went-on r) = absurd (omega arith)
   ended g h a z (stopped r) = absurd (r .differed a)
@@ -175,11 +143,7 @@ module _ (x1 x2 : ℕ) (h1 : 8 ≤ x1) (h2 : x1 + 2 ≤ x2) (c : Channel) (inv :
       absurd (omega (arith, ap (λ (s : Station). s .access .sent) (r .as-before)))
 
   pub completion-ends : (j : ℕ) → 1 ≤ station j c .access .sent → ((g : ℕ) → hears x1 x2 (c .heardD) (station g c) .access .sent ≡ 0)
-      → (g : ℕ) × CompletedAt x1 x2 c inv g × (station g c .access .sent ≡ station j c .access .sent)
+      → (g : ℕ) × CompletedAt x1 x2 (c .heardD) (station g c) × (station g c .access .sent ≡ station j c .access .sent)
   completion-ends j h z =
-      let p = somebody-agrees j h in
-      (p .0, ended (p .0) (p .1) (p .2) (z (p .0)) (outcome-at x1 x2 c inv (p .0)), inv .in-phase (p .0) j (p .1) h .0)
-
-  -- where nobody is sending, a 1 is heard
-  pub idle-one : ((j : ℕ) → station j c .access .sent ≡ 0) → c .heardD ≡ true
-  idle-one z = by-test (c .heardD) (λ q. q) (λ q. let p = e .zero-sent q in absurd (omega (arith, p .1, z (p .0))))
+      let p = echo-agrees e j h in
+      (p .0, ended (p .0) (p .1) (p .2) (z (p .0)) (outcome x1 x2 (c .heardD) (station (p .0) c)), inv .in-phase (p .0) j (p .1) h .0)

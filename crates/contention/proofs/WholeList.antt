@@ -1,12 +1,11 @@
 -- A stretch as a part of the whole list: the D opportunities of `before ++ (during ++ after)` are those of `before`, then those of the
 -- stretch, then those of `after`, each run from where the part before it left the channel. So a claim about every `before` and
 -- `during` is one about every unbroken part of every list.
-use mathlib.Core.List.{List, [], _∷_, _++_}
-use mathlib.Core.Path.{_≡_, refl, ap}
+use mathlib.Core.List.{List, [], _∷_, _++_, append-assoc}
+use mathlib.Core.Path.{_≡_, refl, sym}
 use Prim.Native.Nat.{ℕ}
 use Rattle.contention.specs.Channel.{Channel, Action, step, run}
-use Rattle.contention.specs.Channel.Action.{hand, enter, leave, clear, opportunity}
-use Rattle.contention.specs.Stretch.{Stretch, opportunities}
+use Rattle.contention.specs.Stretch.{Stretch, seen, opportunities}
 
 module _ (x1 x2 : ℕ) where
   pub run-append : (c : Channel) (xs bs : List Action) → run x1 x2 c (xs ++ bs) ≡ run x1 x2 (run x1 x2 c xs) bs
@@ -18,12 +17,9 @@ module _ (x1 x2 : ℕ) where
       opportunities x1 x2 c (xs ++ bs) ≡ opportunities x1 x2 c xs ++ opportunities x1 x2 (run x1 x2 c xs) bs
   unfolding run opportunities
   opportunities-append c [] bs = refl
-  opportunities-append c (hand i k body ∷ more) bs = opportunities-append (step x1 x2 c (hand i k body)) more bs
-  opportunities-append c (enter i ∷ more) bs = opportunities-append (step x1 x2 c (enter i)) more bs
-  opportunities-append c (leave i ∷ more) bs = opportunities-append (step x1 x2 c (leave i)) more bs
-  opportunities-append c (clear ∷ more) bs = opportunities-append (step x1 x2 c clear) more bs
-  opportunities-append c (opportunity e bit on ∷ more) bs =
-      ap (λ (cs : List Channel). c ∷ cs) (opportunities-append (step x1 x2 c (opportunity e bit on)) more bs)
+  opportunities-append c (a ∷ more) bs =
+      rw (opportunities-append (step x1 x2 c a) more bs)
+      (sym (append-assoc (seen c a) (opportunities x1 x2 (step x1 x2 c a) more) (opportunities x1 x2 (run x1 x2 (step x1 x2 c a) more) bs)))
 
   pub stretch-in-list : (c : Channel) (before during after : List Action) →
       opportunities x1 x2 c (before ++ (during ++ after))

@@ -58,7 +58,7 @@ holding k body s =
     })
     s
 
--- "C (0 on entering F7 ..)"
+-- "C (0 on entering F7; ..)"
 unfoldable pub entering : Station → Station
 entering s = cond (s .active) s (record { active = true; access = entered (s .access); body = s .body })
 

@@ -1,4 +1,4 @@
--- Demand 3 for the D channel alone, as statements about a channel where a stretch starts and the stretch from it (document 01, "Lists and
+-- Demand 3 for the D channel alone, as statements about the channel where a stretch starts and the stretch (document 01, "Lists and
 -- stretches"). Opportunity t is the one at place t, from 0, of the stretch's D opportunities. `stretch-in-list` (WholeList) has a stretch
 -- as a part of a whole list.
 use mathlib.Core.List.{List}
@@ -45,8 +45,8 @@ module _ (x1 x2 : ℕ) (c : Channel) (during : List Action) where
     pub same-body : station i (at opps when) .body ≡ station i (at opps p) .body
 
   -- "In class 1, if the stretch lasts that long, a frame so waiting is completed within (n + 1) times (L + 8) D opportunities, counted
-  -- from the first of the stretch at which it so waits", with x1 for 8. The terminals in F7 at the stretch's end are all that were in F7
-  -- in it, as nobody leaves.
+  -- from the first of the stretch at which it so waits", with x1 for 8: p is any opportunity at which it so waits, the first included.
+  -- The terminals in F7 at the stretch's end are all that were in F7 in it, as nobody leaves.
   abbrev pub WaitEnds : Type 0
   WaitEnds =
       (n L i p : ℕ) →
@@ -110,7 +110,7 @@ InLists P =
     (x1 x2 terminals : ℕ) (before during : List Action) → 8 ≤ x1 → x1 + 2 ≤ x2 →
     Stretch x1 x2 (start x1 x2 terminals before) during → P x1 x2 (start x1 x2 terminals before) during
 
--- Demand 3 for the D channel, and the same from any channel that satisfies the invariant (one restored: document 02, 2.10).
+-- Demand 3 for the D channel, and the same from any channel that satisfies the invariant, as a restored one does (document 02, 2.10).
 abbrev pub Demand3 : Type 0
 Demand3 = InLists ThreeParts
 

@@ -1,5 +1,5 @@
--- The class 2 wait (document 02, 2.11), as a statement about a channel where a stretch starts and the stretch from it.
-use mathlib.Core.Bool.{Bool, cond, _&&_}
+-- The class 2 wait (document 02, 2.11), as a statement about the channel where a stretch starts and the stretch.
+use mathlib.Core.Bool.{Bool, false, cond, _&&_}
 use mathlib.Core.List.{List, [], _∷_}
 use Prim.Native.Nat.{ℕ, _+_, _≤_, _<_}
 use lib.Dec.{eqb}
@@ -17,18 +17,22 @@ holdsOne s = eqb (s .access .held) 1
 unfoldable pub onesHeld : Channel → ℕ
 onesHeld c = howMany holdsOne (c .stations)
 
+-- whether an action hands over a class 1 frame that is taken
+abbrev pub takesOne : Channel → Action → Bool
+takesOne c (hand i k body) = eqb k 1 && mayHold k body (station i c)
+takesOne c (enter i) = false
+takesOne c (leave i) = false
+takesOne c clear = false
+takesOne c (opportunity e bit on) = false
+
 module _ (x1 x2 : ℕ) where
-  -- how many class 1 frames the actions of a list hand over, those that are taken
+  -- how many such frames the actions of a list hand over
   unfoldable pub onesTaken : Channel → List Action → ℕ
   onesTaken c [] = 0
-  onesTaken c (hand i k body ∷ more) = cond (eqb k 1 && mayHold k body (station i c)) 1 0 + onesTaken (step x1 x2 c (hand i k body)) more
-  onesTaken c (enter i ∷ more) = onesTaken (step x1 x2 c (enter i)) more
-  onesTaken c (leave i ∷ more) = onesTaken (step x1 x2 c (leave i)) more
-  onesTaken c (clear ∷ more) = onesTaken (step x1 x2 c clear) more
-  onesTaken c (opportunity e bit on ∷ more) = onesTaken (step x1 x2 c (opportunity e bit on)) more
+  onesTaken c (a ∷ more) = cond (takesOne c a) 1 0 + onesTaken (step x1 x2 c a) more
 
-  -- "With at most k class 1 frames held or handed in during the stretch, a class 2 frame waiting at normal level is completed .. if the
-  -- stretch lasts that long, within (n + 1 + k) times (L + 10) D opportunities": `ones` is that k, and x2 stands for 10
+  -- "with at most k class 1 frames held or handed in during the stretch, a class 2 frame waiting at normal level is completed, counted as
+  -- there and if the stretch lasts that long, within (n + 1 + k) times (L + 10) D opportunities. After 2.9, x2 replaces 10": `ones` is that k
   abbrev pub WaitEndsClassTwo : Channel → List Action → Type 0
   WaitEndsClassTwo c during =
       (n L ones i p : ℕ) →

@@ -4,7 +4,7 @@ use mathlib.Core.Path.{_≡_}
 use Prim.Native.Nat.{ℕ, suc, _+_, _≤_, _<_}
 use lib.ListN.{length, getD, take}
 use Rattle.dchannel.specs.Access.{fresh}
-use Rattle.hdlc.specs.Image.{image, isBody}
+use Rattle.hdlc.specs.Image.{image, IsBody}
 use Rattle.hdlc.specs.Ones.{endingOnes}
 use Rattle.contention.specs.Channel.{Station, Channel}
 use Rattle.contention.specs.Stretch.{station}
@@ -17,7 +17,7 @@ pub record Sound (x2 : ℕ) (s : Station) : Type 0 where
   pub outside : s .active ≡ false → s .access ≡ fresh
   pub class-known : s .access .held ≤ 2
   pub none-held : s .access .held ≡ 0 → (s .access .length ≡ 0) × (s .access .sent ≡ 0)
-  pub frame-held : 1 ≤ s .access .held → (isBody (s .body) ≡ true) × (s .access .length ≡ length (image (s .body)))
+  pub frame-held : 1 ≤ s .access .held → IsBody (s .body) × (s .access .length ≡ length (image (s .body)))
   pub sent-part : s .access .sent ≤ s .access .length
   -- the bit that left last is the image's
   pub last-bit : (n : ℕ) → s .access .sent ≡ suc n → s .access .last ≡ getD (image (s .body)) n true

@@ -2,7 +2,7 @@
 -- and D opportunities are counted from 0.
 use mathlib.Core.Bool.{Bool, cond}
 use mathlib.Core.Path.{_≡_, refl}
-use mathlib.Core.List.{List, [], _∷_, _++_}
+use mathlib.Core.List.{List, [], _∷_, _++_, map}
 use Prim.Native.Nat.{ℕ, zero, suc, _+_, _-_}
 use lib.Dec.{eqb}
 use Rattle.hdlc.specs.Bits.{lowBits, bodyBits, numberLowFirst, octets}
@@ -16,16 +16,18 @@ use Rattle.contention.specs.Channel.Action.{hand, enter}
 use Rattle.contention.specs.Stretch.{saidAt, onward}
 use Rattle.contention.specs.Claims.{waitBound}
 
--- what happens in a scene: an action, or some D opportunities of a stretch
+-- what happens in a scene: an action, or some D opportunities of a stretch; or it is asked how many bits each has sent
 pub data Cue : Type 0 where
   act : Action → Cue
   calm : ℕ → Cue
+  ask : Cue
 
 -- what is seen at an opportunity: a terminal completes a frame of a class at its E, a body is heard or something is torn at its D
 pub data Note : Type 0 where
   done : ℕ → ℕ → ℕ → Note
   body-heard : ℕ → List ℕ → Note
   bits-torn : ℕ → Note
+  bits-sent : ℕ → List ℕ → Note
 
 abbrev doneNotes : ℕ → ℕ → Bool → List Station → List Note
 doneNotes t i e [] = []
@@ -50,6 +52,7 @@ past (suc k) c = past k (onward 8 10 c)
 abbrev notes : ℕ → Channel → List Cue → List Note
 notes t c [] = []
 notes t c (act a ∷ more) = notes t (step 8 10 c a) more
+notes t c (ask ∷ more) = bits-sent t (map (λ (s : Station). s .access .sent) (c .stations)) ∷ notes t c more
 notes t c (calm k ∷ more) = through k t c ++ notes (t + k) (past k c) more
 
 -- the notes of a scene with n fresh terminals
@@ -79,6 +82,14 @@ pub zero-before-one : scene 2 (act (enter 0) ∷ act (enter 1) ∷ act (hand 0 1
     ≡ body-heard 30 (0 ∷ []) ∷ done 31 1 1 ∷ body-heard 62 (1 ∷ []) ∷ done 63 0 1 ∷ []
 unfolding scene
 zero-before-one = refl
+
+-- there both begin at opportunity 7, and 01 goes on through its flag and stops where the echo of its body's first bit comes, at
+-- opportunity 16
+pub stops-past-flag : scene 2
+    (act (enter 0) ∷ act (enter 1) ∷ act (hand 0 1 (1 ∷ [])) ∷ act (hand 1 1 (0 ∷ [])) ∷ calm 16 ∷ ask ∷ calm 1 ∷ ask ∷ [])
+    ≡ bits-sent 16 (9 ∷ 9 ∷ []) ∷ bits-sent 17 (0 ∷ 10 ∷ []) ∷ []
+unfolding scene
+stops-past-flag = refl
 
 -- class 1 against class 2: class 1 goes first, whatever the bodies
 pub one-before-two : scene 2 (act (enter 0) ∷ act (enter 1) ∷ act (hand 0 1 (1 ∷ [])) ∷ act (hand 1 2 (0 ∷ [])) ∷ calm 80 ∷ [])

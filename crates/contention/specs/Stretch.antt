@@ -1,6 +1,6 @@
 -- Stretches and what document 01, "Lists and stretches", says of the D opportunities in them.
 use mathlib.Core.Bool.{Bool, true, false, cond}
-use mathlib.Core.List.{List, [], _∷_}
+use mathlib.Core.List.{List, [], _∷_, _++_}
 use mathlib.Core.Path.{_≡_}
 use Prim.Native.Nat.{ℕ, _+_, _≤_}
 use lib.ListN.{length, getD}
@@ -9,7 +9,20 @@ use Rattle.hdlc.specs.Reading.{Said, said}
 use Rattle.contention.specs.Channel.{Station, Channel, Action, freshStation, turnAt, combinedD, step}
 use Rattle.contention.specs.Channel.Action.{hand, enter, leave, clear, opportunity}
 
+-- the channel "as E comes", for the D opportunity that an action is ..
+abbrev pub seen : Channel → Action → List Channel
+seen c (hand i k body) = []
+seen c (enter i) = []
+seen c (leave i) = []
+seen c clear = []
+seen c (opportunity e bit on) = c ∷ []
+
 module _ (x1 x2 : ℕ) where
+  -- .. and for those of a list, in order
+  unfoldable pub opportunities : Channel → List Action → List Channel
+  opportunities c [] = []
+  opportunities c (a ∷ more) = seen c a ++ opportunities (step x1 x2 c a) more
+
   -- What a stretch allows of one action. "No period run in it has a hit or a terminal sending INFO 1": the E of an opportunity is the last
   -- D, and its D is what the terminals send together. The network end stays in G3, so it reads D and its reader is not cleared, and nobody
   -- leaves F7.
@@ -31,15 +44,6 @@ module _ (x1 x2 : ℕ) where
   unfoldable pub Stretch : Channel → List Action → Type 0
   Stretch c [] = Unit
   Stretch c (a ∷ more) = Calm c a × Stretch (step x1 x2 c a) more
-
-  -- the channels "as E comes", one for each D opportunity of a list, in order
-  unfoldable pub opportunities : Channel → List Action → List Channel
-  opportunities c [] = []
-  opportunities c (hand i k body ∷ more) = opportunities (step x1 x2 c (hand i k body)) more
-  opportunities c (enter i ∷ more) = opportunities (step x1 x2 c (enter i)) more
-  opportunities c (leave i ∷ more) = opportunities (step x1 x2 c (leave i)) more
-  opportunities c (clear ∷ more) = opportunities (step x1 x2 c clear) more
-  opportunities c (opportunity e bit on ∷ more) = c ∷ opportunities (step x1 x2 c (opportunity e bit on)) more
 
 -- the terminal at an index, as E comes
 unfoldable pub station : ℕ → Channel → Station
