@@ -16,7 +16,7 @@ use Rattle.combining.specs.Combine.{terminals, linesLength, isSent, only
 use Rattle.combining.specs.declared.combine.Combined.{Combined}
 use Rattle.cases.proofs.ByCases.{at-each-below}
 use Rattle.symbols.proofs.Lines.{Small, within-small, fits-within}
-use Rattle.symbols.proofs.Fill.{line-is, line-ext, length-tabulate, getD-tabulate}
+use Rattle.symbols.proofs.Fill.{line-is, tabulate-ext, length-tabulate, getD-tabulate}
 
 -- What is gathered, as a number: 1 for plus, 2 for minus.
 code : Bool → Bool → ℕ
@@ -106,7 +106,7 @@ module _ {lines out₀ out : List ℕ} {n : ℕ} (m : Gathering lines out₀ out
 pub combines : (lines zeros all last : List ℕ) → fits linesLength minus lines ≡ true → zeros ≡ info0
     → all ≡ lineBy (λ i. gathered (getD zeros i none) (column i (rows terminals lines))) → last ≡ lineBy (λ i. settled (getD all i none)) → last ≡ eight lines
 unfolding combined
-combines lines zeros all last h z a e = e ∙ line-ext (λ i. settled (getD all i none)) (λ i. combinedSymbol (column i (rows terminals lines))) at-i
+combines lines zeros all last h z a e = e ∙ tabulate-ext lineLength (λ i. settled (getD all i none)) (λ i. combinedSymbol (column i (rows terminals lines))) at-i
   where
     at-i : (i : ℕ) → i < lineLength → settled (getD all i none) ≡ combinedSymbol (column i (rows terminals lines))
     at-i i k =

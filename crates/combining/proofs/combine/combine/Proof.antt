@@ -2,7 +2,7 @@
 use mathlib.Core.Path.{sym, ap, _∙_}
 use borrow.Author.Tests.{eq-eqb, ne-eqb}
 use lib.ListN.{length}
-use Rattle.cases.proofs.ByCases.{and-true, and-left-false, and-right-false}
+use Rattle.cases.proofs.ByCases.{and-both-true, and-left-false, and-right-false}
 use Rattle.symbols.specs.Symbols.{minus, hasLineLength, fits}
 use Rattle.symbols.proofs.Lines.{fits-length}
 use Rattle.symbols.proofs.Written.{left-written}
@@ -46,7 +46,7 @@ returns-2 c =
     let lent = silent .before .before .before in
     let args = lent .before .before .before .before .args in
     let good = sym (lent .fits2 .ensures) ∙ silent .before .before .if2 .taken in
-    done (args .lines .now) (args .out .now) _ (and-true _ _ (eq-eqb _ _ (lent .before .if1 .left)) good)
+    done (args .lines .now) (args .out .now) _ (and-both-true _ _ (eq-eqb _ _ (lent .before .if1 .left)) good)
     (combines (args .lines .now) _ _ _ good (left-written info0 (lent .before .before .before .before .args .out .now) (lent .before .if1 .left) (silent .info0 .ensures .1)) (gather .gather .ensures) (settle .settle .ensures))
 
 returns-3 : tie.Need-returns-3

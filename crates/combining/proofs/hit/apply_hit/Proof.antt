@@ -3,7 +3,7 @@ use mathlib.Core.Path.{sym, _∙_}
 use Rattle.symbols.specs.Symbols.{lineLength, isLine, fits}
 use Rattle.combining.specs.Hit.{noneLetter, hit, hitFits}
 use Rattle.symbols.proofs.Lines.{fits-length, line-length}
-use Rattle.cases.proofs.ByCases.{and-true, and-left-false, and-right-false}
+use Rattle.cases.proofs.ByCases.{and-both-true, and-left-false, and-right-false}
 use Rattle.symbols.proofs.Written.{refused, done}
 use borrow.Author.Needs.{needs}
 use Rattle.combining.proofs.hit.apply_hit.Statement.{statement}
@@ -26,7 +26,7 @@ returns : tie.Need-returns
 returns c = let at = c .before .before .before .before in
     let args = at .before .before .before .before .before .before .before .args in
     done (hitFits (args .letters .now) (args .line .now)) (hit (args .letters .now) (args .line .now)) (args .line .now) _
-    (and-true _ _ (sym (at .before .before .before .fits2 .ensures) ∙ at .before .before .if1 .taken) (sym (at .before .fits3 .ensures) ∙ at .if2 .taken)) (c .before .before .strike .ensures)
+    (and-both-true _ _ (sym (at .before .before .before .fits2 .ensures) ∙ at .before .before .if1 .taken) (sym (at .before .fits3 .ensures) ∙ at .if2 .taken)) (c .before .before .strike .ensures)
 
 same-length-2 : tie.Need-same-length-2
 same-length-2 c = search needs
