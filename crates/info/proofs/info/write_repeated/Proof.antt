@@ -1,4 +1,4 @@
--- `info::info::info1` meets its contract.
+-- `info::info::write_repeated` meets its contract.
 use mathlib.Core.Path.{sym, _∙_}
 use Prim.Native.Nat.{ℕ, _-_}
 use native.Mathlib.Omega.{arith}
@@ -6,24 +6,24 @@ use lib.ListN.{getD}
 use Rattle.symbols.specs.Symbols.{none, lineLength, tabulate}
 use Rattle.symbols.proofs.Fill.{Filled, fill-start, fill-next, fill-done}
 use Rattle.symbols.proofs.Written.{refused-length, done-length}
-use Rattle.info.specs.Info.{info1}
-use Rattle.info.proofs.info.info1.Statement.{statement}
-use Rattle.info.proofs.info.info1.Tie as tie
+use Rattle.info.specs.Info.{repeated}
+use Rattle.info.proofs.info.write_repeated.Statement.{statement}
+use Rattle.info.proofs.info.write_repeated.Tie as tie
 
 abbrev Inv-loop : tie.InvT-loop
-Inv-loop out₀ i₀ out i = Filled (λ (j : ℕ). getD info1 j none) out₀ out i
+Inv-loop first second out₀ i₀ out i = Filled (λ (j : ℕ). getD (repeated first second) j none) out₀ out i
 
 abbrev μ-loop : tie.MeasureT-loop
-μ-loop out₀ i₀ out i = lineLength - i
+μ-loop first second out₀ i₀ out i = lineLength - i
 
 returns : tie.Need-returns Inv-loop μ-loop
-returns c = refused-length info1 (c .before .before .args .out .now) (c .if1 .taken)
+returns c = let args = c .before .before .args in refused-length (repeated (args .first) (args .second)) (args .out .now) (c .if1 .taken)
 
 loop-holds : tie.Need-loop-holds Inv-loop μ-loop
 loop-holds c = fill-start _ _ (c .if1 .left)
 
-info1-symbol-requires : tie.Need-info1-symbol-requires Inv-loop μ-loop
-info1-symbol-requires c κs = omega arith
+repeated-symbol-requires : tie.Need-repeated-symbol-requires Inv-loop μ-loop
+repeated-symbol-requires c κs = omega arith
 
 slice-write-out : tie.Need-slice-write-out Inv-loop μ-loop
 slice-write-out c = omega arith
@@ -35,7 +35,7 @@ loop-less : tie.Need-loop-less Inv-loop μ-loop
 loop-less c = omega arith
 
 loop-again : tie.Need-loop-again Inv-loop μ-loop
-loop-again c = fill-next (c .before .before .loop .inv) (omega arith) _ (c .info1-symbol .ensures)
+loop-again c = fill-next (c .before .before .loop .inv) (omega arith) _ (c .repeated-symbol .ensures)
 
 same-length : tie.Need-same-length Inv-loop μ-loop
 same-length c = c .before .loop .inv .long ∙ sym (c .before .before .if1 .left)
@@ -44,17 +44,18 @@ returns-2 : tie.Need-returns-2 Inv-loop μ-loop
 unfolding tabulate
 returns-2 c =
     let start = c .before .before in
-    done-length info1 (start .before .before .args .out .now) _ (start .if1 .left) (fill-done (c .before .loop .inv) (c .loop-test .left))
+    let args = start .before .before .args in
+    done-length (repeated (args .first) (args .second)) (args .out .now) _ (start .if1 .left) (fill-done (c .before .loop .inv) (c .loop-test .left))
 
-pub info1-spec : {M : Type 1} → statement M
-info1-spec =
+pub write-repeated-spec : {M : Type 1} → statement M
+write-repeated-spec =
     tie.close
     (tie.spec
     Inv-loop
     μ-loop
     returns
     loop-holds
-    info1-symbol-requires
+    repeated-symbol-requires
     slice-write-out
     add-i
     loop-less
