@@ -70,5 +70,5 @@ unfoldable pub gathered : ℕ → List ℕ → ℕ
 gathered m [] = m
 gathered m (x ∷ xs) = gathered (bitOr m x) xs
 
-abbrev pub settled : ℕ → ℕ
-settled m = cond (eqb m 3) none m
+abbrev pub gatheredSymbol : ℕ → ℕ
+gatheredSymbol m = cond (eqb m 3) none m

@@ -1,16 +1,16 @@
--- `combining::combine::settle` meets its contract.
+-- `combining::combine::resolve` meets its contract.
 use mathlib.Core.Path.{sym, _∙_}
 use Prim.Native.Nat.{ℕ, _-_}
 use native.Mathlib.Omega.{arith}
 use lib.ListN.{getD}
-use Rattle.combining.specs.Combine.{settled}
+use Rattle.combining.specs.Combine.{gatheredSymbol}
 use Rattle.symbols.specs.Symbols.{none, lineLength}
 use Rattle.symbols.proofs.Fill.{Filled, fill-start, fill-next, fill-read, fill-done}
-use Rattle.combining.proofs.combine.settle.Statement.{statement}
-use Rattle.combining.proofs.combine.settle.Tie as tie
+use Rattle.combining.proofs.combine.resolve.Statement.{statement}
+use Rattle.combining.proofs.combine.resolve.Tie as tie
 
 abbrev Inv-loop : tie.InvT-loop
-Inv-loop out₀ i₀ out i = Filled (λ (j : ℕ). settled (getD out₀ j none)) out₀ out i
+Inv-loop out₀ i₀ out i = Filled (λ (j : ℕ). gatheredSymbol (getD out₀ j none)) out₀ out i
 
 abbrev μ-loop : tie.MeasureT-loop
 μ-loop out₀ i₀ out i = lineLength - i
@@ -18,11 +18,11 @@ abbrev μ-loop : tie.MeasureT-loop
 loop-holds : tie.Need-loop-holds Inv-loop μ-loop
 loop-holds c = fill-start _ _ (c .before .pre)
 
-slice-read-settled : tie.Need-slice-read-settled Inv-loop μ-loop
-slice-read-settled c = omega arith
+slice-read-gathered-symbol : tie.Need-slice-read-gathered-symbol Inv-loop μ-loop
+slice-read-gathered-symbol c = omega arith
 
-settled-requires : tie.Need-settled-requires Inv-loop μ-loop
-settled-requires c κs = omega arith
+gathered-symbol-requires : tie.Need-gathered-symbol-requires Inv-loop μ-loop
+gathered-symbol-requires c κs = omega arith
 
 slice-write-out : tie.Need-slice-write-out Inv-loop μ-loop
 slice-write-out c = omega arith
@@ -34,7 +34,7 @@ loop-less : tie.Need-loop-less Inv-loop μ-loop
 loop-less c = omega arith
 
 loop-again : tie.Need-loop-again Inv-loop μ-loop
-loop-again c = let m = c .before .before .before .loop .inv in fill-next m (omega arith) _ (c .settled .ensures ∙ rw (fill-read m))
+loop-again c = let m = c .before .before .before .loop .inv in fill-next m (omega arith) _ (c .gathered-symbol .ensures ∙ rw (fill-read m))
 
 same-length : tie.Need-same-length Inv-loop μ-loop
 same-length c = c .before .loop .inv .long ∙ sym (c .before .before .before .pre)
@@ -42,15 +42,15 @@ same-length c = c .before .loop .inv .long ∙ sym (c .before .before .before .p
 returns : tie.Need-returns Inv-loop μ-loop
 returns c = fill-done (c .before .loop .inv) (c .loop-test .left)
 
-pub settle-spec : {M : Type 1} → statement M
-settle-spec =
+pub resolve-spec : {M : Type 1} → statement M
+resolve-spec =
     tie.close
     (tie.spec
     Inv-loop
     μ-loop
     loop-holds
-    slice-read-settled
-    settled-requires
+    slice-read-gathered-symbol
+    gathered-symbol-requires
     slice-write-out
     add-i
     loop-less

@@ -1,4 +1,4 @@
--- `frame_reader::read::octet` meets its contract.
+-- `frame_reader::read::octet_at` meets its contract.
 use mathlib.Core.Path.{refl}
 use Prim.Native.Nat.{_+_, _-_}
 use native.Mathlib.Omega.{arith}
@@ -6,12 +6,12 @@ use lib.Dec.{eqb}
 use lib.ListN.{getD}
 use Rattle.frame.specs.Bits.{numberHighFirst}
 use Rattle.frame.proofs.Bits.{byte-bit, bit-lt}
-use Rattle.frame_reader.proofs.Octets.{Reading, reading-lt, reading-next, reading-done}
-use Rattle.frame_reader.proofs.read.octet.Statement.{statement}
-use Rattle.frame_reader.proofs.read.octet.Tie as tie
+use Rattle.frame_reader.proofs.Octets.{OctetReading, octet-reading-lt, octet-reading-next, octet-reading-done}
+use Rattle.frame_reader.proofs.read.octet_at.Statement.{statement}
+use Rattle.frame_reader.proofs.read.octet_at.Tie as tie
 
 abbrev Inv-loop : tie.InvT-loop
-Inv-loop line at n₀ i₀ n i = Reading line at n i
+Inv-loop line at n₀ i₀ n i = OctetReading line at n i
 
 abbrev μ-loop : tie.MeasureT-loop
 μ-loop line at n₀ i₀ n i = 8 - i
@@ -21,7 +21,7 @@ unfolding numberHighFirst
 loop-holds c = record { long = c .pre; low = omega arith; value = refl }
 
 mul-n : tie.Need-mul-n Inv-loop μ-loop
-mul-n c = omega (arith, reading-lt (c .before .loop .inv) (omega arith))
+mul-n c = omega (arith, octet-reading-lt (c .before .loop .inv) (omega arith))
 
 add-n : tie.Need-add-n Inv-loop μ-loop
 add-n c = omega arith
@@ -35,7 +35,7 @@ cast-n c = omega arith
 add-n-2 : tie.Need-add-n-2 Inv-loop μ-loop
 add-n-2 c = let args = c .before .before .before .args in
     let b = eqb (getD (args .line .now) (args .at + c .before .before .loop .i) 0) 0 in
-    omega (arith, reading-lt (c .before .before .loop .inv) (omega arith), byte-bit b, bit-lt b)
+    omega (arith, octet-reading-lt (c .before .before .loop .inv) (omega arith), byte-bit b, bit-lt b)
 
 add-i : tie.Need-add-i Inv-loop μ-loop
 add-i c = omega arith
@@ -44,13 +44,13 @@ loop-less : tie.Need-loop-less Inv-loop μ-loop
 loop-less c = omega arith
 
 loop-again : tie.Need-loop-again Inv-loop μ-loop
-loop-again c = reading-next (c .before .before .loop .inv) (omega arith) _ (rw byte-bit)
+loop-again c = octet-reading-next (c .before .before .loop .inv) (omega arith) _ (rw byte-bit)
 
 returns : tie.Need-returns Inv-loop μ-loop
-returns c = reading-done (c .before .loop .inv) (c .loop-test .left)
+returns c = octet-reading-done (c .before .loop .inv) (c .loop-test .left)
 
-pub octet-spec : {M : Type 1} → statement M
-octet-spec =
+pub octet-at-spec : {M : Type 1} → statement M
+octet-at-spec =
     tie.close
     (tie.spec
     Inv-loop
