@@ -37,8 +37,8 @@ pub and-right : (a b : Bool) → (a && b) ≡ true → b ≡ true
 and-right true b e = e
 and-right false b e = cc
 
-pub and-true : (a b : Bool) → a ≡ true → b ≡ true → (a && b) ≡ true
-and-true a b e f = rw (e, f)
+pub and-both-true : (a b : Bool) → a ≡ true → b ≡ true → (a && b) ≡ true
+and-both-true a b e f = rw (e, f)
 
 pub and-left-false : (a b : Bool) → a ≡ false → (a && b) ≡ false
 and-left-false a b e = rw e

@@ -12,11 +12,11 @@ use lib.Seq.{drop-drop, length-take-le}
 use Rattle.symbols.specs.Symbols.{none, plus, minus, lineLength, fits, lineBy, leaves}
 use Rattle.frame.specs.Bits.{bit}
 use Rattle.info.specs.Info.{info0}
-use Rattle.combining.specs.Combine.{terminals, linesLength, isSent, only, combinedSymbol, column, rows, combined, combineFits, combinedReply, eight, gathered, settled}
+use Rattle.combining.specs.Combine.{terminals, linesLength, isSent, only, combinedSymbol, column, rows, combined, combineFits, combinedReply, eight, gathered, gatheredSymbol}
 use Rattle.combining.specs.declared.combine.Combined.{Combined}
 use Rattle.cases.proofs.ByCases.{at-each-below}
 use Rattle.symbols.proofs.Lines.{Small, within-small, fits-within}
-use Rattle.symbols.proofs.Fill.{line-is, line-ext, length-tabulate, getD-tabulate}
+use Rattle.symbols.proofs.Fill.{line-is, tabulate-ext, length-tabulate, getD-tabulate}
 
 -- What is gathered, as a number: 1 for plus, 2 for minus.
 code : Bool → Bool → ℕ
@@ -29,12 +29,12 @@ joins true false x h = eqb-true _ _ (at-each-below (λ k. eqb (bitOr (code true 
 joins false true x h = eqb-true _ _ (at-each-below (λ k. eqb (bitOr (code false true) k) (code (false || eqb k plus) (true || eqb k minus))) 3 x refl (omega arith))
 joins false false x h = eqb-true _ _ (at-each-below (λ k. eqb (bitOr (code false false) k) (code (false || eqb k plus) (false || eqb k minus))) 3 x refl (omega arith))
 
-settles : (p q : Bool) → settled (code p q) ≡ only p q
+symbol-of-code : (p q : Bool) → gatheredSymbol (code p q) ≡ only p q
 unfolding code
-settles true true = refl
-settles true false = refl
-settles false true = refl
-settles false false = refl
+symbol-of-code true true = refl
+symbol-of-code true false = refl
+symbol-of-code false true = refl
+symbol-of-code false false = refl
 
 gathers : (p q : Bool) (xs : List ℕ) → Small xs → gathered (code p q) xs ≡ code (p || isSent plus xs) (q || isSent minus xs)
 unfolding gathered isSent
@@ -42,10 +42,10 @@ gathers p q [] h = rw (or-false p, or-false q)
 gathers p q (x ∷ xs) h =
     rw (joins p q x (h 0)) (gathers (p || eqb x plus) (q || eqb x minus) xs (λ i. h (suc i)) ∙ rw (or-assoc p (eqb x plus) (isSent plus xs), or-assoc q (eqb x minus) (isSent minus xs)))
 
--- The code's settled number is what the symbols give together.
-pub settles-combined : (xs : List ℕ) → Small xs → settled (gathered 0 xs) ≡ combinedSymbol xs
+-- The symbol of what is gathered is what the symbols give together.
+pub gathered-combined : (xs : List ℕ) → Small xs → gatheredSymbol (gathered 0 xs) ≡ combinedSymbol xs
 unfolding code
-settles-combined xs h = ap settled (gathers false false xs h) ∙ settles (isSent plus xs) (isSent minus xs)
+gathered-combined xs h = ap gatheredSymbol (gathers false false xs h) ∙ symbol-of-code (isSent plus xs) (isSent minus xs)
 
 small-take : (n : ℕ) (l : List ℕ) → Small l → Small (take n l)
 small-take zero l h i = omega arith
@@ -102,22 +102,22 @@ module _ {lines out₀ out : List ℕ} {n : ℕ} (m : Gathering lines out₀ out
       at-end : (i : ℕ) → i < lineLength → getD out i none ≡ gathered (getD out₀ i none) (column i (rows terminals lines))
       at-end i k = let none-left : terminals - n ≡ 0 = omega arith in sym (m .value i k ∙ rw none-left)
 
--- Cleared, gathered and settled: the combined line.
-pub combines : (lines zeros all last : List ℕ) → fits linesLength minus lines ≡ true → zeros ≡ info0
-    → all ≡ lineBy (λ i. gathered (getD zeros i none) (column i (rows terminals lines))) → last ≡ lineBy (λ i. settled (getD all i none)) → last ≡ eight lines
+-- Cleared, gathered and resolved: the combined line.
+pub combines : (lines cleared all last : List ℕ) → fits linesLength minus lines ≡ true → cleared ≡ info0
+    → all ≡ lineBy (λ i. gathered (getD cleared i none) (column i (rows terminals lines))) → last ≡ lineBy (λ i. gatheredSymbol (getD all i none)) → last ≡ eight lines
 unfolding combined
-combines lines zeros all last h z a e = e ∙ line-ext (λ i. settled (getD all i none)) (λ i. combinedSymbol (column i (rows terminals lines))) at-i
+combines lines cleared all last h z a e = e ∙ tabulate-ext lineLength (λ i. gatheredSymbol (getD all i none)) (λ i. combinedSymbol (column i (rows terminals lines))) at-i
   where
-    at-i : (i : ℕ) → i < lineLength → settled (getD all i none) ≡ combinedSymbol (column i (rows terminals lines))
+    at-i : (i : ℕ) → i < lineLength → gatheredSymbol (getD all i none) ≡ combinedSymbol (column i (rows terminals lines))
     at-i i k =
-        rw (a, getD-tabulate lineLength (λ j. gathered (getD zeros j none) (column j (rows terminals lines))) i k, z, getD-replicate {A = ℕ} lineLength i none 0 k)
-        (settles-combined (column i (rows terminals lines)) (small-column terminals i lines (within-small lines (fits-within linesLength minus lines h))))
+        rw (a, getD-tabulate lineLength (λ j. gathered (getD cleared j none) (column j (rows terminals lines))) i k, z, getD-replicate {A = ℕ} lineLength i none 0 k)
+        (gathered-combined (column i (rows terminals lines)) (small-column terminals i lines (within-small lines (fits-within linesLength minus lines h))))
 
 -- What the call replies and leaves, refused or not.
-pub refused : (lines lent : List ℕ) → combineFits lines lent ≡ false
+pub combine-refused : (lines lent : List ℕ) → combineFits lines lent ≡ false
     → (Combined.Refused 2 ≡ combinedReply (combineFits lines lent)) × (lent ≡ leaves (combineFits lines lent) (eight lines) lent)
-refused lines lent h = (rw h, rw h)
+combine-refused lines lent h = (rw h, rw h)
 
-pub done : (lines lent last : List ℕ) → combineFits lines lent ≡ true → last ≡ eight lines
+pub combine-done : (lines lent last : List ℕ) → combineFits lines lent ≡ true → last ≡ eight lines
     → (Combined.Line ≡ combinedReply (combineFits lines lent)) × (last ≡ leaves (combineFits lines lent) (eight lines) lent)
-done lines lent last h e = (rw h, rw h e)
+combine-done lines lent last h e = (rw h, rw h e)

@@ -1,23 +1,27 @@
 -- The laws of `specs/Laws.antt`, proved under the same names in small letters.
-use mathlib.Core.Path.{_≡_, refl, sym, _∙_}
+use mathlib.Core.Path.{_≡_, refl, ap, _∙_}
 use mathlib.Core.Bool.{Bool, true, false}
 use mathlib.Core.List.{List, [], _∷_}
-use Prim.Native.Nat.{ℕ, _≤_}
+use Prim.Native.Nat.{ℕ, suc, _<_, _≤_}
 use native.Mathlib.Omega.{arith}
-use borrow.Author.Tests.{eqb-true}
 use lib.Dec.{eqb}
 use lib.ListN.{getD}
-use Rattle.cases.proofs.ByCases.{by-test, at-each-below}
-use Rattle.symbols.specs.Symbols.{lineLength, none, plus, minus, tabulate}
-use Rattle.symbols.proofs.Fill.{line-is, getD-tabulate}
-use Rattle.symbols.proofs.Lines.{line-length, line-small, line-by}
+use lib.Seq.{take-at, drop-at}
+use Rattle.cases.proofs.ByCases.{by-test}
+use Rattle.symbols.specs.Symbols.{lineLength, none, plus, minus, level, levels, tabulate}
+use Rattle.symbols.proofs.Fill.{getD-tabulate}
+use Rattle.symbols.proofs.Levels.{level-at}
+use Rattle.symbols.proofs.Lines.{line-length, line-small, fits-within, line-by}
 use Rattle.frame.specs.Four.{andAll}
-use Rattle.frame.proofs.Laws.{d-up}
+use Rattle.frame.specs.Down.{downLine, eIndex, aIndex}
+use Rattle.frame.proofs.Laws.{d-up, e-down, a-down}
 use Rattle.info.specs.Info.{info3Fields}
-use Rattle.combining.specs.Combine.{isSent, only, combinedSymbol, column, combined}
-use Rattle.combining.specs.Hit.{keepLetter, plusLetter, minusLetter, struck, hit}
+use Rattle.combining.specs.Combine.{isSent, only, combinedSymbol, column, combined, rows, laid}
+use Rattle.combining.specs.Hit.{keepLetter, plusLetter, minusLetter, struck, hit, struckBit, struckE, struckA}
 use Rattle.combining.specs.Laws
-use Rattle.combining.proofs.Together as join
+use Rattle.combining.proofs.Columns as columns
+use Rattle.combining.proofs.ByGroup as by-group
+use Rattle.combining.proofs.Senders as senders
 
 only-small : (p q : Bool) → only p q ≤ minus
 only-small true true = omega arith
@@ -40,27 +44,51 @@ line-hit letters l h =
     line-by (λ i. struck (getD letters i keepLetter) (getD l i none)) (λ i. struck-small (getD letters i keepLetter) (getD l i none) (line-small l h i))
 
 -- ---- Several terminals.
-alone : (x : ℕ) → x ≤ minus → combinedSymbol (x ∷ []) ≡ x
-unfolding isSent
-alone x h = eqb-true (combinedSymbol (x ∷ [])) x (at-each-below (λ k. eqb (combinedSymbol (k ∷ [])) k) 3 x refl (omega arith))
-
 pub combined-one : Laws.CombinedOne
 unfolding combined
-combined-one l h =
-    sym (line-is l (λ i. combinedSymbol (getD l i none ∷ [])) (line-length l h) (λ i k. sym (alone (getD l i none) (line-small l h i))))
+combined-one l h = columns.combined-alone lineLength l (line-length l h) (fits-within lineLength minus l h)
 
 pub combined-none : Laws.CombinedNone
 unfolding combined isSent tabulate
 combined-none = refl
 
 pub combined-info0 : Laws.CombinedInfo0
-combined-info0 = join.combined-info0
+combined-info0 = senders.combined-info0
+
+pub combined-frames : Laws.CombinedFrames
+combined-frames X = by-group.combined-frames
+
+pub group-bit : Laws.GroupBit
+group-bit X = by-group.group-bit
+
+pub group-alike : Laws.GroupAlike
+group-alike X = columns.combined-alike
+
+pub group-of-one : Laws.GroupOfOne
+group-of-one X = columns.combined-of-one
 
 pub combined-info3 : Laws.CombinedInfo3
-combined-info3 = join.combined-info3
+combined-info3 = by-group.combined-info3
 
 pub combined-d : Laws.CombinedD
-combined-d d ds = rw (join.combined-info3 d ds) (d-up (info3Fields (andAll (d ∷ ds))))
+combined-d d ds = rw (by-group.combined-info3 d ds) (d-up (info3Fields (andAll (d ∷ ds))))
+
+pub combined-sent : Laws.CombinedSent
+combined-sent = senders.combined-sent
+
+pub combined-sent-d : Laws.CombinedSentD
+combined-sent-d = senders.combined-sent-d
+
+-- ---- The lines as they are lent.
+pub rows-laid : Laws.RowsLaid
+unfolding rows laid
+rows-laid [] h = refl
+rows-laid (l ∷ ls) h =
+    let long = h 0 (omega arith) in
+    rw (take-at l (laid ls) lineLength long, drop-at l (laid ls) lineLength long, rows-laid ls (λ i k. h (suc i) (omega arith)))
+
+pub eight-laid : Laws.EightLaid
+eight-laid ls n h = ap combined (rw n at (rows-laid ls h))
 
 -- ---- Hits.
 pub hit-at : Laws.HitAt
@@ -78,3 +106,28 @@ hit-minus letters l i h e = hit-at letters l i h ∙ rw e
 
 pub hit-none : Laws.HitNone
 hit-none letters l i h e = hit-at letters l i h ∙ rw e
+
+struck-level : (letter s : ℕ) → level (struck letter s) ≡ struckBit letter (level s)
+struck-level letter s =
+    by-test (eqb letter keepLetter) (λ t. rw t)
+    (λ t. rw t (by-test (eqb letter plusLetter) (λ u. rw u) (λ u. rw u (by-test (eqb letter minusLetter) (λ v. rw v) (λ v. rw v)))))
+
+pub level-hit : Laws.LevelHit
+level-hit letters l i h = rw (hit-at letters l i h) (struck-level (getD letters i keepLetter) (getD l i none))
+
+-- The bit at an index of a hit line.
+bit-hit : (letters l : List ℕ) (i : ℕ) → i < lineLength → getD (levels (hit letters l)) i true ≡ struckBit (getD letters i keepLetter) (getD (levels l) i true)
+bit-hit letters l i h = rw (level-at (hit letters l) i, level-at l i) (level-hit letters l i h)
+
+pub e-hit : Laws.EHit
+e-hit letters l =
+    rw (bit-hit letters l (eIndex 0) (omega arith), bit-hit letters l (eIndex 1) (omega arith), bit-hit letters l (eIndex 2) (omega arith), bit-hit letters l (eIndex 3) (omega arith))
+
+pub e-hit-down : Laws.EHitDown
+e-hit-down letters f = e-hit letters (downLine f) ∙ ap (struckE letters) (e-down f)
+
+pub a-hit : Laws.AHit
+a-hit letters l = bit-hit letters l aIndex (omega arith)
+
+pub a-hit-down : Laws.AHitDown
+a-hit-down letters f = a-hit letters (downLine f) ∙ ap (struckA letters) (a-down f)

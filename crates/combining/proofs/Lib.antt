@@ -1,4 +1,6 @@
 -- What is shown of combined and of hit lines, and what the proofs of several functions share.
 pub mod Gather
-pub mod Together
+pub mod Columns
+pub mod ByGroup
+pub mod Senders
 pub mod Laws

@@ -1,12 +1,12 @@
 -- Several terminals on one line (document 01, "The line": together, several terminals give plus where only plus is sent, minus where
 -- only minus, none otherwise).
 use mathlib.Core.Bool.{Bool, true, false, cond, _&&_, _||_}
-use mathlib.Core.List.{List, [], _∷_, map}
+use mathlib.Core.List.{List, [], _∷_, _++_, map}
 use Prim.Native.Nat.{ℕ, zero, suc, _*_}
 use lib.Bits.{bitOr}
 use lib.Dec.{eqb}
 use lib.ListN.{getD, take, drop}
-use Rattle.symbols.specs.Symbols.{lineLength, none, plus, minus, fits, hasLineLength, lineBy}
+use Rattle.symbols.specs.Symbols.{lineLength, none, plus, minus, fits, tabulate, hasLineLength}
 use Rattle.combining.specs.declared.combine.Combined.{Combined}
 
 -- Whether s is among the symbols sent.
@@ -29,9 +29,12 @@ combinedSymbol xs = only (isSent plus xs) (isSent minus xs)
 abbrev pub column : ℕ → List (List ℕ) → List ℕ
 column i ls = map (λ (l : List ℕ). getD l i none) ls
 
--- The line that any list of lines gives together.
+-- What lists of n symbols give together, and the line that any list of lines gives.
+abbrev pub combinedOver : ℕ → List (List ℕ) → List ℕ
+combinedOver n ls = tabulate n (λ i. combinedSymbol (column i ls))
+
 unfoldable pub combined : List (List ℕ) → List ℕ
-combined ls = lineBy (λ i. combinedSymbol (column i ls))
+combined ls = combinedOver lineLength ls
 
 -- The terminals of a bus, and the symbols of all their lines.
 abbrev pub terminals : ℕ
@@ -44,6 +47,11 @@ linesLength = terminals * lineLength
 unfoldable pub rows : ℕ → List ℕ → List (List ℕ)
 rows zero l = []
 rows (suc n) l = take lineLength l ∷ rows n (drop lineLength l)
+
+-- Lines laid one after the other, as they are lent.
+unfoldable pub laid : List (List ℕ) → List ℕ
+laid [] = []
+laid (l ∷ ls) = l ++ laid ls
 
 -- The eight terminals' lines are lent as 384 symbols, and the combined line goes into 48 octets: refusal 2 for a wrong length or code.
 abbrev pub combineFits : List ℕ → List ℕ → Bool
@@ -62,5 +70,5 @@ unfoldable pub gathered : ℕ → List ℕ → ℕ
 gathered m [] = m
 gathered m (x ∷ xs) = gathered (bitOr m x) xs
 
-abbrev pub settled : ℕ → ℕ
-settled m = cond (eqb m 3) none m
+abbrev pub gatheredSymbol : ℕ → ℕ
+gatheredSymbol m = cond (eqb m 3) none m

@@ -1,17 +1,23 @@
 -- What holds of combined and of hit lines: the statements, each a type. `proofs/Laws.antt` proves each under the same name in small
 -- letters.
 use mathlib.Core.Path.{_≡_}
-use mathlib.Core.Bool.{true}
+use mathlib.Core.Bool.{Bool, true, false}
 use mathlib.Core.List.{List, [], _∷_, _++_, map}
 use Prim.Native.Nat.{ℕ, _<_}
-use lib.ListN.{getD}
-use Rattle.symbols.specs.Symbols.{lineLength, none, plus, minus, levels, isLine}
+use lib.ListN.{length, getD, replicate}
+use Rattle.symbols.specs.Symbols.{lineLength, none, plus, minus, level, levels, within, isLine}
 use Rattle.frame.specs.Four.{andAll}
 use Rattle.frame.specs.Bits.{dBits}
+use Rattle.frame.specs.Down.{downLine, eBits, aBit}
+use Rattle.frame.specs.Up.{upLine, groupSymbols, upGroups}
 use Rattle.frame.specs.declared.fields.Four.{Four}
+use Rattle.frame.specs.declared.fields.DownFields.{DownFields}
+use Rattle.frame.specs.declared.fields.UpFields.{UpFields}
 use Rattle.info.specs.Info.{info0, info3}
-use Rattle.combining.specs.Combine.{combined}
-use Rattle.combining.specs.Hit.{keepLetter, plusLetter, minusLetter, noneLetter, struck, hit}
+use Rattle.combining.specs.Combine.{terminals, combinedOver, combined, rows, laid, eight}
+use Rattle.combining.specs.Groups.{Combines, allOf, ofSender}
+use Rattle.combining.specs.Sent.{Sent, sentLine, sentD, anyCalling, frames, framesLine, heardWithInfo1}
+use Rattle.combining.specs.Hit.{keepLetter, plusLetter, minusLetter, noneLetter, struck, hit, struckBit, struckE, struckA}
 
 -- ---- What is combined, and a line after a hit, is a line.
 abbrev pub LineCombined : Type 0
@@ -30,11 +36,46 @@ CombinedNone = combined [] ≡ info0
 abbrev pub CombinedInfo0 : Type 0
 CombinedInfo0 = (ls ms : List (List ℕ)) → combined (ls ++ (info0 ∷ ms)) ≡ combined (ls ++ ms)
 
+-- ---- Upward frames group by group, whatever their fields are: what each group gives, laid out, is the combined line.
+abbrev pub CombinedFrames : Type 1
+CombinedFrames = (X : Type 0) (fields : X → UpFields) (xs : List X) (l : List ℕ)
+    → Combines xs (ofSender fields upGroups) lineLength l → combined (map (λ x. upLine (fields x)) xs) ≡ l
+
+-- A group of one bit gives the group of the ANDs; one that all send alike gives itself; one that all but one leave at 1s, that is at
+-- none, gives that one's.
+abbrev pub GroupBit : Type 1
+GroupBit = (X : Type 0) (b : X → Bool) (xs : List X) → combinedOver 2 (map (λ x. groupSymbols (b x ∷ [])) xs) ≡ groupSymbols (allOf b xs ∷ [])
+
+abbrev pub GroupAlike : Type 1
+GroupAlike = (X : Type 0) (n : ℕ) (l : List ℕ) (x : X) (xs : List X) → length l ≡ n → within minus l ≡ true → combinedOver n (map (λ y. l) (x ∷ xs)) ≡ l
+
+abbrev pub GroupOfOne : Type 1
+GroupOfOne = (X : Type 0) (n : ℕ) (g : X → List ℕ) (x : X) (before after : List X)
+    → length (g x) ≡ n → within minus (g x) ≡ true
+    → map g before ≡ replicate (length before) (replicate n none) → map g after ≡ replicate (length after) (replicate n none)
+    → combinedOver n (map g (before ++ (x ∷ after))) ≡ g x
+
+-- ---- INFO 3 together are INFO 3 with the ANDs.
 abbrev pub CombinedInfo3 : Type 0
 CombinedInfo3 = (d : Four) (ds : List Four) → combined (map info3 (d ∷ ds)) ≡ info3 (andAll (d ∷ ds))
 
 abbrev pub CombinedD : Type 0
 CombinedD = (d : Four) (ds : List Four) → dBits (levels (combined (map info3 (d ∷ ds)))) ≡ andAll (d ∷ ds)
+
+-- Terminals that send INFO 0 or INFO 3: INFO 3 with the ANDs of those that send it, or INFO 0.
+abbrev pub CombinedSent : Type 0
+CombinedSent = (xs : List Sent) → anyCalling xs ≡ false → combined (map sentLine xs) ≡ framesLine (frames xs)
+
+-- The D bits at symbol level, whatever is sent: the ANDs, at position 25 inverted where INFO 1 is sent.
+abbrev pub CombinedSentD : Type 0
+CombinedSentD = (xs : List Sent) → dBits (levels (combined (map sentLine xs))) ≡ heardWithInfo1 (anyCalling xs) (andAll (map sentD xs))
+
+-- ---- The lines as they are lent: laid one after the other, they are the rows, and the call combines them.
+abbrev pub RowsLaid : Type 0
+RowsLaid = (ls : List (List ℕ)) → ((i : ℕ) → i < length ls → length (getD ls i []) ≡ lineLength) → rows (length ls) (laid ls) ≡ ls
+
+abbrev pub EightLaid : Type 0
+EightLaid = (ls : List (List ℕ)) → length ls ≡ terminals → ((i : ℕ) → i < length ls → length (getD ls i []) ≡ lineLength) → eight (laid ls) ≡ combined ls
 
 -- ---- A hit changes exactly its letters' positions: keep leaves the symbol, plus, minus and none give theirs.
 abbrev pub HitAt : Type 0
@@ -51,3 +92,19 @@ HitMinus = (letters l : List ℕ) (i : ℕ) → i < lineLength → getD letters 
 
 abbrev pub HitNone : Type 0
 HitNone = (letters l : List ℕ) (i : ℕ) → i < lineLength → getD letters i keepLetter ≡ noneLetter → getD (hit letters l) i none ≡ none
+
+-- At symbol level each bit comes from its own letter and itself alone: E and A of any line, and of a frame.
+abbrev pub LevelHit : Type 0
+LevelHit = (letters l : List ℕ) (i : ℕ) → i < lineLength → level (getD (hit letters l) i none) ≡ struckBit (getD letters i keepLetter) (level (getD l i none))
+
+abbrev pub EHit : Type 0
+EHit = (letters l : List ℕ) → eBits (levels (hit letters l)) ≡ struckE letters (eBits (levels l))
+
+abbrev pub EHitDown : Type 0
+EHitDown = (letters : List ℕ) (f : DownFields) → eBits (levels (hit letters (downLine f))) ≡ struckE letters (f .e)
+
+abbrev pub AHit : Type 0
+AHit = (letters l : List ℕ) → aBit (levels (hit letters l)) ≡ struckA letters (aBit (levels l))
+
+abbrev pub AHitDown : Type 0
+AHitDown = (letters : List ℕ) (f : DownFields) → aBit (levels (hit letters (downLine f))) ≡ struckA letters (f .a)

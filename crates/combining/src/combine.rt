@@ -3,7 +3,7 @@ ghost use mathlib.Core.Path.{_≡_};
 ghost use lib.Bits.{bitOr};
 ghost use lib.ListN.{length, getD};
 ghost use Rattle.symbols.specs.Symbols.{none, lineLength, lineBy, leaves};
-ghost use Rattle.combining.specs.Combine.{terminals, linesLength, settled, gathered, column, rows, combineFits, combinedReply, eight};
+ghost use Rattle.combining.specs.Combine.{terminals, linesLength, gathered, gatheredSymbol, column, rows, combineFits, combinedReply, eight};
 use info::info::info0;
 use symbols::LINE_LENGTH;
 use symbols::MINUS;
@@ -37,20 +37,20 @@ fn overlay(out: &mut [u8], line: &[u8])
     }
 }
 
-fn settled(m: u8) -> u8
-    ensures { λ r. ⌜ r ≡ settled m ⌝ }
+fn gathered_symbol(m: u8) -> u8
+    ensures { λ r. ⌜ r ≡ gatheredSymbol m ⌝ }
 {
     if m == BOTH { NONE } else { m }
 }
 
 // Makes symbols of what is gathered: none where both are sent.
-fn settle(out: &mut [u8])
+fn resolve(out: &mut [u8])
     requires { ⌜ length (now out) ≡ lineLength ⌝ }
-    ensures { λ _. ⌜ now (out .exit) ≡ lineBy (λ i. settled (getD (now (out .entry)) i none)) ⌝ }
+    ensures { λ _. ⌜ now (out .exit) ≡ lineBy (λ i. gatheredSymbol (getD (now (out .entry)) i none)) ⌝ }
 {
     let mut i: usize = 0;
     while i < LINE_LENGTH {
-        out[i] = settled(out[i]);
+        out[i] = gathered_symbol(out[i]);
         i += 1;
     }
 }
@@ -81,7 +81,7 @@ pub fn combine(lines: &[u8], out: &mut [u8]) -> Combined
     if fits(lines, LINES_LENGTH, MINUS) {
         info0(out);
         gather(lines, out);
-        settle(out);
+        resolve(out);
         Combined::Line
     } else {
         Combined::Refused(2)

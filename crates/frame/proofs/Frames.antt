@@ -23,7 +23,7 @@ pub levels-symbols : (bits : List Bool) → levels (symbols bits) ≡ false ∷ 
 unfolding symbols
 levels-symbols bits = rw (levels-alternate (drop 2 bits) .1)
 
-within-alternate : (bs : List Bool) → (within minus (alternate plus bs) ≡ true) × (within minus (alternate minus bs) ≡ true)
+pub within-alternate : (bs : List Bool) → (within minus (alternate plus bs) ≡ true) × (within minus (alternate minus bs) ≡ true)
 unfolding alternate within
 within-alternate [] = (refl, refl)
 within-alternate (true ∷ bs) = within-alternate bs

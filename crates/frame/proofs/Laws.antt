@@ -1,9 +1,19 @@
 -- The laws of `specs/Laws.antt`, proved under the same names in small letters.
-use Rattle.frame.specs.Bits.{octetBits}
-use Rattle.frame.specs.Down.{downBody, downBits}
+use mathlib.Core.Path.{refl}
+use Prim.Native.Nat.{zero, suc}
+use native.Mathlib.Omega.{arith}
+use borrow.Author.Tests.{ltb-true}
+use lib.Dec.{ltb}
+use Rattle.cases.proofs.ByCases.{at-each-below}
+use Rattle.symbols.specs.Symbols.{lineLength}
+use Rattle.symbols.proofs.Levels.{level-at}
+use Rattle.frame.specs.Four.{pick, padded}
+use Rattle.frame.specs.Bits.{octetBits, dIndex}
+use Rattle.frame.specs.Down.{downBody, downBits, eIndex}
 use Rattle.frame.specs.Up.{upBits}
 use Rattle.frame.specs.Laws
 use Rattle.frame.proofs.Frames as frames
+use Rattle.frame.proofs.Groups as groups
 
 pub levels-down : Laws.LevelsDown
 levels-down = frames.down-levels
@@ -32,3 +42,64 @@ line-down = frames.down-line
 
 pub line-up : Laws.LineUp
 line-up = frames.up-line
+
+-- ---- Groups.
+pub balanced-polarity : Laws.BalancedPolarity
+balanced-polarity = groups.balanced-polarity
+
+pub groups-up : Laws.GroupsUp
+groups-up = groups.groups-up
+
+pub d-symbol-up : Laws.DSymbolUp
+d-symbol-up = groups.d-symbol-up
+
+-- ---- Four bits by their place.
+pub pick-and : Laws.PickAnd
+unfolding pick
+pick-and zero a b = refl
+pick-and (suc zero) a b = refl
+pick-and (suc (suc zero)) a b = refl
+pick-and (suc (suc (suc zero))) a b = refl
+pick-and (suc (suc (suc (suc k)))) a b = refl
+
+pub pick-ones : Laws.PickOnes
+unfolding pick
+pick-ones zero = refl
+pick-ones (suc zero) = refl
+pick-ones (suc (suc zero)) = refl
+pick-ones (suc (suc (suc zero))) = refl
+pick-ones (suc (suc (suc (suc k)))) = refl
+
+pub pick-padded : Laws.PickPadded
+unfolding pick padded
+pick-padded zero bits h = refl
+pick-padded (suc zero) bits h = refl
+pick-padded (suc (suc zero)) bits h = refl
+pick-padded (suc (suc (suc zero))) bits h = refl
+pick-padded (suc (suc (suc (suc k)))) bits h = absurd (omega arith)
+
+pub pick-d : Laws.PickD
+unfolding pick
+pick-d zero l h = level-at l 11
+pick-d (suc zero) l h = level-at l 24
+pick-d (suc (suc zero)) l h = level-at l 35
+pick-d (suc (suc (suc zero))) l h = level-at l 46
+pick-d (suc (suc (suc (suc k)))) l h = absurd (omega arith)
+
+pub pick-e : Laws.PickE
+unfolding pick
+pick-e zero l h = level-at l 10
+pick-e (suc zero) l h = level-at l 23
+pick-e (suc (suc zero)) l h = level-at l 34
+pick-e (suc (suc (suc zero))) l h = level-at l 45
+pick-e (suc (suc (suc (suc k)))) l h = absurd (omega arith)
+
+pub pick-same : Laws.PickSame
+unfolding pick
+pick-same a b h = rw (h 0 (omega arith), h 1 (omega arith), h 2 (omega arith), h 3 (omega arith))
+
+pub d-index-in-line : Laws.DIndexInLine
+d-index-in-line k h = ltb-true (dIndex k) lineLength (at-each-below (λ j. ltb (dIndex j) lineLength) 4 k refl h)
+
+pub e-index-in-line : Laws.EIndexInLine
+e-index-in-line k h = ltb-true (eIndex k) lineLength (at-each-below (λ j. ltb (eIndex j) lineLength) 4 k refl h)

@@ -2,5 +2,6 @@
 pub mod Bits
 pub mod Words
 pub mod Emit
+pub mod Groups
 pub mod Frames
 pub mod Laws

@@ -56,3 +56,7 @@ fourAt i j k l bits = record { first = bitAtPosition i bits; second = bitAtPosit
 -- The four D bits stand at the same positions in both directions (tables 5-1 and 5-2).
 abbrev pub dBits : List Bool → Four
 dBits bits = fourAt 12 25 36 47 bits
+
+-- The index in a line of the D at place k.
+abbrev pub dIndex : ℕ → ℕ
+dIndex k = getD (11 ∷ 24 ∷ 35 ∷ 46 ∷ []) k 0

@@ -2,6 +2,7 @@
 use mathlib.Core.Bool.{Bool, false, not}
 use mathlib.Core.List.{List, [], _∷_, _++_}
 use Prim.Native.Nat.{ℕ}
+use lib.ListN.{getD}
 use Rattle.frame.specs.Bits.{octetBits, balanced, bitAtPosition, octetAt, fourAt, dBits}
 use Rattle.frame.specs.Polarity.{symbols}
 use Rattle.symbols.specs.Symbols.{levels}
@@ -44,6 +45,13 @@ eBits bits = fourAt 11 24 35 46 bits
 
 abbrev pub aBit : List Bool → Bool
 aBit bits = bitAtPosition 13 bits
+
+-- The indices in a line of the E at place k and of A.
+abbrev pub eIndex : ℕ → ℕ
+eIndex k = getD (10 ∷ 23 ∷ 34 ∷ 45 ∷ []) k 0
+
+abbrev pub aIndex : ℕ
+aIndex = 12
 
 -- The fields that 48 bits hold, by position.
 unfoldable pub downFields : List Bool → DownFields

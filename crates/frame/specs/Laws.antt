@@ -1,10 +1,16 @@
 -- What holds of a written frame: the statements, each a type. `proofs/Laws.antt` proves each under the same name in small letters.
 use mathlib.Core.Path.{_≡_}
-use mathlib.Core.Bool.{true}
-use Rattle.symbols.specs.Symbols.{levels, isLine}
-use Rattle.frame.specs.Bits.{dBits}
-use Rattle.frame.specs.Down.{downBits, downLine, eBits, aBit}
-use Rattle.frame.specs.Up.{upBits, upLine}
+use mathlib.Core.Bool.{Bool, true, cond, _&&_}
+use mathlib.Core.List.{List}
+use Prim.Native.Nat.{ℕ, _<_}
+use lib.ListN.{getD}
+use Rattle.symbols.specs.Symbols.{lineLength, none, minus, level, levels, isLine}
+use Rattle.frame.specs.Four.{pick, padded, allFour, andFour}
+use Rattle.frame.specs.Bits.{balanced, dBits, dIndex}
+use Rattle.frame.specs.Polarity.{nextPulse}
+use Rattle.frame.specs.Down.{downBits, downLine, eBits, aBit, eIndex}
+use Rattle.frame.specs.Up.{upBits, upLine, upGroups, laidOut}
+use Rattle.frame.specs.declared.fields.Four.{Four}
 use Rattle.frame.specs.declared.fields.DownFields.{DownFields}
 use Rattle.frame.specs.declared.fields.UpFields.{UpFields}
 
@@ -33,3 +39,41 @@ LineDown = (f : DownFields) → isLine (downLine f) ≡ true
 
 abbrev pub LineUp : Type 0
 LineUp = (f : UpFields) → isLine (upLine f) ≡ true
+
+-- ---- An upward frame is its groups one after the other, each beginning with minus: a group with its L leaves the polarity as it
+-- found it. So each D of 0 is a minus.
+abbrev pub BalancedPolarity : Type 0
+BalancedPolarity = (bs : List Bool) → nextPulse minus (balanced bs) ≡ minus
+
+abbrev pub GroupsUp : Type 0
+GroupsUp = (f : UpFields) → upLine f ≡ laidOut upGroups f
+
+abbrev pub DSymbolUp : Type 0
+DSymbolUp = (k : ℕ) (f : UpFields) → k < 4 → getD (upLine f) (dIndex k) none ≡ cond (pick k (f .d)) none minus
+
+-- ---- Four bits by their place.
+abbrev pub PickAnd : Type 0
+PickAnd = (k : ℕ) (a b : Four) → pick k (andFour a b) ≡ (pick k a && pick k b)
+
+abbrev pub PickOnes : Type 0
+PickOnes = (k : ℕ) → pick k (allFour true) ≡ true
+
+abbrev pub PickPadded : Type 0
+PickPadded = (k : ℕ) (bits : List Bool) → k < 4 → pick k (padded bits) ≡ getD bits k true
+
+abbrev pub PickD : Type 0
+PickD = (k : ℕ) (l : List ℕ) → k < 4 → pick k (dBits (levels l)) ≡ level (getD l (dIndex k) none)
+
+abbrev pub PickE : Type 0
+PickE = (k : ℕ) (l : List ℕ) → k < 4 → pick k (eBits (levels l)) ≡ level (getD l (eIndex k) none)
+
+-- Four bits that are the same at each place are the same.
+abbrev pub PickSame : Type 0
+PickSame = (a b : Four) → ((k : ℕ) → k < 4 → pick k a ≡ pick k b) → a ≡ b
+
+-- The indices lie in a line.
+abbrev pub DIndexInLine : Type 0
+DIndexInLine = (k : ℕ) → k < 4 → dIndex k < lineLength
+
+abbrev pub EIndexInLine : Type 0
+EIndexInLine = (k : ℕ) → k < 4 → eIndex k < lineLength

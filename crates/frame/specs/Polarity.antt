@@ -15,6 +15,11 @@ unfoldable pub alternate : ℕ → List Bool → List ℕ
 alternate s [] = []
 alternate s (b ∷ bs) = cond b none s ∷ alternate (cond b s (opposite s)) bs
 
+-- The polarity of the next pulse after some bits.
+unfoldable pub nextPulse : ℕ → List Bool → ℕ
+nextPulse s [] = s
+nextPulse s (b ∷ bs) = nextPulse (cond b s (opposite s)) bs
+
 -- The line of a frame's 48 bits.
 unfoldable pub symbols : List Bool → List ℕ
 symbols bits = plus ∷ minus ∷ alternate minus (drop 2 bits)

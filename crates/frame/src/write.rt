@@ -3,8 +3,7 @@ ghost use mathlib.Core.Path.{_≡_};
 ghost use mathlib.Core.List.{_∷_};
 ghost use mathlib.Core.Bool.{cond, false};
 ghost use Prim.Native.Nat.{_<_};
-ghost use lib.ListN.{length};
-ghost use Rattle.symbols.specs.Symbols.{none, lineLength, hasLineLength, reply, leaves};
+ghost use Rattle.symbols.specs.Symbols.{none, hasLineLength, reply, leaves};
 ghost use Rattle.frame.specs.Polarity.{opposite, symbols};
 ghost use Rattle.frame.specs.Down.{downLine};
 ghost use Rattle.frame.specs.Up.{upLine};
@@ -37,10 +36,13 @@ fn turned(b: bool, next: u8) -> u8
 }
 
 // Writes the line of a frame whose bits 3 to 48 are w's 46 bits, the highest first.
-fn emit(out: &mut [u8], w: u64)
-    requires { ⌜ length (now out) ≡ lineLength ⌝ }
-    ensures { λ _. ⌜ now (out .exit) ≡ symbols (false ∷ false ∷ topBits 46 w) ⌝ }
+fn emit(w: u64, out: &mut [u8]) -> u8
+    ensures reply { λ r. ⌜ r ≡ reply (hasLineLength (now (out .entry))) ⌝ }
+    ensures octets { λ _. ⌜ now (out .exit) ≡ leaves (hasLineLength (now (out .entry))) (symbols (false ∷ false ∷ topBits 46 w)) (now (out .entry)) ⌝ }
 {
+    if out.len() != LINE_LENGTH {
+        return 2;
+    }
     out[0] = PLUS;
     out[1] = MINUS;
     let mut bits = w;
@@ -53,6 +55,7 @@ fn emit(out: &mut [u8], w: u64)
         bits = bits % TOP * 2;
         i += 1;
     }
+    0
 }
 
 // Writes a downward frame: 0, or 2 where what is lent is not 48 long.
@@ -60,11 +63,7 @@ pub fn write_down(f: DownFields, out: &mut [u8]) -> u8
     ensures reply { λ r. ⌜ r ≡ reply (hasLineLength (now (out .entry))) ⌝ }
     ensures octets { λ _. ⌜ now (out .exit) ≡ leaves (hasLineLength (now (out .entry))) (downLine f) (now (out .entry)) ⌝ }
 {
-    if out.len() != LINE_LENGTH {
-        return 2;
-    }
-    emit(out, down_word(f));
-    0
+    emit(down_word(f), out)
 }
 
 // Writes an upward frame: 0, or 2 where what is lent is not 48 long.
@@ -72,9 +71,5 @@ pub fn write_up(f: UpFields, out: &mut [u8]) -> u8
     ensures reply { λ r. ⌜ r ≡ reply (hasLineLength (now (out .entry))) ⌝ }
     ensures octets { λ _. ⌜ now (out .exit) ≡ leaves (hasLineLength (now (out .entry))) (upLine f) (now (out .entry)) ⌝ }
 {
-    if out.len() != LINE_LENGTH {
-        return 2;
-    }
-    emit(out, up_word(f));
-    0
+    emit(up_word(f), out)
 }

@@ -13,27 +13,27 @@ use Rattle.frame.specs.Bits.{bit, numberHighFirst}
 use Rattle.frame.proofs.Bits.{number-lt, number-last}
 
 -- From index at on: n is the number of the first i bits.
-pub record Reading (line : List ℕ) (at n i : ℕ) : Type 0 where
+pub record OctetReading (line : List ℕ) (at n i : ℕ) : Type 0 where
   pub long : at + 8 ≤ length line
   pub low : i ≤ 8
   pub value : n ≡ numberHighFirst (levels (take i (drop at line)))
 
-module _ {line : List ℕ} {at n i : ℕ} (r : Reading line at n i) where
+module _ {line : List ℕ} {at n i : ℕ} (r : OctetReading line at n i) where
   longer : 8 ≤ length (drop at line)
   longer = rw length-drop (omega (arith, r .long))
 
-  pub reading-lt : i < 8 → n < 128
-  reading-lt h =
+  pub octet-reading-lt : i < 8 → n < 128
+  octet-reading-lt h =
       let s = drop at line in
       let long : length (levels (take i s)) ≡ i = length-map (take i s) level ∙ length-take-le i s (omega (arith, longer)) in
       omega (arith, rw long at (number-lt (levels (take i s))), pow-mono {i = i} {j = 7} (omega arith), r .value)
 
-  pub reading-next : i < 8 → (m : ℕ) → m ≡ n * 2 + bit (level (getD line (at + i) 0)) → Reading line at m (i + 1)
-  reading-next h m e = record {
+  pub octet-reading-next : i < 8 → (m : ℕ) → m ≡ n * 2 + bit (level (getD line (at + i) 0)) → OctetReading line at m (i + 1)
+  octet-reading-next h m e = record {
     long = r .long;
     low = omega arith;
     value = rw (add-one, take-suc (drop at line) i 0 (omega (arith, longer)), map-append, number-last, getD-drop, e, r .value);
   }
 
-  pub reading-done : 8 ≤ i → n ≡ numberHighFirst (take 8 (drop at (levels line)))
-  reading-done h = let end : i ≡ 8 = omega (arith, r .low) in rw (r .value, end, levels-take, levels-drop)
+  pub octet-reading-done : 8 ≤ i → n ≡ numberHighFirst (take 8 (drop at (levels line)))
+  octet-reading-done h = let end : i ≡ 8 = omega (arith, r .low) in rw (r .value, end, levels-take, levels-drop)

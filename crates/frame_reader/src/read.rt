@@ -25,7 +25,7 @@ use symbols::fits;
 use symbols::same_symbols;
 
 // The bit at index i.
-fn level(line: &[u8], i: usize) -> bool
+fn level_at(line: &[u8], i: usize) -> bool
     requires { ⌜ i < length (now line) ⌝ }
     ensures { λ r. ⌜ r ≡ getD (levels (now (line .entry))) i true ⌝ }
 {
@@ -33,7 +33,7 @@ fn level(line: &[u8], i: usize) -> bool
 }
 
 // The octet whose bits are the eight symbols from index at on.
-fn octet(line: &[u8], at: usize) -> u8
+fn octet_at(line: &[u8], at: usize) -> u8
     requires { ⌜ at + 8 ≤ length (now line) ⌝ }
     ensures { λ r. ⌜ r ≡ numberHighFirst (take 8 (drop at (levels (now (line .entry))))) ⌝ }
 {
@@ -47,7 +47,7 @@ fn octet(line: &[u8], at: usize) -> u8
 }
 
 // The bits at four indices.
-fn four(line: &[u8], i: usize, j: usize, k: usize, l: usize) -> Four
+fn four_at(line: &[u8], i: usize, j: usize, k: usize, l: usize) -> Four
     requires { ⌜ i < length (now line) ⌝ }
     requires { ⌜ j < length (now line) ⌝ }
     requires { ⌜ k < length (now line) ⌝ }
@@ -55,10 +55,10 @@ fn four(line: &[u8], i: usize, j: usize, k: usize, l: usize) -> Four
     ensures { λ r. ⌜ r ≡ fourAt (i + 1) (j + 1) (k + 1) (l + 1) (levels (now (line .entry))) ⌝ }
 {
     Four {
-        first: level(line, i),
-        second: level(line, j),
-        third: level(line, k),
-        fourth: level(line, l),
+        first: level_at(line, i),
+        second: level_at(line, j),
+        third: level_at(line, k),
+        fourth: level_at(line, l),
     }
 }
 
@@ -66,14 +66,14 @@ fn d_of(line: &[u8]) -> Four
     requires { ⌜ length (now line) ≡ lineLength ⌝ }
     ensures { λ r. ⌜ r ≡ dBits (levels (now (line .entry))) ⌝ }
 {
-    four(line, 11, 24, 35, 46)
+    four_at(line, 11, 24, 35, 46)
 }
 
 fn e_of(line: &[u8]) -> Four
     requires { ⌜ length (now line) ≡ lineLength ⌝ }
     ensures { λ r. ⌜ r ≡ eBits (levels (now (line .entry))) ⌝ }
 {
-    four(line, 10, 23, 34, 45)
+    four_at(line, 10, 23, 34, 45)
 }
 
 // The fields of a downward line at symbol level.
@@ -82,16 +82,16 @@ fn down_fields(line: &[u8]) -> DownFields
     ensures { λ r. ⌜ r ≡ downFieldsOf (now (line .entry)) ⌝ }
 {
     DownFields {
-        b1first: octet(line, 2),
-        b2first: octet(line, 15),
-        b1second: octet(line, 26),
-        b2second: octet(line, 37),
+        b1first: octet_at(line, 2),
+        b2first: octet_at(line, 15),
+        b1second: octet_at(line, 26),
+        b2second: octet_at(line, 37),
         e: e_of(line),
         d: d_of(line),
-        a: level(line, 12),
-        fa: level(line, 13),
-        m: level(line, 25),
-        s: level(line, 36),
+        a: level_at(line, 12),
+        fa: level_at(line, 13),
+        m: level_at(line, 25),
+        s: level_at(line, 36),
     }
 }
 
@@ -101,10 +101,10 @@ fn up_fields(line: &[u8]) -> UpFields
     ensures { λ r. ⌜ r ≡ upFieldsOf (now (line .entry)) ⌝ }
 {
     UpFields {
-        b1first: octet(line, 2),
-        b2first: octet(line, 15),
-        b1second: octet(line, 26),
-        b2second: octet(line, 37),
+        b1first: octet_at(line, 2),
+        b2first: octet_at(line, 15),
+        b1second: octet_at(line, 26),
+        b2second: octet_at(line, 37),
         d: d_of(line),
     }
 }
@@ -186,7 +186,7 @@ pub fn a_bit(line: &[u8]) -> TestAnswer
     ensures { λ r. ⌜ r ≡ tested aLevel (now (line .entry)) ⌝ }
 {
     if fits(line, LINE_LENGTH, MINUS) {
-        answer(level(line, 12))
+        answer(level_at(line, 12))
     } else {
         TestAnswer::Refused(2)
     }

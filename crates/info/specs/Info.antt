@@ -20,8 +20,11 @@ abbrev pub times : ℕ → List ℕ → List ℕ
 times zero l = []
 times (suc n) l = l ++ times n l
 
+abbrev pub repeated : ℕ → ℕ → List ℕ
+repeated first second = times 6 (first ∷ second ∷ replicate 6 none)
+
 abbrev pub info1 : List ℕ
-info1 = times 6 (plus ∷ minus ∷ replicate 6 none)
+info1 = repeated plus minus
 
 -- INFO 2 has A, B, D, E, FA, M and S at 0.
 abbrev pub info2Fields : DownFields

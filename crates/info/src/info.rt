@@ -18,35 +18,43 @@ use symbols::answer;
 use symbols::fits;
 use symbols::same_symbols;
 
-// INFO 0.
-pub fn info0(out: &mut [u8]) -> u8
+// The symbol at index i of first, second and six nones, six times.
+fn repeated_symbol(first: u8, second: u8, i: usize) -> u8
+    requires { ⌜ i < lineLength ⌝ }
+    ensures { λ r. ⌜ r ≡ getD (spec.repeated first second) i none ⌝ }
+{
+    let place = i % 8;
+    if place == 0 {
+        first
+    } else if place == 1 {
+        second
+    } else {
+        NONE
+    }
+}
+
+// Writes first, second and six nones, six times.
+fn write_repeated(first: u8, second: u8, out: &mut [u8]) -> u8
     ensures reply { λ r. ⌜ r ≡ reply (hasLineLength (now (out .entry))) ⌝ }
-    ensures octets { λ _. ⌜ now (out .exit) ≡ leaves (hasLineLength (now (out .entry))) spec.info0 (now (out .entry)) ⌝ }
+    ensures octets { λ _. ⌜ now (out .exit) ≡ leaves (hasLineLength (now (out .entry))) (spec.repeated first second) (now (out .entry)) ⌝ }
 {
     if out.len() != LINE_LENGTH {
         return 2;
     }
     let mut i: usize = 0;
     while i < LINE_LENGTH {
-        out[i] = NONE;
+        out[i] = repeated_symbol(first, second, i);
         i += 1;
     }
     0
 }
 
-// INFO 1's symbol at index i.
-fn info1_symbol(i: usize) -> u8
-    requires { ⌜ i < lineLength ⌝ }
-    ensures { λ r. ⌜ r ≡ getD spec.info1 i none ⌝ }
+// INFO 0.
+pub fn info0(out: &mut [u8]) -> u8
+    ensures reply { λ r. ⌜ r ≡ reply (hasLineLength (now (out .entry))) ⌝ }
+    ensures octets { λ _. ⌜ now (out .exit) ≡ leaves (hasLineLength (now (out .entry))) spec.info0 (now (out .entry)) ⌝ }
 {
-    let place = i % 8;
-    if place == 0 {
-        PLUS
-    } else if place == 1 {
-        MINUS
-    } else {
-        NONE
-    }
+    write_repeated(NONE, NONE, out)
 }
 
 // INFO 1.
@@ -54,15 +62,7 @@ pub fn info1(out: &mut [u8]) -> u8
     ensures reply { λ r. ⌜ r ≡ reply (hasLineLength (now (out .entry))) ⌝ }
     ensures octets { λ _. ⌜ now (out .exit) ≡ leaves (hasLineLength (now (out .entry))) spec.info1 (now (out .entry)) ⌝ }
 {
-    if out.len() != LINE_LENGTH {
-        return 2;
-    }
-    let mut i: usize = 0;
-    while i < LINE_LENGTH {
-        out[i] = info1_symbol(i);
-        i += 1;
-    }
-    0
+    write_repeated(PLUS, MINUS, out)
 }
 
 // INFO 2.

@@ -31,26 +31,26 @@ module _ {X : Type 0} {F : List ℕ → X} {s : List ℕ} {i : ℕ} (r : Rest F 
   rest-done h = rw (r .rest, drop-of-length-le s h)
 
 -- The same for two lists that are compared.
-pub record Alike (xs ys : List ℕ) (i : ℕ) : Type 0 where
+pub record SameRest (xs ys : List ℕ) (i : ℕ) : Type 0 where
   pub long : length xs ≡ length ys
   pub low : i ≤ length xs
   pub rest : sameSymbols xs ys ≡ sameSymbols (drop i xs) (drop i ys)
 
-module _ {xs ys : List ℕ} {i : ℕ} (r : Alike xs ys i) where
-  alike-here : i < length xs → sameSymbols xs ys ≡ cond (eqb (getD xs i 0) (getD ys i 0)) (sameSymbols (drop (suc i) xs) (drop (suc i) ys)) false
+module _ {xs ys : List ℕ} {i : ℕ} (r : SameRest xs ys i) where
+  same-rest-here : i < length xs → sameSymbols xs ys ≡ cond (eqb (getD xs i 0) (getD ys i 0)) (sameSymbols (drop (suc i) xs) (drop (suc i) ys)) false
   unfolding sameSymbols
-  alike-here h = rw (r .rest, drop-cons xs i 0 h, drop-cons ys i 0 (omega (arith, r .long)))
+  same-rest-here h = rw (r .rest, drop-cons xs i 0 h, drop-cons ys i 0 (omega (arith, r .long)))
 
-  pub alike-next : i < length xs → getD xs i 0 ≡ getD ys i 0 → Alike xs ys (i + 1)
-  alike-next h e =
-      record { long = r .long; low = omega arith; rest = rw add-one (alike-here h ∙ rw (eq-eqb (getD xs i 0) (getD ys i 0) e)) }
+  pub same-rest-next : i < length xs → getD xs i 0 ≡ getD ys i 0 → SameRest xs ys (i + 1)
+  same-rest-next h e =
+      record { long = r .long; low = omega arith; rest = rw add-one (same-rest-here h ∙ rw (eq-eqb (getD xs i 0) (getD ys i 0) e)) }
 
-  pub alike-fails : i < length xs → (getD xs i 0 ≡ getD ys i 0 → ⊥) → sameSymbols xs ys ≡ false
-  alike-fails h e = alike-here h ∙ rw (ne-eqb (getD xs i 0) (getD ys i 0) e)
+  pub same-rest-fails : i < length xs → (getD xs i 0 ≡ getD ys i 0 → ⊥) → sameSymbols xs ys ≡ false
+  same-rest-fails h e = same-rest-here h ∙ rw (ne-eqb (getD xs i 0) (getD ys i 0) e)
 
-  pub alike-done : length xs ≤ i → sameSymbols xs ys ≡ true
+  pub same-rest-done : length xs ≤ i → sameSymbols xs ys ≡ true
   unfolding sameSymbols
-  alike-done h =
+  same-rest-done h =
       let k : length ys ≤ i = omega (arith, r .long) in
       rw (r .rest, drop-of-length-le xs h, drop-of-length-le ys k)
 

@@ -3,12 +3,12 @@ use mathlib.Core.Path.{refl, sym}
 use Prim.Native.Nat.{_-_}
 use native.Mathlib.Omega.{arith}
 use lib.ListN.{length}
-use Rattle.symbols.proofs.Scan.{Alike, alike-next, alike-fails, alike-done, same-symbols-short}
+use Rattle.symbols.proofs.Scan.{SameRest, same-rest-next, same-rest-fails, same-rest-done, same-symbols-short}
 use Rattle.symbols.proofs.same_symbols.Statement.{statement}
 use Rattle.symbols.proofs.same_symbols.Tie as tie
 
 abbrev Inv-loop : tie.InvT-loop
-Inv-loop a b i₀ i = Alike a b i
+Inv-loop a b i₀ i = SameRest a b i
 
 abbrev μ-loop : tie.MeasureT-loop
 μ-loop a b i₀ i = length a - i
@@ -26,7 +26,7 @@ shared-slice-read-if2-2 : tie.Need-shared-slice-read-if2-2 Inv-loop μ-loop
 shared-slice-read-if2-2 c = omega arith
 
 returns-2 : tie.Need-returns-2 Inv-loop μ-loop
-returns-2 c = sym (alike-fails (c .before .before .before .before .loop .inv) (omega arith) (c .if2 .taken))
+returns-2 c = sym (same-rest-fails (c .before .before .before .before .loop .inv) (omega arith) (c .if2 .taken))
 
 add-i : tie.Need-add-i Inv-loop μ-loop
 add-i c = omega arith
@@ -35,10 +35,10 @@ loop-less : tie.Need-loop-less Inv-loop μ-loop
 loop-less c = omega arith
 
 loop-again : tie.Need-loop-again Inv-loop μ-loop
-loop-again c = alike-next (c .before .before .before .before .loop .inv) (omega arith) (c .if2 .left)
+loop-again c = same-rest-next (c .before .before .before .before .loop .inv) (omega arith) (c .if2 .left)
 
 returns-3 : tie.Need-returns-3 Inv-loop μ-loop
-returns-3 c = sym (alike-done (c .before .loop .inv) (c .loop-test .left))
+returns-3 c = sym (same-rest-done (c .before .loop .inv) (c .loop-test .left))
 
 pub same-symbols-spec : {M : Type 1} → statement M
 same-symbols-spec =

@@ -2,20 +2,20 @@
 use mathlib.Core.Path.{sym, ap, _∙_}
 use borrow.Author.Tests.{eq-eqb, ne-eqb}
 use lib.ListN.{length}
-use Rattle.cases.proofs.ByCases.{and-true, and-left-false, and-right-false}
+use Rattle.cases.proofs.ByCases.{and-both-true, and-left-false, and-right-false}
 use Rattle.symbols.specs.Symbols.{minus, hasLineLength, fits}
 use Rattle.symbols.proofs.Lines.{fits-length}
 use Rattle.symbols.proofs.Written.{left-written}
 use Rattle.info.specs.Info.{info0}
 use Rattle.combining.specs.Combine.{linesLength, combineFits, eight}
-use Rattle.combining.proofs.Gather.{refused, done, combines}
+use Rattle.combining.proofs.Gather.{combine-refused, combine-done, combines}
 use borrow.Author.Needs.{needs}
 use Rattle.combining.proofs.combine.combine.Statement.{statement}
 use Rattle.combining.proofs.combine.combine.Tie as tie
 
 returns : tie.Need-returns
 returns c = let args = c .before .before .before .args in
-    refused (args .lines .now) (args .out .now)
+    combine-refused (args .lines .now) (args .out .now)
     (and-left-false (hasLineLength (args .out .now)) (fits linesLength minus (args .lines .now)) (ne-eqb _ _ (c .if1 .taken)))
 
 fits-requires : tie.Need-fits-requires
@@ -32,26 +32,26 @@ gather-requires c κs =
       ap length (left-written info0 (lent .before .before .before .before .args .out .now) (lent .before .if1 .left) (silent .info0 .ensures .1)),
     )
 
-settle-requires : tie.Need-settle-requires
-settle-requires c κs = search needs
+resolve-requires : tie.Need-resolve-requires
+resolve-requires c κs = search needs
 
 same-length : tie.Need-same-length
 same-length c = search needs
 
 returns-2 : tie.Need-returns-2
 returns-2 c =
-    let settle = c .before .before in
-    let gather = settle .before .before .before .before in
+    let resolve = c .before .before in
+    let gather = resolve .before .before .before .before in
     let silent = gather .before .before .before .before in
     let lent = silent .before .before .before in
     let args = lent .before .before .before .before .args in
     let good = sym (lent .fits2 .ensures) ∙ silent .before .before .if2 .taken in
-    done (args .lines .now) (args .out .now) _ (and-true _ _ (eq-eqb _ _ (lent .before .if1 .left)) good)
-    (combines (args .lines .now) _ _ _ good (left-written info0 (lent .before .before .before .before .args .out .now) (lent .before .if1 .left) (silent .info0 .ensures .1)) (gather .gather .ensures) (settle .settle .ensures))
+    combine-done (args .lines .now) (args .out .now) _ (and-both-true _ _ (eq-eqb _ _ (lent .before .if1 .left)) good)
+    (combines (args .lines .now) _ _ _ good (left-written info0 (lent .before .before .before .before .args .out .now) (lent .before .if1 .left) (silent .info0 .ensures .1)) (gather .gather .ensures) (resolve .resolve .ensures))
 
 returns-3 : tie.Need-returns-3
 returns-3 c = let args = c .before .before .before .before .before .args in
-    refused (args .lines .now) (args .out .now)
+    combine-refused (args .lines .now) (args .out .now)
     (and-right-false (hasLineLength (args .out .now)) (fits linesLength minus (args .lines .now)) (sym (c .before .fits2 .ensures) ∙ c .if2 .left))
 
 pub combine-spec : {M : Type 1} → statement M
@@ -62,7 +62,7 @@ combine-spec =
     fits-requires
     info0-requires
     gather-requires
-    settle-requires
+    resolve-requires
     same-length
     returns-2
     returns-3)

@@ -3,8 +3,8 @@ use mathlib.Core.Path.{sym, _∙_}
 use Rattle.symbols.specs.Symbols.{lineLength, isLine, fits}
 use Rattle.combining.specs.Hit.{noneLetter, hit, hitFits}
 use Rattle.symbols.proofs.Lines.{fits-length, line-length}
-use Rattle.cases.proofs.ByCases.{and-true, and-left-false, and-right-false}
-use Rattle.symbols.proofs.Written.{refused, done}
+use Rattle.cases.proofs.ByCases.{and-both-true, and-left-false, and-right-false}
+use Rattle.symbols.proofs.Written.{reply-refused, reply-done}
 use borrow.Author.Needs.{needs}
 use Rattle.combining.proofs.hit.apply_hit.Statement.{statement}
 use Rattle.combining.proofs.hit.apply_hit.Tie as tie
@@ -25,15 +25,15 @@ same-length c = search needs
 returns : tie.Need-returns
 returns c = let at = c .before .before .before .before in
     let args = at .before .before .before .before .before .before .before .args in
-    done (hitFits (args .letters .now) (args .line .now)) (hit (args .letters .now) (args .line .now)) (args .line .now) _
-    (and-true _ _ (sym (at .before .before .before .fits2 .ensures) ∙ at .before .before .if1 .taken) (sym (at .before .fits3 .ensures) ∙ at .if2 .taken)) (c .before .before .strike .ensures)
+    reply-done (hitFits (args .letters .now) (args .line .now)) (hit (args .letters .now) (args .line .now)) (args .line .now) _
+    (and-both-true _ _ (sym (at .before .before .before .fits2 .ensures) ∙ at .before .before .if1 .taken) (sym (at .before .fits3 .ensures) ∙ at .if2 .taken)) (c .before .before .strike .ensures)
 
 same-length-2 : tie.Need-same-length-2
 same-length-2 c = search needs
 
 returns-2 : tie.Need-returns-2
 returns-2 c = let args = c .before .before .before .before .before .before .before .args in
-    refused (hitFits (args .letters .now) (args .line .now)) (hit (args .letters .now) (args .line .now)) (args .line .now)
+    reply-refused (hitFits (args .letters .now) (args .line .now)) (hit (args .letters .now) (args .line .now)) (args .line .now)
     (and-right-false (isLine (args .line .now)) (fits lineLength noneLetter (args .letters .now)) (sym (c .before .fits3 .ensures) ∙ c .if2 .left))
 
 same-length-3 : tie.Need-same-length-3
@@ -41,7 +41,7 @@ same-length-3 c = search needs
 
 returns-3 : tie.Need-returns-3
 returns-3 c = let args = c .before .before .before .before .before .args in
-    refused (hitFits (args .letters .now) (args .line .now)) (hit (args .letters .now) (args .line .now)) (args .line .now)
+    reply-refused (hitFits (args .letters .now) (args .line .now)) (hit (args .letters .now) (args .line .now)) (args .line .now)
     (and-left-false (isLine (args .line .now)) (fits lineLength noneLetter (args .letters .now)) (sym (c .before .fits2 .ensures) ∙ c .if1 .left))
 
 pub apply-hit-spec : {M : Type 1} → statement M
