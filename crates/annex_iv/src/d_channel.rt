@@ -1,24 +1,27 @@
-// IV.2.2: how a terminal answers on the D channel.
+// IV.2.2: how a terminal answers on the D channel. The frame has 24 bits.
 use super::print::number;
 use super::print::say;
 use dchannel::access::Access;
 use dchannel::access::Class;
 
-// Tests (a), (b) and (c).
-pub(crate) fn tests() {
-    mismatches(1, false);
-    mismatches(1, true);
-    mismatches(2, false);
-    mismatches(2, true);
-    starts_over(1);
-    starts_over(2);
-    starts_again(1);
-    starts_again(2);
-    returns(1);
-    returns(2);
+// Tests (a), (b) and (c) in a class. In (b) an echo differs from the first bit after the opening flag, a 1 or a 0, and from the closing
+// flag's last 0, before which six 1s have been echoed.
+pub(crate) fn tests(class: u8) {
+    mismatch(class, false, false);
+    mismatch(class, false, true);
+    mismatch(class, true, false);
+    mismatch(class, true, true);
+    starts_over(class, 9, 0, true);
+    starts_over(class, 9, 0, false);
+    starts_over(class, 24, 6, false);
+    sent_whole(class);
 }
 
-fn level(low: bool) {
+fn head(test: &[u8], class: u8, low: bool) {
+    say(b"IV.2.2 ");
+    say(test);
+    say(b" class ");
+    number(class);
     if low {
         say(b" low");
     } else {
@@ -26,16 +29,20 @@ fn level(low: bool) {
     }
 }
 
-fn bit(b: bool) -> u8 {
-    if b { 1 } else { 0 }
+// A bit that left, and its echo, which differs.
+fn echo(sent: bool) {
+    say(b" sent ");
+    number(sent as u8);
+    say(b" echo ");
+    number(!sent as u8);
 }
 
-// A frame of the class is held and its first `sent` bits have left; 24 bits in all.
-fn holding(class: u8, low: bool, sent: u16, last: bool) -> Access {
+// A frame of the class is held and some of its bits have left, with C as it is then.
+fn holding(class: u8, low: bool, sent: u16, count: u8, last: bool) -> Access {
     Access {
         length: 24,
         sent,
-        count: 0,
+        count,
         held: class,
         low1: low,
         low2: low,
@@ -44,83 +51,62 @@ fn holding(class: u8, low: bool, sent: u16, last: bool) -> Access {
 }
 
 // (a): an echo that differs stops the sending, and the next D is 1.
-fn mismatches(class: u8, low: bool) {
-    mismatch(class, low, false);
-    mismatch(class, low, true);
-}
-
-fn mismatch(class: u8, low: bool, sent: bool) {
-    let turn = holding(class, low, 9, sent).turn(!sent, false);
-    say(b"IV.2.2 a class ");
-    number(class);
-    level(low);
-    say(b" sent ");
-    number(bit(sent));
-    say(b" echo ");
-    number(bit(!sent));
+fn mismatch(class: u8, low: bool, last: bool) {
+    let turn = holding(class, low, 9, 0, last).turn(!last, false);
+    head(b"a", class, low);
+    echo(last);
     say(b" D ");
-    number(bit(turn.d));
+    number(turn.d as u8);
     say(b"\n");
 }
 
-// (b): after a wrong echo, how many 1s of the echo go before the start.
-fn starts_over(class: u8) {
-    let stopped = holding(class, false, 9, true).turn(false, false).access;
-    say(b"IV.2.2 b class ");
-    number(class);
-    level(false);
-    say(b" starts after ");
-    number(ones(stopped));
-    say(b"\n");
+// (b): after an echo that differs, C, how many 1s of the echo go before the start, and C there.
+fn starts_over(class: u8, sent: u16, count: u8, last: bool) {
+    let stopped = holding(class, false, sent, count, last)
+        .turn(!last, false)
+        .access;
+    head(b"b", class, false);
+    echo(last);
+    say(b" C ");
+    number(stopped.count);
+    say(b" starts");
+    settles(stopped);
 }
 
-// The record after a frame of the class has been sent: the echo of its last bit, a 0, agrees.
-fn done(class: u8) -> Access {
-    holding(class, false, 24, false).turn(false, false).access
-}
-
-// (c): after a sent frame, how many 1s of the echo go before the next one's start.
-fn starts_again(class: u8) {
+// (c): after a sent frame, the echo of whose last bit, a 0, agrees: how many 1s of the echo go before the next one's start, and how many
+// bring a terminal without a frame back to the normal level.
+fn sent_whole(class: u8) {
+    let done = holding(class, false, 24, 0, false)
+        .turn(false, false)
+        .access;
     let again = if class == 1 {
-        done(class).hand(Class::One, 24).access
+        done.hand(Class::One, 24).access
     } else {
-        done(class).hand(Class::Two, 24).access
+        done.hand(Class::Two, 24).access
     };
-    say(b"IV.2.2 c class ");
-    number(class);
-    level(true);
-    say(b" starts after ");
-    number(ones(again));
-    say(b"\n");
+    head(b"c", class, true);
+    say(b" starts");
+    settles(again);
+    head(b"c", class, true);
+    say(b" normal");
+    settles(done);
 }
 
-// (c): how many 1s of the echo bring a terminal without a frame back to the normal level.
-fn returns(class: u8) {
-    say(b"IV.2.2 c class ");
-    number(class);
-    say(b" low normal after ");
-    number(ones(done(class)));
-    say(b"\n");
-}
-
-// The 1s of the echo until a held frame starts, or, without one, until both levels are normal; at most 20.
-fn ones(access: Access) -> u8 {
+// The 1s of the echo, at most 20, until a held frame starts or, without one, both levels are normal; and C then.
+fn settles(access: Access) {
     let mut a = access;
     let mut n: u8 = 0;
     while n < 20 {
+        if (0 < a.sent) | !((a.held != 0) | a.low1 | a.low2) {
+            break;
+        }
         let turn = a.turn(true, false);
         a = turn.access;
         n += 1;
-        if settled(a) {
-            return n;
-        }
     }
-    n
-}
-
-fn settled(a: Access) -> bool {
-    if a.held == 0 {
-        return !a.low1 && !a.low2;
-    }
-    0 < a.sent
+    say(b" after ");
+    number(n);
+    say(b" at C ");
+    number(a.count);
+    say(b"\n");
 }

@@ -1,15 +1,21 @@
-// Table IV-2: the network end. A row is its number, the state before and the stimulus, an event of table 6-3.
-use super::print::number;
+// Table IV-2: the network end.
+use super::NOW;
+use super::ONES;
+use super::print::before;
+use super::print::notes;
+use super::print::outcome;
 use super::print::say;
+use super::print::timer;
+use super::tests;
 use activation::network::Network;
-use frame::fields::Four;
+use activation::network::NetworkStep;
 use info::info::info1;
 use info::info::info3;
 use period::alignment::Alignment;
 use period::counts::Periods;
-use period::hearing::Upward;
 use period::sensing::SensedUp;
 use period::sensing::sense_up;
+use tables::cell::NO_NOTES;
 use tables::table_6_3::AR;
 use tables::table_6_3::DR;
 use tables::table_6_3::INFO_0;
@@ -20,171 +26,89 @@ use tables::table_6_3::T1_DUE;
 use tables::table_6_3::T2_DUE;
 use tables::table_6_3::info_sent;
 
-// The period in which the stimulus comes.
-const NOW: u32 = 1000;
-
 pub(crate) fn rows() {
-    from_g1();
-    from_g2();
-    from_g3();
-    from_g4();
+    tests(2, 1, 1, &[AR, T1_DUE, T2_DUE, INFO_0, INFO_1]);
+    tests(2, 6, 2, &[DR, T1_DUE, T2_DUE, INFO_0, INFO_1, INFO_3]);
+    tests(2, 12, 3, &[DR, T2_DUE, INFO_0, INFO_3, LOSS]);
+    tests(
+        2,
+        17,
+        4,
+        &[AR, T1_DUE, T2_DUE, INFO_0, INFO_1, INFO_3, LOSS],
+    );
 }
 
-fn from_g1() {
-    row(1, 1, AR);
-    row(2, 1, T1_DUE);
-    row(3, 1, T2_DUE);
-    row(4, 1, INFO_0);
-    row(5, 1, INFO_1);
-}
-
-fn from_g2() {
-    row(6, 2, DR);
-    row(7, 2, T1_DUE);
-    row(8, 2, T2_DUE);
-    row(9, 2, INFO_0);
-    row(10, 2, INFO_1);
-    row(11, 2, INFO_3);
-}
-
-fn from_g3() {
-    row(12, 3, DR);
-    row(13, 3, T2_DUE);
-    row(14, 3, INFO_0);
-    row(15, 3, INFO_3);
-    row(16, 3, LOSS);
-}
-
-fn from_g4() {
-    row(17, 4, AR);
-    row(18, 4, T1_DUE);
-    row(19, 4, T2_DUE);
-    row(20, 4, INFO_0);
-    row(21, 4, INFO_1);
-    row(22, 4, INFO_3);
-    row(23, 4, LOSS);
-}
-
-fn row(test: u8, state: u8, event: u8) {
-    let after = met(state, event);
-    say(b"IV-2 ");
-    number(test);
-    say(b" G");
-    number(state);
+pub(crate) fn test(number: u8, state: u8, event: u8) {
+    let step = meets(unit(state, event), event);
+    let after = step.network;
+    before(b"IV-2 ", number, b" G", state);
     name(event);
-    number(after.state);
-    say(b" I");
-    number(info_sent(after.state));
-    say(b"\n");
+    outcome(b" G", after.state, info_sent(after.state), step.reply);
+    timer(b" T1 ", after.t1);
+    timer(b" T2 ", after.t2);
+    notes(step.notes);
 }
 
 fn name(event: u8) {
     match event {
-        AR => say(b" PH-AR G"),
-        DR => say(b" MPH-DR G"),
-        T1_DUE => say(b" T1 G"),
-        T2_DUE => say(b" T2 G"),
-        INFO_0 => say(b" INFO 0 G"),
-        INFO_1 => say(b" INFO 1 G"),
-        INFO_3 => say(b" INFO 3 G"),
-        _ => say(b" loss G"),
+        AR => say(b" PH-AR"),
+        DR => say(b" MPH-DR"),
+        T1_DUE => say(b" T1"),
+        T2_DUE => say(b" T2"),
+        INFO_0 => say(b" INFO 0"),
+        INFO_1 => say(b" INFO 1"),
+        INFO_3 => say(b" INFO 3"),
+        _ => say(b" loss"),
     }
 }
 
-// The record after the stimulus.
-fn met(state: u8, event: u8) -> Network {
-    let step = match event {
-        AR..=DR => at_rest(state).request(event, Periods(NOW)),
-        T1_DUE..=T2_DUE => timed(state, event).timer_due(Periods(NOW)),
-        INFO_1 => at_rest(state).hear(in_info_1(), Periods(NOW)),
-        _ => hearing(state).hear(upward(event), Periods(NOW)),
-    };
-    step.network
-}
-
-fn at_rest(state: u8) -> Network {
+// Before the stimulus both timers run; to hear INFO 0, INFO 3 or a loss, the unit is in alignment and one unframed period short of
+// losing it.
+fn unit(state: u8, event: u8) -> Network {
+    let aligned = (event == INFO_0) | (event == INFO_3) | (event == LOSS);
     Network {
-        t1: 0,
-        t2: 0,
-        state,
-        alignment: Alignment::fresh(),
-    }
-}
-
-fn timed(state: u8, event: u8) -> Network {
-    if event == T1_DUE {
-        Network {
-            t1: NOW,
-            t2: 0,
-            state,
-            alignment: Alignment::fresh(),
-        }
-    } else {
-        Network {
-            t1: 0,
-            t2: NOW,
-            state,
-            alignment: Alignment::fresh(),
-        }
-    }
-}
-
-// In alignment, one unframed period short of its loss.
-fn hearing(state: u8) -> Network {
-    Network {
-        t1: 0,
-        t2: 0,
+        t1: if event == T1_DUE { NOW } else { 50_000 },
+        t2: if event == T2_DUE { NOW } else { 60_000 },
         state,
         alignment: Alignment {
-            aligned: true,
-            run: 1,
+            aligned,
+            run: aligned as u8,
         },
     }
 }
 
-// What the stimulus's line shows: for a loss, a single pulse.
-fn upward(event: u8) -> Upward {
+// The stimulus. For a loss the line has a single pulse.
+fn meets(unit: Network, event: u8) -> NetworkStep {
+    if event <= DR {
+        return unit.request(event, Periods(NOW));
+    }
+    if event <= T2_DUE {
+        return unit.timer_due(Periods(NOW));
+    }
+    let mut line = [0u8; 48];
     match event {
-        INFO_3 => in_info_3(),
-        LOSS => in_a_pulse(),
-        _ => shown(&[0u8; 48]),
+        INFO_1 => {
+            info1(&mut line);
+        }
+        INFO_3 => {
+            info3(ONES, &mut line);
+        }
+        LOSS => {
+            line[4] = 1;
+        }
+        _ => {}
     }
+    hears(unit, &line)
 }
 
-fn in_info_1() -> Upward {
-    let mut line = [0u8; 48];
-    info1(&mut line);
-    shown(&line)
-}
-
-fn in_info_3() -> Upward {
-    let mut line = [0u8; 48];
-    info3(
-        Four {
-            first: true,
-            second: true,
-            third: true,
-            fourth: true,
-        },
-        &mut line,
-    );
-    shown(&line)
-}
-
-fn in_a_pulse() -> Upward {
-    let mut line = [0u8; 48];
-    line[4] = 1;
-    shown(&line)
-}
-
-fn shown(line: &[u8; 48]) -> Upward {
+fn hears(unit: Network, line: &[u8; 48]) -> NetworkStep {
     let sensed = sense_up(line);
     match sensed {
-        SensedUp::Line(shows) => shows,
-        SensedUp::Refused(_) => Upward {
-            pulse: false,
-            framed: false,
-            info1: false,
+        SensedUp::Line(shows) => unit.hear(shows, Periods(NOW)),
+        SensedUp::Refused(k) => NetworkStep {
+            network: unit,
+            notes: NO_NOTES,
+            reply: k,
         },
     }
 }

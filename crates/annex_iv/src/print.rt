@@ -1,5 +1,15 @@
 // Printing.
 use libc::STDOUT_FILENO;
+use tables::notes::MPH_ACT;
+use tables::notes::MPH_DEACT;
+use tables::notes::MPH_EI;
+use tables::notes::MPH_EI1;
+use tables::notes::MPH_EI2;
+use tables::notes::MPH_II_CONNECTED;
+use tables::notes::MPH_II_DISCONNECTED;
+use tables::notes::Notes;
+use tables::notes::PH_ACT;
+use tables::notes::PH_DEACT;
 
 pub(crate) fn say(text: &[u8]) {
     io::write_all(STDOUT_FILENO, text);
@@ -7,4 +17,60 @@ pub(crate) fn say(text: &[u8]) {
 
 pub(crate) fn number(n: u8) {
     io::print_decimal(STDOUT_FILENO, n as u64);
+}
+
+// A row's number and the state before.
+pub(crate) fn before(table: &[u8], test: u8, letter: &[u8], state: u8) {
+    say(table);
+    number(test);
+    say(letter);
+    number(state);
+}
+
+// The next state, the INFO that is sent there, and the reply.
+pub(crate) fn outcome(letter: &[u8], state: u8, info: u8, reply: u8) {
+    say(letter);
+    number(state);
+    say(b" I");
+    number(info);
+    say(b" reply ");
+    number(reply);
+}
+
+// The period at whose start a timer is due.
+pub(crate) fn timer(name: &[u8], due: u32) {
+    say(name);
+    if due == 0 {
+        say(b"-");
+    } else {
+        io::print_decimal(STDOUT_FILENO, due as u64);
+    }
+}
+
+// The notes in their order, and the end of the line.
+pub(crate) fn notes(n: Notes) {
+    if n.0 == 0 {
+        say(b" -");
+    }
+    note(n.1);
+    note(n.2);
+    note(n.3);
+    note(n.4);
+    say(b"\n");
+}
+
+fn note(code: u8) {
+    match code {
+        0 => say(b""),
+        PH_ACT => say(b" PH-ACT"),
+        PH_DEACT => say(b" PH-DEACT"),
+        MPH_ACT => say(b" MPH-ACT"),
+        MPH_DEACT => say(b" MPH-DEACT"),
+        MPH_EI => say(b" MPH-EI"),
+        MPH_EI1 => say(b" MPH-EI1"),
+        MPH_EI2 => say(b" MPH-EI2"),
+        MPH_II_CONNECTED => say(b" MPH-II connected"),
+        MPH_II_DISCONNECTED => say(b" MPH-II disconnected"),
+        _ => say(b" another note"),
+    }
 }

@@ -1,17 +1,22 @@
-// Table IV-3: a terminal. A row is its number, the state before and the stimulus, an event of table 6-2. Row 40 is empty.
-use super::print::number;
+// Table IV-3: a terminal. Row 40 is empty.
+use super::NOW;
+use super::ONES;
+use super::print::before;
+use super::print::notes;
+use super::print::outcome;
 use super::print::say;
+use super::print::timer;
+use super::tests;
 use activation::terminal::Terminal;
 use activation::terminal::TerminalStep;
 use dchannel::access::Access;
-use frame::fields::Four;
 use info::info::info2;
 use info::info::info4;
 use period::alignment::Alignment;
 use period::counts::Periods;
-use period::hearing::Downward;
 use period::sensing::SensedDown;
 use period::sensing::sense_down;
+use tables::cell::NO_NOTES;
 use tables::table_6_2::AR;
 use tables::table_6_2::INFO_0;
 use tables::table_6_2::INFO_2;
@@ -23,183 +28,94 @@ use tables::table_6_2::SIGNAL;
 use tables::table_6_2::T3_DUE;
 use tables::table_6_2::info_sent;
 
-// The period in which the stimulus comes.
-const NOW: u32 = 1000;
-
 pub(crate) fn rows() {
-    from_f1();
-    from_f2();
-    from_f3();
-    from_f4();
-    from_f5();
-    from_f6();
-    from_f7();
-    from_f8();
+    tests(3, 1, 1, &[ON, T3_DUE]);
+    tests(3, 3, 2, &[OFF, INFO_0, INFO_2, INFO_4, SIGNAL, T3_DUE]);
+    tests(3, 9, 3, &[OFF, AR, INFO_0, INFO_2, INFO_4, SIGNAL, T3_DUE]);
+    tests(3, 16, 4, &[OFF, INFO_0, INFO_2, INFO_4, SIGNAL, T3_DUE]);
+    tests(3, 22, 5, &[OFF, INFO_0, INFO_2, INFO_4, SIGNAL, T3_DUE]);
+    tests(3, 28, 6, &[OFF, LOSS, AR, INFO_0, INFO_2, INFO_4, T3_DUE]);
+    tests(3, 35, 7, &[OFF, LOSS, INFO_0, INFO_2, INFO_4]);
+    tests(3, 41, 8, &[OFF, AR, INFO_0, INFO_2, INFO_4, SIGNAL, T3_DUE]);
 }
 
-fn from_f1() {
-    row(1, 1, ON);
-    row(2, 1, T3_DUE);
-}
-
-fn from_f2() {
-    row(3, 2, OFF);
-    row(4, 2, INFO_0);
-    row(5, 2, INFO_2);
-    row(6, 2, INFO_4);
-    row(7, 2, SIGNAL);
-    row(8, 2, T3_DUE);
-}
-
-fn from_f3() {
-    row(9, 3, OFF);
-    row(10, 3, AR);
-    row(11, 3, INFO_0);
-    row(12, 3, INFO_2);
-    row(13, 3, INFO_4);
-    row(14, 3, SIGNAL);
-    row(15, 3, T3_DUE);
-}
-
-fn from_f4() {
-    row(16, 4, OFF);
-    row(17, 4, INFO_0);
-    row(18, 4, INFO_2);
-    row(19, 4, INFO_4);
-    row(20, 4, SIGNAL);
-    row(21, 4, T3_DUE);
-}
-
-fn from_f5() {
-    row(22, 5, OFF);
-    row(23, 5, INFO_0);
-    row(24, 5, INFO_2);
-    row(25, 5, INFO_4);
-    row(26, 5, SIGNAL);
-    row(27, 5, T3_DUE);
-}
-
-fn from_f6() {
-    row(28, 6, OFF);
-    row(29, 6, LOSS);
-    row(30, 6, AR);
-    row(31, 6, INFO_0);
-    row(32, 6, INFO_2);
-    row(33, 6, INFO_4);
-    row(34, 6, T3_DUE);
-}
-
-fn from_f7() {
-    row(35, 7, OFF);
-    row(36, 7, LOSS);
-    row(37, 7, INFO_0);
-    row(38, 7, INFO_2);
-    row(39, 7, INFO_4);
-}
-
-fn from_f8() {
-    row(41, 8, OFF);
-    row(42, 8, AR);
-    row(43, 8, INFO_0);
-    row(44, 8, INFO_2);
-    row(45, 8, INFO_4);
-    row(46, 8, SIGNAL);
-    row(47, 8, T3_DUE);
-}
-
-fn row(test: u8, state: u8, event: u8) {
-    let step = met(state, event);
+pub(crate) fn test(number: u8, state: u8, event: u8) {
+    let step = meets(unit(state, event), event);
     let after = step.terminal;
-    say(b"IV-3 ");
-    number(test);
-    say(b" F");
-    number(state);
+    before(b"IV-3 ", number, b" F", state);
     name(event);
-    number(after.state);
-    say(b" I");
-    number(info_sent(after.state));
-    say(b"\n");
+    outcome(b" F", after.state, info_sent(after.state), step.reply);
+    timer(b" T3 ", after.t3);
+    notes(step.notes);
 }
 
 fn name(event: u8) {
     match event {
-        ON => say(b" on F"),
-        OFF => say(b" off F"),
-        AR => say(b" PH-AR F"),
-        T3_DUE => say(b" T3 F"),
-        INFO_0 => say(b" INFO 0 F"),
-        SIGNAL => say(b" signal F"),
-        INFO_2 => say(b" INFO 2 F"),
-        INFO_4 => say(b" INFO 4 F"),
-        _ => say(b" loss F"),
+        ON => say(b" on"),
+        OFF => say(b" off"),
+        AR => say(b" PH-AR"),
+        T3_DUE => say(b" T3"),
+        INFO_0 => say(b" INFO 0"),
+        SIGNAL => say(b" signal"),
+        INFO_2 => say(b" INFO 2"),
+        INFO_4 => say(b" INFO 4"),
+        _ => say(b" loss"),
     }
 }
 
-// The stimulus, given to a terminal in a state.
-fn met(state: u8, event: u8) -> TerminalStep {
-    match event {
-        ON => unit(state, 0, false, 0).on(Periods(NOW)),
-        OFF => unit(state, 0, false, 0).off(Periods(NOW)),
-        AR => unit(state, 0, false, 0).ar(Periods(NOW)),
-        T3_DUE => unit(state, NOW, false, 0).timer_due(Periods(NOW)),
-        SIGNAL => unit(state, 0, false, 0).hear(downward(event), Periods(NOW)),
-        _ => unit(state, 0, true, 1).hear(downward(event), Periods(NOW)),
-    }
-}
-
-fn unit(state: u8, t3: u32, aligned: bool, run: u8) -> Terminal {
+// Before the stimulus T3 runs in every state in which it may run; to hear an INFO or a loss, the unit is in alignment and one unframed
+// period short of losing it.
+fn unit(state: u8, event: u8) -> Terminal {
+    let aligned = (event == INFO_0) | (INFO_2 <= event);
+    let runs = (2 < state) & (state != 7);
+    let later = if runs { 50_000 } else { 0 };
     Terminal {
-        t3,
+        t3: if event == T3_DUE { NOW } else { later },
         access: Access::fresh(),
         state,
-        alignment: Alignment { aligned, run },
-    }
-}
-
-// What the stimulus's line shows: for a signal or a loss, a single pulse.
-fn downward(event: u8) -> Downward {
-    match event {
-        INFO_0 => shown(&[0u8; 48]),
-        INFO_2 => in_info_2(),
-        INFO_4 => in_info_4(),
-        _ => in_a_pulse(),
-    }
-}
-
-fn in_info_2() -> Downward {
-    let mut line = [0u8; 48];
-    info2(&mut line);
-    shown(&line)
-}
-
-fn in_info_4() -> Downward {
-    let mut line = [0u8; 48];
-    info4(
-        Four {
-            first: true,
-            second: true,
-            third: true,
-            fourth: true,
+        alignment: Alignment {
+            aligned,
+            run: aligned as u8,
         },
-        &mut line,
-    );
-    shown(&line)
+    }
 }
 
-fn in_a_pulse() -> Downward {
+// The stimulus. For a signal or a loss the line has a single pulse.
+fn meets(unit: Terminal, event: u8) -> TerminalStep {
+    match event {
+        ON => unit.on(Periods(NOW)),
+        OFF => unit.off(Periods(NOW)),
+        AR => unit.ar(Periods(NOW)),
+        T3_DUE => unit.timer_due(Periods(NOW)),
+        _ => hears(unit, event),
+    }
+}
+
+fn hears(unit: Terminal, event: u8) -> TerminalStep {
     let mut line = [0u8; 48];
-    line[4] = 1;
-    shown(&line)
+    match event {
+        INFO_0 => {}
+        INFO_2 => {
+            info2(&mut line);
+        }
+        INFO_4 => {
+            info4(ONES, &mut line);
+        }
+        _ => {
+            line[4] = 1;
+        }
+    }
+    heard(unit, &line)
 }
 
-fn shown(line: &[u8; 48]) -> Downward {
+fn heard(unit: Terminal, line: &[u8; 48]) -> TerminalStep {
     let sensed = sense_down(line);
     match sensed {
-        SensedDown::Line(shows) => shows,
-        SensedDown::Refused(_) => Downward {
-            pulse: false,
-            framed: false,
-            a: false,
+        SensedDown::Line(shows) => unit.hear(shows, Periods(NOW)),
+        SensedDown::Refused(k) => TerminalStep {
+            terminal: unit,
+            notes: NO_NOTES,
+            reply: k,
         },
     }
 }

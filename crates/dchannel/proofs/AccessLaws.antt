@@ -415,6 +415,15 @@ pub completion-last : (x1 x2 : ℕ) (e next : Bool) (a : Access) → a .sent ≤
     → a .sent ≡ a .length
 completion-last x1 x2 e next a s h = omega (arith, completion-only x1 x2 e next a h)
 
+-- an image of 24 bits of which some have left, the last of them a 0
+abbrev leaving24 : ℕ → Access
+leaving24 n = record { length = 24; sent = n; count = 0; held = 1; low1 = false; low2 = false; last = false }
+
+-- with the closing flag's last bit to come nothing is completed; at its echo the frame is
+pub closing-flag : (turn 8 10 false false (leaving24 23) .done ≡ 0) × (turn 8 10 false false (leaving24 24) .done ≡ 1)
+unfolding turn afterE sendsNext completes
+closing-flag = (refl, refl)
+
 -- "that class then goes low", and no other: the other one follows C
 pub class1-lowers : (x1 x2 : ℕ) (e next : Bool) (a : Access) → turn x1 x2 e next a .done ≡ 1
     → (turn x1 x2 e next a .access .low1 ≡ true)
