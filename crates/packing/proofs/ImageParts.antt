@@ -6,15 +6,16 @@ use Prim.Native.Nat.{ℕ, zero, suc, _+_, _-_, _*_, _/_, _%_, _^_, _≤_, _<_}
 use native.Mathlib.Numerals.{add-one}
 use native.Mathlib.Omega.{arith}
 use lib.Dec.{eqb}
-use lib.ListN.{length, take, drop, getD, replicate, length-append, take-append-drop}
-use lib.Seq.{length-take-le, take-suc}
+use lib.ListN.{length, take, drop, getD, set, replicate, length-append, length-set, take-append-drop}
+use lib.Seq.{length-take-le, take-suc, take-add}
 use borrow.Author.Tests.{ne-eqb, eq-eqb}
 use Rattle.hdlc.specs.Bits.{lowBits, bodyBits}
 use Rattle.hdlc.specs.Ones.{onesAfter}
 use Rattle.hdlc.specs.Image.{flag, stuff, image, longestBody, longestImage}
-use Rattle.hdlc.proofs.ImageLaws.{length-bodyBits, stuff-append, stuff-ones, length-stuff-most, length-stuff-least}
+use Rattle.hdlc.proofs.ImageLaws.{length-image, length-bodyBits, stuff-append, stuff-ones, length-stuff-most, length-stuff-least}
 use Rattle.packing.specs.Packing.{imageRoom, octetsFor, filledOctets, onto, packedBit}
-use Rattle.packing.specs.Packer.{freshPacker, putBit, putBitOctets, putBits, putBitsOctets}
+use Rattle.packing.specs.Packer.{freshPacker, putBit, storeOctet, putBitOctets, putBits, putBitsOctets}
+use Rattle.packing.specs.Octets.{shifted}
 use Rattle.packing.proofs.PackerLaws.{put-append, octets-append, put-parts, octets-parts, stuff-parts, body-bit, put-step, octets-step, put-at, put-ones, length-putBits, filled-bits}
 use Rattle.packing.specs.declared.image.Packer.{Packer}
 
@@ -117,65 +118,76 @@ take-replicate zero n l = refl
 take-replicate (suc k) zero l = absurd (omega arith)
 take-replicate (suc k) (suc n) l = rw (take-replicate k n (omega arith))
 
--- the four parts of an image: flag, body, flag, and 0s up to a whole octet
-module _ (body buf b₁ : List ℕ) (p₁ : Packer) (most : length body ≤ longestBody) (long : imageRoom ≤ length buf)
-    (e₁ : p₁ ≡ putBits (take 8 (bodyBits (126 ∷ []))) freshPacker)
-    (i₁ : b₁ ≡ putBitsOctets (take 8 (bodyBits (126 ∷ []))) freshPacker buf) where
-  flag-put : (p₁ .at ≡ 8) × (p₁ .ones ≡ 0)
-  unfolding putBits putBit bodyBits lowBits
-  flag-put = (rw e₁, rw e₁)
+-- the packer after the opening flag, which is the first octet
+abbrev flagPacker : Packer
+flagPacker = record { at = 8; ones = 0; octet = 126 }
 
-  body-fits : p₁ .at + (length (stuff (p₁ .ones) (bodyBits body)) + 8) ≤ longestImage
-  body-fits =
-      omega (arith, flag-put .0, flag-put .1, length-stuff-most (bodyBits body) (p₁ .ones) (omega (arith, flag-put .1)), length-bodyBits body)
+flag-packer : putBits flag freshPacker ≡ flagPacker
+unfolding putBits putBit shifted
+flag-packer = refl
 
-  pub after-flag : (p₁ .at + length (stuff (p₁ .ones) (bodyBits body)) ≤ 8 * imageRoom) × (p₁ .ones < 5) × (imageRoom ≤ length b₁)
-  after-flag =
-      (omega (arith, body-fits), omega (arith, flag-put .1), rw (i₁, length-putBits (take 8 (bodyBits (126 ∷ []))) freshPacker buf) long)
+flag-octets : (buf : List ℕ) → putBitsOctets flag freshPacker buf ≡ set buf 0 126
+unfolding putBitsOctets putBit putBitOctets storeOctet shifted
+flag-octets buf = refl
 
-  module _ (p₂ : Packer) (b₂ : List ℕ) (e₂ : p₂ ≡ putBits (stuff (p₁ .ones) (bodyBits body)) p₁)
-      (i₂ : b₂ ≡ putBitsOctets (stuff (p₁ .ones) (bodyBits body)) p₁ b₁) where
+-- the parts of an image: flag, body, flag, and 0s up to a whole octet
+module _ (body buf : List ℕ) (most : length body ≤ longestBody) (long : imageRoom ≤ length buf) where
+  body-fits : 8 + (length (stuff 0 (bodyBits body)) + 8) ≤ longestImage
+  body-fits = omega (arith, length-stuff-most (bodyBits body) 0 (omega arith), length-bodyBits body)
+
+  pub after-flag : (8 + length (stuff 0 (bodyBits body)) ≤ 8 * imageRoom) × (0 < 5) × (imageRoom ≤ length (set buf 0 126))
+  after-flag = (omega (arith, body-fits), omega arith, rw length-set long)
+
+  module _ (p₂ : Packer) (b₂ : List ℕ) (e₂ : p₂ ≡ putBits (stuff 0 (bodyBits body)) flagPacker)
+      (i₂ : b₂ ≡ putBitsOctets (stuff 0 (bodyBits body)) flagPacker (set buf 0 126)) where
+    at-end : p₂ .at + 8 ≡ length (image body)
+    at-end = rw e₂ (omega (arith, put-at (stuff 0 (bodyBits body)) flagPacker, length-image body))
+
     pub after-body : (p₂ .at + 8 ≤ longestImage) × (p₂ .ones < 5) × (imageRoom ≤ length b₂)
     after-body =
-        let S : List Bool = stuff (p₁ .ones) (bodyBits body) in (
-          rw e₂ (omega (arith, body-fits, put-at S p₁)),
-          rw e₂ (omega (arith, put-ones S p₁, flag-put .1, stuff-ones (p₁ .ones) (bodyBits body) (omega (arith, flag-put .1)))),
-          rw (i₂, length-putBits S p₁ b₁) (after-flag .2),
+        let S : List Bool = stuff 0 (bodyBits body) in (
+          omega (arith, body-fits, at-end, length-image body),
+          rw e₂ (omega (arith, put-ones S flagPacker, stuff-ones 0 (bodyBits body) (omega arith))),
+          rw (i₂, length-putBits S flagPacker (set buf 0 126)) (after-flag .2),
         )
 
-    body-packer : p₂ ≡ putBits (stuff 0 (bodyBits body)) p₁
-    body-packer = e₂ ∙ ap (λ (n : ℕ). putBits (stuff n (bodyBits body)) p₁) (flag-put .1)
+    closed-buffer : putBitsOctets flag p₂ b₂ ≡ putBitsOctets (image body) freshPacker buf
+    unfolding image
+    closed-buffer =
+        rw (
+          octets-append flag (stuff 0 (bodyBits body) ++ flag) freshPacker buf,
+          octets-append (stuff 0 (bodyBits body)) flag (putBits flag freshPacker) (putBitsOctets flag freshPacker buf),
+          flag-packer,
+          flag-octets buf,
+          ← e₂,
+          ← i₂,
+        )
 
-    body-buffer : b₂ ≡ putBitsOctets (stuff 0 (bodyBits body)) p₁ b₁
-    body-buffer = i₂ ∙ ap (λ (n : ℕ). putBitsOctets (stuff n (bodyBits body)) p₁ b₁) (flag-put .1)
+    closed-packer : putBits flag p₂ ≡ putBits (image body) freshPacker
+    unfolding image
+    closed-packer =
+        rw (
+          put-append flag (stuff 0 (bodyBits body) ++ flag) freshPacker,
+          put-append (stuff 0 (bodyBits body)) flag (putBits flag freshPacker),
+          flag-packer,
+          ← e₂,
+        )
 
-    module _ (p₃ : Packer) (b₃ : List ℕ) (e₃ : p₃ ≡ putBits (take 8 (bodyBits (126 ∷ []))) p₂)
-        (i₃ : b₃ ≡ putBitsOctets (take 8 (bodyBits (126 ∷ []))) p₂ b₂) where
-      pub after-image : (p₃ .at ≤ longestImage) × (p₃ .ones ≡ 0) × (imageRoom ≤ length b₃)
-      unfolding putBits putBit bodyBits lowBits
-      after-image =
-          (rw e₃ (omega (arith, after-body .0)), rw e₃, rw (i₃, length-putBits (take 8 (bodyBits (126 ∷ []))) p₂ b₂) (after-body .2))
-
-      image-packer : p₃ ≡ putBits (image body) freshPacker
-      unfolding image bodyBits lowBits
-      image-packer =
-          rw (put-append flag (stuff 0 (bodyBits body) ++ flag) freshPacker, put-append (stuff 0 (bodyBits body)) flag (putBits flag freshPacker), ← e₁, ← body-packer) e₃
-
-      image-buffer : b₃ ≡ putBitsOctets (image body) freshPacker buf
-      unfolding image bodyBits lowBits
-      image-buffer =
-          rw (octets-append flag (stuff 0 (bodyBits body) ++ flag) freshPacker buf, octets-append (stuff 0 (bodyBits body)) flag (putBits flag freshPacker) (putBitsOctets flag freshPacker buf), ← e₁, ← i₁, ← body-packer, ← body-buffer) i₃
-
-      pub image-bits : p₃ .at ≡ length (image body)
-      image-bits = rw image-packer (put-at (image body) freshPacker ∙ omega arith)
-
-      joined : (k : ℕ) → putBitsOctets (replicate k false) p₃ b₃ ≡ putBitsOctets (image body ++ replicate k false) freshPacker buf
-      joined k = rw (octets-append (image body) (replicate k false) freshPacker buf, ← image-packer, ← image-buffer)
-
-      pub image-octets : (b₄ : List ℕ) → b₄ ≡ putBitsOctets (take ((8 - p₃ .at % 8) % 8) (bodyBits (0 ∷ []))) p₃ b₃ → b₄ ≡ onto (filledOctets (image body)) buf
+    module _ (end : ℕ) (f : end ≡ p₂ .at + 8) where
+      closing-bits : take (8 + (8 - end % 8) % 8) (bodyBits (126 ∷ 0 ∷ [])) ≡ flag ++ replicate ((8 - end % 8) % 8) false
       unfolding bodyBits lowBits
-      image-octets b₄ e₄ =
-          let k : ℕ = (8 - p₃ .at % 8) % 8 in
-          let z : take k (bodyBits (0 ∷ [])) ≡ replicate k false = take-replicate k 8 (omega arith) in
+      closing-bits = take-add 8 ((8 - end % 8) % 8) (bodyBits (126 ∷ 0 ∷ [])) ∙ ap (λ (l : List Bool). flag ++ l) (take-replicate ((8 - end % 8) % 8) 8 (omega arith))
+
+      pub image-bits : end ≡ length (image body)
+      image-bits = f ∙ at-end
+
+      pub image-octets : (b₃ : List ℕ) → b₃ ≡ putBitsOctets (take (8 + (8 - end % 8) % 8) (bodyBits (126 ∷ 0 ∷ []))) p₂ b₂
+          → b₃ ≡ onto (filledOctets (image body)) buf
+      image-octets b₃ e₃ =
+          let k : ℕ = (8 - end % 8) % 8 in
           let n : length (image body) + k ≡ 8 * octetsFor (length (image body)) = omega (arith, image-bits) in
-          e₄ ∙ (ap (λ (l : List Bool). putBitsOctets l p₃ b₃) z ∙ (joined k ∙ filled-bits (image body) k buf n (omega (arith, image-bits, after-image .0))))
+          let whole : putBitsOctets (flag ++ replicate k false) p₂ b₂ ≡ putBitsOctets (image body ++ replicate k false) freshPacker buf =
+          rw (octets-append flag (replicate k false) p₂ b₂, octets-append (image body) (replicate k false) freshPacker buf, closed-packer, closed-buffer) in
+          e₃
+          ∙ (ap (λ (l : List Bool). putBitsOctets l p₂ b₂) closing-bits
+          ∙ (whole ∙ filled-bits (image body) k buf n (omega (arith, at-end, after-body .0))))

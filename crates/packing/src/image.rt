@@ -139,19 +139,20 @@ impl Packer {
     }
 }
 
-// The image of a body, and its length in bits.
+// The image of a body, with 0s up to a whole octet, and its length in bits.
 fn pack_image(body: &[u8], out: &mut [u8]) -> u16
     requires { ⌜ (imageRoom ≤ length (now out)) × (length (now body) ≤ longestBody) ⌝ }
     ensures { λ r. ⌜ (r ≡ length (image (now (body .entry)))) × (now (out .exit) ≡ onto (filledOctets (image (now (body .entry)))) (now (out .entry))) ⌝ }
 {
-    let flag = [FLAG];
+    out[0] = FLAG;
     let opened = Packer {
-        at: 0,
+        at: 8,
         ones: 0,
-        octet: 0,
-    }.put_plain(&flag, 8, out);
-    let closed = opened.put_body(body, out).put_plain(&flag, 8, out);
-    let fill = [0u8];
-    closed.put_plain(&fill, (8 - closed.at % 8) % 8, out);
-    closed.at
+        octet: FLAG,
+    };
+    let put = opened.put_body(body, out);
+    let end = put.at + 8;
+    let closing = [FLAG, 0];
+    put.put_plain(&closing, 8 + (8 - end % 8) % 8, out);
+    end
 }
