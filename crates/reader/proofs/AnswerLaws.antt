@@ -10,7 +10,7 @@ use lib.ListN.{length}
 use borrow.Author.Tests.{lt-ltb, ltb-true, ltb-false, ne-eqb, eqb-true}
 use Rattle.cases.proofs.ByCases.{by-test}
 use Rattle.hdlc.specs.Image.{longestBody}
-use Rattle.reader.specs.Counters.{mostBits, openedReader, oneMore, takeUp, afterBit, isData, fills, storeWhole, betweenFlags, abortedAfter, answerTo, readBit, readOctets}
+use Rattle.reader.specs.Counters.{mostBits, openedReader, oneMore, afterBit, isData, fills, storeWhole, betweenFlags, abortedAfter, answerTo, readBit, readOctets}
 use Rattle.reader.specs.Calls.{octetsAfter, answersAfter, speaks, speaking}
 use Rattle.reader.specs.declared.Reader.{Reader}
 use Rattle.reader.specs.declared.Read.{Read}
@@ -36,17 +36,13 @@ more-by-one : (n : ℕ) → oneMore n ≤ n + 1
 unfolding oneMore
 more-by-one n = by-test (ltb n mostBits) (λ t. simp t (omega arith)) (λ t. simp t (omega (arith, ltb-false n mostBits t)))
 
-take-bits : (b : Bool) (n : ℕ) (z : Bool) (r : Reader) → takeUp b n z r .bits ≤ r .bits + 1
-unfolding takeUp
-take-bits b n z r = by-test (r .opened) (λ o. simp o (more-by-one (r .bits))) (λ o. simp o (omega arith))
-
 after-bits : (b : Bool) (r : Reader) → afterBit b r .bits ≤ r .bits + 1
 unfolding afterBit
-after-bits true r = by-test (ltb (r .ones) 6) (λ t. simp t (take-bits true (r .ones + 1) (r .zero) r)) (λ t. simp t (omega arith))
+after-bits true r = by-test (ltb (r .ones) 6) (λ t. simp t (more-by-one (r .bits))) (λ t. simp t (omega arith))
 after-bits false r =
     by-test (eqb (r .ones) 6)
     (λ t. simp t (omega arith))
-    (λ t. by-test (eqb (r .ones) 5) (λ e. simp (t, e) (omega arith)) (λ e. simp (t, e) (take-bits false 0 (r .opened) r)))
+    (λ t. by-test (eqb (r .ones) 5) (λ e. simp (t, e) (omega arith)) (λ e. simp (t, e) (more-by-one (r .bits))))
 
 octets-stay : (bs : List Bool) (r : Reader) (buf : List ℕ) → r .bits + length bs ≤ 7 → octetsAfter bs r buf ≡ buf
 unfolding octetsAfter
@@ -91,14 +87,10 @@ heard-stays b r buf n e bs l =
 abbrev Resting : ℕ → Reader → Type 0
 Resting k r = (r .ones + k ≤ 6) ⊎ ((r .opened ≡ false) × (r .ones ≡ 7))
 
-take-ones : (b : Bool) (n : ℕ) (z : Bool) (r : Reader) → (takeUp b n z r .ones ≡ n)
-unfolding takeUp
-take-ones b n z r = by-test (r .opened) (λ o. simp o) (λ o. simp o)
-
 -- a 0 that ends no flag
 zero-ones : (r : Reader) → eqb (r .ones) 6 ≡ false → afterBit false r .ones ≡ 0
 unfolding afterBit
-zero-ones r t = by-test (eqb (r .ones) 5) (λ e. simp (t, e)) (λ e. simp (t, e) (take-ones false 0 (r .opened) r))
+zero-ones r t = by-test (eqb (r .ones) 5) (λ e. simp (t, e)) (λ e. simp (t, e))
 
 rests-on : (k : ℕ) (b : Bool) (r : Reader) → suc k ≤ 6 → Resting (suc k) r
     → (answerTo b r ≡ Nothing) × Resting k (afterBit b r)
@@ -108,7 +100,7 @@ rests-on k b r l (inl h) =
     (by-test (r .opened) (λ o. simp (o, t)) (λ o. simp o), inl (few b t))
   where
     few : (b : Bool) → eqb (r .ones) 6 ≡ false → afterBit b r .ones + k ≤ 6
-    few true t = simp (lt-ltb (r .ones) 6 (omega arith)) (omega (arith, take-ones true (r .ones + 1) (r .zero) r))
+    few true t = simp (lt-ltb (r .ones) 6 (omega arith)) (omega arith)
     few false t = omega (arith, zero-ones r t)
 rests-on k b r l (inr h) = (simp (h .0), waits b)
   where

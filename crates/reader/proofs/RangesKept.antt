@@ -9,7 +9,7 @@ use lib.ListN.{length}
 use borrow.Author.Tests.{le-ltb, ltb-true, ltb-false, le-leb}
 use Rattle.cases.proofs.ByCases.{by-test, neither}
 use Rattle.hdlc.specs.Image.{longestBody}
-use Rattle.reader.specs.Counters.{mostBits, freshReader, oneMore, takeUp, afterBit, readBit}
+use Rattle.reader.specs.Counters.{mostBits, freshReader, oneMore, afterBit, readBit}
 use Rattle.reader.specs.ReaderRange.{readerInRange}
 use Rattle.reader.specs.declared.Reader.{Reader}
 
@@ -31,25 +31,18 @@ unfolding oneMore
 more-most n = by-test (ltb n mostBits) (λ t. simp t (omega (arith, ltb-true n mostBits t))) (λ t. simp t (omega arith))
 
 module _ (r : Reader) (h : readerInRange r ≡ true) where
-  take-in-range : (b : Bool) (n : ℕ) (z : Bool) → n ≤ 7 → readerInRange (takeUp b n z r) ≡ true
-  unfolding takeUp
-  take-in-range b n z l =
-      by-test (r .opened)
-      (λ o. simp o (in-range _ (more-most (r .bits)) l))
-      (λ o. simp o (in-range _ (bits-most r h) l))
-
   after-in-range : (b : Bool) → readerInRange (afterBit b r) ≡ true
   unfolding afterBit
   after-in-range true =
       by-test (ltb (r .ones) 6)
-      (λ t. simp t (take-in-range true (r .ones + 1) (r .zero) (omega (arith, ltb-true (r .ones) 6 t))))
+      (λ t. simp t (in-range _ (more-most (r .bits)) (omega (arith, ltb-true (r .ones) 6 t))))
       (λ t. simp t fresh-in-range)
   after-in-range false =
       by-test (eqb (r .ones) 6)
       (λ t. simp t (in-range _ (omega arith) (omega arith)))
       (λ t. by-test (eqb (r .ones) 5)
       (λ e. simp (t, e) (in-range _ (bits-most r h) (omega arith)))
-      (λ e. simp (t, e) (take-in-range false 0 (r .opened) (omega arith))))
+      (λ e. simp (t, e) (in-range _ (more-most (r .bits)) (omega arith))))
 
   pub read-in-range : (b : Bool) (buf : List ℕ) → readerInRange (readBit b buf r .reader) ≡ true
   unfolding readBit

@@ -81,7 +81,7 @@ module _ (r : Reader) (buf : List ℕ) (s : Reading) (long : longestBody ≤ len
     data-frame : (b : Bool) (n : ℕ) (z : Bool) → isData b (r .ones) ≡ true → n ≤ 6 → z ≡ zeroCounts (b ∷ h .frame o .since)
         → dataOf (b ∷ h .frame o .since) ≡ dataOf (h .frame o .since) ++ (b ∷ [])
         → FrameRead (takeUp b n z r) (storeWhole b r buf) (b ∷ s .raw)
-    unfolding storeWhole fills eighth takeUp
+    unfolding storeWhole fills eighth
     data-frame b n z k few e d =
         let f : FrameRead r buf (s .raw) = h .frame o in
         let D : List Bool = contents (s .raw) in
@@ -96,10 +96,6 @@ module _ (r : Reader) (buf : List ℕ) (s : Reading) (long : longestBody ≤ len
         (λ t. simp (opened-too o, k, x ∙ t)
         (record { since = b ∷ f .since; raw-is = p; few = few; zero-is = e; bits-is = c; kept = rw d′ (kept-on longestBody D b (f .kept) t) }))
 
-  takeUp-opened : (b : Bool) (n : ℕ) (z : Bool) → (takeUp b n z r .opened ≡ s .opened) × (takeUp b n z r .ones ≡ n)
-  unfolding takeUp
-  takeUp-opened b n z = by-test (r .opened) (λ o. simp o (sym o ∙ h .same-state, refl)) (λ o. simp o (sym o ∙ h .same-state, refl))
-
   keeps-one : ltb (r .ones) 6 ≡ true → StandsFor (afterBit true r) (storeWhole true r buf) (next s true)
   unfolding afterBit isData onesSinceZero zeroCounts
   keeps-one t =
@@ -107,8 +103,8 @@ module _ (r : Reader) (buf : List ℕ) (s : Reading) (long : longestBody ≤ len
       simp t
       (rw (bit-adds (s .opened) (s .raw) true (few-leading (omega arith)))
       (record {
-        same-state = takeUp-opened true (r .ones + 1) (r .zero) .0;
-        ones-is = simp (rw (h .ones-is) at t) (takeUp-opened true (r .ones + 1) (r .zero) .1 ∙ ap (λ (k : ℕ). k + 1) (h .ones-is));
+        same-state = h .same-state;
+        ones-is = simp (rw (h .ones-is) at t) (ap (λ (k : ℕ). k + 1) (h .ones-is));
         frame = λ o. data-frame o true (r .ones + 1) (r .zero) t (omega arith) (h .frame o .zero-is) (data-one (h .frame o .since));
       }))
 
@@ -172,8 +168,8 @@ module _ (r : Reader) (buf : List ℕ) (s : Reading) (long : longestBody ≤ len
       simp (t, e)
       (rw (next-zero s (rw (h .ones-is) at t))
       (record {
-        same-state = takeUp-opened false 0 (r .opened) .0;
-        ones-is = takeUp-opened false 0 (r .opened) .1;
+        same-state = h .same-state;
+        ones-is = refl;
         frame = λ o.
             let five : eqb (leading (h .frame o .since)) 5 ≡ false = rw (leading-is o) e in
             data-frame o false 0 (r .opened) (simp (t, e)) (omega arith) (simp five (opened-too o)) (data-zero (h .frame o .since) five);

@@ -28,12 +28,9 @@ openedReader = record { bits = 0; ones = 0; octet = 0; opened = true; zero = fal
 unfoldable pub oneMore : ℕ → ℕ
 oneMore n = cond (ltb n mostBits) (n + 1) mostBits
 
--- a data bit is taken up, where a flag has been read; n and z are the new number of 1s, and whether the last 0 counts
-unfoldable pub takeUp : Bool → ℕ → Bool → Reader → Reader
-takeUp b n z r =
-    cond (r .opened)
-    (record { bits = oneMore (r .bits); ones = n; octet = shifted (r .octet) b; opened = true; zero = z })
-    (record { bits = r .bits; ones = n; octet = r .octet; opened = false; zero = z })
+-- a data bit is taken up; n and z are the new number of 1s, and whether the last 0 counts
+abbrev pub takeUp : Bool → ℕ → Bool → Reader → Reader
+takeUp b n z r = record { bits = oneMore (r .bits); ones = n; octet = shifted (r .octet) b; opened = r .opened; zero = z }
 
 -- the reader after a bit: the seventh 1 breaks the frame off; a 0 after six 1s ends a flag, after five it is an inserted one
 unfoldable pub afterBit : Bool → Reader → Reader

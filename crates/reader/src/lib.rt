@@ -18,7 +18,8 @@ const MOST_BITS: u16 = BODY_BITS + 8;
 
 // What has been read of the frame under way, in counters. The frame's whole octets stand in a lent buffer.
 pub struct Reader {
-    // Bits of the frame under way, inserted 0s removed, counted up to more than a heard frame and its flag have.
+    // Bits of the frame under way, inserted 0s removed, counted up to more than a heard frame and its flag have. Without meaning, as the
+    // octet, until a flag has been read.
     pub bits: u16,
     // The 1s read since the last 0; 7 for seven or more, or where no 0 has been read.
     pub ones: u8,
@@ -163,36 +164,27 @@ impl Reader {
         self.take_up(false, 0, self.opened)
     }
 
-    // The record after a data bit, which is taken up where a flag has been read.
+    // The record after a data bit, with the new number of 1s, and whether the last 0 counts.
     fn take_up(self, bit: bool, ones: u8, zero: bool) -> Self
         ensures { λ r. ⌜ r ≡ takeUp bit ones zero self ⌝ }
     {
-        if self.opened {
-            let octet = packing::bits::shifted(self.octet, bit);
-            if self.bits < MOST_BITS {
-                let bits = self.bits + 1;
-                Reader {
-                    bits,
-                    ones,
-                    octet,
-                    opened: true,
-                    zero,
-                }
-            } else {
-                Reader {
-                    bits: MOST_BITS,
-                    ones,
-                    octet,
-                    opened: true,
-                    zero,
-                }
+        let octet = packing::bits::shifted(self.octet, bit);
+        let opened = self.opened;
+        if self.bits < MOST_BITS {
+            let bits = self.bits + 1;
+            Reader {
+                bits,
+                ones,
+                octet,
+                opened,
+                zero,
             }
         } else {
             Reader {
-                bits: self.bits,
+                bits: MOST_BITS,
                 ones,
-                octet: self.octet,
-                opened: false,
+                octet,
+                opened,
                 zero,
             }
         }
