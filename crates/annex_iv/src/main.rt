@@ -4,7 +4,7 @@
 // the whole bus.
 ghost use Prim.Native.Nat.{_≤_};
 ghost use lib.ListN.{length};
-use line::fields::Four;
+use frame::fields::Four;
 
 mod d_channel;
 mod network_end;

@@ -2,8 +2,8 @@
 use libc::STDIN_FILENO;
 use libc::STDOUT_FILENO;
 use packing::image::Imaged;
-use packing::reader::Answer;
-use packing::reader::Reader;
+use reader::Reader;
+use reader::ReaderAnswer;
 
 fn text(t: &[u8]) {
     io::write_all(STDOUT_FILENO, t);
@@ -41,7 +41,7 @@ fn bit(b: bool) {
 fn bits(o: &[u8], count: u16) {
     let mut i: u16 = 0;
     while i < count {
-        bit(packing::image::bit_at(o, i));
+        bit(packing::image::packed_bit(o, i));
         i += 1;
     }
 }
@@ -66,20 +66,20 @@ fn image(body: &[u8], out: &mut [u8], shown: bool) {
 }
 
 // A line for what the reader answers to the bit at a place, unless it is nothing.
-fn answer(place: usize, answer: Answer, heard: &[u8]) {
+fn answer(place: usize, answer: ReaderAnswer, heard: &[u8]) {
     match answer {
-        Answer::Nothing => {}
-        Answer::Heard(n) => {
+        ReaderAnswer::Nothing => {}
+        ReaderAnswer::Heard(n) => {
             number(place);
             text(b" heard ");
             first(heard, n as usize);
             text(b"\n");
         }
-        Answer::Torn => {
+        ReaderAnswer::Torn => {
             number(place);
             text(b" torn\n");
         }
-        Answer::Refused(k) => {
+        ReaderAnswer::Refused(k) => {
             number(place);
             text(b" refused ");
             number(k as usize);
@@ -88,9 +88,9 @@ fn answer(place: usize, answer: Answer, heard: &[u8]) {
     }
 }
 
-// What a cleared reader answers to the digits of a bit string, each with the digit's place.
+// What a fresh reader answers to the digits of a bit string, each with the digit's place.
 fn answers(digits: &[u8], heard: &mut [u8]) -> Reader {
-    let mut reader = Reader::clear();
+    let mut reader = Reader::fresh();
     let mut i: usize = 0;
     while i < digits.len() {
         let read = reader.read(digits[i] == b'1', heard);

@@ -11,7 +11,7 @@ use borrow.Author.Tests.{eqb-true, eqb-false, eq-eqb, ne-eqb, ltb-true, lt-ltb, 
 use Rattle.hdlc.specs.Bits.{lowBits, bodyBits, numberLowFirst, octets}
 use Rattle.hdlc.specs.Image.{flag, stuff, image, IsBody, longestBody, longestImage, allOctets, isBody}
 use Rattle.hdlc.specs.Reading.{unstuff}
-use Rattle.hdlc.specs.Ones.{endingOnes, Runs}
+use Rattle.hdlc.specs.Ones.{onesAfter, endingOnes, Runs}
 use Rattle.cases.proofs.ByCases.{by-test, both}
 use Rattle.hdlc.proofs.OnesLaws.{runs-append, runs-more, runs-take}
 
@@ -34,6 +34,27 @@ pub length-bodyBits : (body : List ℕ) → length (bodyBits body) ≡ 8 * lengt
 unfolding bodyBits lowBits
 length-bodyBits [] = refl
 length-bodyBits (o ∷ os) = omega (arith, length-bodyBits os)
+
+pub bodyBits-append : (a b : List ℕ) → bodyBits (a ++ b) ≡ bodyBits a ++ bodyBits b
+unfolding bodyBits lowBits
+bodyBits-append [] b = refl
+bodyBits-append (o ∷ os) b = rw (bodyBits-append os b)
+
+-- bits that are stuffed one part after the other: the second part goes on with the 1s that the first ended with
+pub stuff-append : (k : ℕ) (xs ys : List Bool) → stuff k (xs ++ ys) ≡ stuff k xs ++ stuff (onesAfter k (stuff k xs)) ys
+unfolding stuff onesAfter
+stuff-append k [] ys = refl
+stuff-append k (true ∷ xs) ys =
+    by-test (eqb k 4) (λ e. simp (e, stuff-append 0 xs ys)) (λ e. simp (e, stuff-append (suc k) xs ys))
+stuff-append k (false ∷ xs) ys = rw (stuff-append 0 xs ys)
+
+-- .. which are at most four
+pub stuff-ones : (k : ℕ) (bs : List Bool) → k ≤ 4 → onesAfter k (stuff k bs) ≤ 4
+unfolding stuff onesAfter
+stuff-ones k [] h = h
+stuff-ones k (true ∷ bs) h =
+    by-test (eqb k 4) (λ e. simp e (stuff-ones 0 bs (omega arith))) (λ e. simp e (stuff-ones (suc k) bs (omega (arith, eqb-false k 4 e))))
+stuff-ones k (false ∷ bs) h = stuff-ones 0 bs (omega arith)
 
 -- "inserted 0s removed" undoes "a 0 after every five 1s"
 pub unstuff-stuff : (bs : List Bool) (k : ℕ) → k ≤ 4 → unstuff k (stuff k bs) ≡ bs

@@ -13,7 +13,7 @@ use borrow.Author.Tests.{eqb-true, eqb-false, eq-eqb, le-leb, le-ltb}
 use Rattle.hdlc.specs.Bits.{bodyBits}
 use Rattle.hdlc.specs.Image.{flag, stuff, image, IsBody, longestBody}
 use Rattle.hdlc.specs.Reading.{Reading, Said, nothing, torn, heard, cleared, startsWith, sevenOnes, unstuff, reversed, rest, contents, between, aborted, says, said, next}
-use Rattle.hdlc.specs.Ones.{onesAfter, Runs}
+use Rattle.hdlc.specs.Ones.{onesAfter, leading, Runs}
 use Rattle.cases.proofs.ByCases.{by-test}
 use Rattle.hdlc.proofs.OnesLaws.{runs-after}
 use Rattle.hdlc.proofs.ImageLaws.{octets-bodyBits, length-bodyBits, unstuff-stuff, stuff-runs, length-image}
@@ -109,13 +109,8 @@ pub waiting-silent : (r : Reading) (b : Bool) → r .opened ≡ false → said r
 unfolding said says
 waiting-silent r b e = rw e
 
--- the 1s that lead a list: the raw bits are newest first
-unfoldable pub leading : List Bool → ℕ
-leading [] = 0
-leading (true ∷ bs) = suc (leading bs)
-leading (false ∷ bs) = 0
-
-leading-reversed : (bs cs : List Bool) → leading (reversed bs ++ cs) ≡ onesAfter (leading cs) bs
+-- the raw bits are newest first
+pub leading-reversed : (bs cs : List Bool) → leading (reversed bs ++ cs) ≡ onesAfter (leading cs) bs
 unfolding leading reversed onesAfter
 leading-reversed [] cs = refl
 leading-reversed (true ∷ bs) cs = rw append-assoc (leading-reversed bs (true ∷ cs))
@@ -179,12 +174,12 @@ unfolding reversed
 reversed-append [] cs = sym (append-nil (reversed cs))
 reversed-append (b ∷ bs) cs = rw (reversed-append bs cs, append-assoc)
 
-reversed-twice : (bs : List Bool) → reversed (reversed bs) ≡ bs
+pub reversed-twice : (bs : List Bool) → reversed (reversed bs) ≡ bs
 unfolding reversed
 reversed-twice [] = refl
 reversed-twice (b ∷ bs) = rw (reversed-append (reversed bs) (b ∷ []), reversed-twice bs)
 
-reversed-zero : (bs : List Bool) → rest (reversed (bs ++ (false ∷ []))) ≡ reversed bs
+pub reversed-zero : (bs : List Bool) → rest (reversed (bs ++ (false ∷ []))) ≡ reversed bs
 unfolding rest reversed
 reversed-zero bs = rw (reversed-append bs (false ∷ []))
 

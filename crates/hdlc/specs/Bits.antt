@@ -1,7 +1,7 @@
 -- Bits and octets. A bit is a Bool, true for 1. Octets go low-order bit first (document 01, "D access (6.1)").
 use mathlib.Core.Bool.{Bool, true, false, cond, not}
 use mathlib.Core.List.{List, [], _∷_, _++_}
-use Prim.Native.Nat.{ℕ, zero, suc, _+_, _*_, _/_, _%_}
+use Prim.Native.Nat.{ℕ, zero, suc, _+_, _*_, _/_, _%_, _^_}
 use lib.Dec.{eqb}
 use lib.ListN.{take, drop}
 
@@ -29,3 +29,7 @@ numberLowFirst (b ∷ bs) = cond b 1 0 + 2 * numberLowFirst bs
 unfoldable pub octets : ℕ → List Bool → List ℕ
 octets zero bs = []
 octets (suc n) bs = numberLowFirst (take 8 bs) ∷ octets n (drop 8 bs)
+
+-- bit k of an octet, from the low-order one
+unfoldable pub bitOf : ℕ → ℕ → Bool
+bitOf o k = eqb (o / (2 ^ k) % 2) 1

@@ -13,6 +13,12 @@ onesAfter k (false ∷ bs) = onesAfter 0 bs
 unfoldable pub endingOnes : List Bool → ℕ
 endingOnes bs = onesAfter 0 bs
 
+-- the number of 1s that a list begins with
+unfoldable pub leading : List Bool → ℕ
+leading [] = 0
+leading (true ∷ bs) = suc (leading bs)
+leading (false ∷ bs) = 0
+
 -- no more than m 1s in a row, with the k 1s that stand before the list
 abbrev pub Runs : ℕ → ℕ → List Bool → Type 0
 Runs m k [] = Unit {0}

@@ -1,10 +1,4 @@
--- The reader's counters say what the reader over raw bits says (Counted), the packed octets are the image (Drawing), every method keeps
--- the ranges (RangesKept); and lemmas.
-pub mod Octets
-pub mod RawBits
-pub mod Held
-pub mod Counted
-pub mod RangesKept
-pub mod Drawing
-pub mod Returns
-pub mod Draw
+-- The packed octets are the image (PackerLaws, ImageParts); laws of bits kept in octets (KeptLaws).
+pub mod KeptLaws
+pub mod PackerLaws
+pub mod ImageParts

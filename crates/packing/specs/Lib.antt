@@ -1,5 +1,4 @@
--- What the code carries of an image and of the reader: counters, and octets in lent buffers.
-pub mod Counters
-pub mod ReaderRange
+-- A body's image in a lent buffer (Packing), what octets keep of bits that come one by one (Octets), and where their packing stands (Packer).
+pub mod Octets
 pub mod Packing
-pub mod Pen
+pub mod Packer

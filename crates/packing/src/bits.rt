@@ -1,6 +1,6 @@
-// What the reader and the image's writer do alike with bits.
+// The last eight bits as an octet.
 ghost use mathlib.Core.Path.{_≡_};
-ghost use Rattle.packing.specs.Counters.{shifted};
+ghost use Rattle.packing.specs.Octets.{shifted};
 
 // The last eight bits with a new one.
 pub fn shifted(octet: u8, bit: bool) -> u8

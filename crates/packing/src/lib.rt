@@ -1,4 +1,3 @@
-// Frames on the D channel, octet by octet: a body's image packed into a buffer, and the network end's reader.
-mod bits;
+// A body's image packed into octets.
+pub mod bits;
 pub mod image;
-pub mod reader;

@@ -12,8 +12,8 @@ Inv-loop digits heard₀ reader₀ i₀ heard reader i = (i ≤ length digits) �
 abbrev μ-loop : tie.MeasureT-loop
 μ-loop digits heard₀ reader₀ i₀ heard reader i = length digits - i
 
-clear-requires : tie.Need-clear-requires Inv-loop μ-loop
-clear-requires c κs = search needs
+fresh-requires : tie.Need-fresh-requires Inv-loop μ-loop
+fresh-requires c κs = search needs
 
 loop-holds : tie.Need-loop-holds Inv-loop μ-loop
 loop-holds c = search needs
@@ -48,7 +48,7 @@ answers-spec =
     (tie.spec
     Inv-loop
     μ-loop
-    clear-requires
+    fresh-requires
     loop-holds
     shared-slice-read-read
     read-requires

@@ -14,8 +14,8 @@ abbrev μ-loop : tie.MeasureT-loop
 loop-holds : tie.Need-loop-holds Inv-loop μ-loop
 loop-holds c = search needs
 
-bit-at-requires : tie.Need-bit-at-requires Inv-loop μ-loop
-bit-at-requires c κs = search needs
+packed-bit-requires : tie.Need-packed-bit-requires Inv-loop μ-loop
+packed-bit-requires c κs = search needs
 
 bit-requires : tie.Need-bit-requires Inv-loop μ-loop
 bit-requires c κs = search needs
@@ -39,7 +39,7 @@ bits-spec =
     Inv-loop
     μ-loop
     loop-holds
-    bit-at-requires
+    packed-bit-requires
     bit-requires
     add-i
     loop-less

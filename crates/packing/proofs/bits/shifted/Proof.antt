@@ -1,5 +1,4 @@
-use borrow.Author.Tests.{lt-ltb, le-ltb, le-leb, lt-leb, eq-eqb, ne-eqb}
-use Rattle.packing.specs.Counters.{shifted}
+use Rattle.packing.specs.Octets.{shifted}
 use borrow.Author.Needs.{needs}
 use Rattle.packing.proofs.bits.shifted.Statement.{statement}
 use Rattle.packing.proofs.bits.shifted.Tie as tie

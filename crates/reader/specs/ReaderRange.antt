@@ -1,0 +1,9 @@
+-- Every field of the reader's record in its range (document 01, refusal 1): bits 0 to 2,136, 1s 0 to 7. The octet is any, and a bool has
+-- no range.
+use mathlib.Core.Bool.{Bool, false, cond}
+use lib.Dec.{ltb, leb}
+use Rattle.reader.specs.Counters.{mostBits}
+use Rattle.reader.specs.declared.Reader.{Reader}
+
+unfoldable pub readerInRange : Reader → Bool
+readerInRange r = cond (ltb mostBits (r .bits)) false (leb (r .ones) 7)
