@@ -1,24 +1,24 @@
 // Table IV-2: the network end. A row is its number, the state before and the stimulus, an event of table 6-3.
 use super::print::number;
 use super::print::say;
-use activation::network::Network;
+use network::Network;
 use line::fields::Four;
 use line::info::info1;
 use line::info::info3;
-use period::alignment::Alignment;
-use period::counts::Periods;
-use period::hearing::Upward;
-use period::sensing::SensedUp;
-use period::sensing::sense_up;
-use tables::table_6_3::AR;
-use tables::table_6_3::DR;
-use tables::table_6_3::INFO_0;
-use tables::table_6_3::INFO_1;
-use tables::table_6_3::INFO_3;
-use tables::table_6_3::LOSS;
-use tables::table_6_3::T1_DUE;
-use tables::table_6_3::T2_DUE;
-use tables::table_6_3::info_sent;
+use hearing::alignment::Alignment;
+use timing::counts::Periods;
+use hearing::heard::Upward;
+use hearing::sensing::SensedUp;
+use hearing::sensing::sense_up;
+use table_6_3::AR;
+use table_6_3::DR;
+use table_6_3::INFO_0;
+use table_6_3::INFO_1;
+use table_6_3::INFO_3;
+use table_6_3::LOSS;
+use table_6_3::T1_DUE;
+use table_6_3::T2_DUE;
+use table_6_3::info_sent;
 
 // The period in which the stimulus comes.
 const NOW: u32 = 1000;

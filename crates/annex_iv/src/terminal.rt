@@ -1,27 +1,27 @@
 // Table IV-3: a terminal. A row is its number, the state before and the stimulus, an event of table 6-2. Row 40 is empty.
 use super::print::number;
 use super::print::say;
-use activation::terminal::Terminal;
-use activation::terminal::TerminalStep;
+use terminal::Terminal;
+use terminal::TerminalStep;
 use dchannel::access::Access;
 use line::fields::Four;
 use line::info::info2;
 use line::info::info4;
-use period::alignment::Alignment;
-use period::counts::Periods;
-use period::hearing::Downward;
-use period::sensing::SensedDown;
-use period::sensing::sense_down;
-use tables::table_6_2::AR;
-use tables::table_6_2::INFO_0;
-use tables::table_6_2::INFO_2;
-use tables::table_6_2::INFO_4;
-use tables::table_6_2::LOSS;
-use tables::table_6_2::OFF;
-use tables::table_6_2::ON;
-use tables::table_6_2::SIGNAL;
-use tables::table_6_2::T3_DUE;
-use tables::table_6_2::info_sent;
+use hearing::alignment::Alignment;
+use timing::counts::Periods;
+use hearing::heard::Downward;
+use hearing::sensing::SensedDown;
+use hearing::sensing::sense_down;
+use table_6_2::AR;
+use table_6_2::INFO_0;
+use table_6_2::INFO_2;
+use table_6_2::INFO_4;
+use table_6_2::LOSS;
+use table_6_2::OFF;
+use table_6_2::ON;
+use table_6_2::SIGNAL;
+use table_6_2::T3_DUE;
+use table_6_2::info_sent;
 
 // The period in which the stimulus comes.
 const NOW: u32 = 1000;

@@ -15,14 +15,14 @@ use Rattle.dchannel.specs.Ranges.{heldInRange, lastInRange, accessInRange}
 use Rattle.dchannel.specs.Access as access
 use Rattle.dchannel.specs.declared.access.Access.{Access}
 use Rattle.dchannel.specs.declared.access.Turn.{Turn}
-use Rattle.tables.specs.Cells.{cellIn}
-use Rattle.activation.specs.Timers.{due, timerAfter}
-use Rattle.period.specs.Alignment.{unaligned, inAlignment, followed, alignmentInRange}
-use Rattle.period.specs.Hearing.{heardUp, lossUp}
-use Rattle.tables.specs.Notes.{noted}
-use Rattle.period.specs.Sensing.{shownUp}
-use Rattle.activation.specs.Network as network
-use Rattle.activation.specs.Terminal as terminal
+use Rattle.cells.specs.Cells.{cellIn}
+use Rattle.timing.specs.Timers.{due, timerAfter}
+use Rattle.hearing.specs.Alignment.{unaligned, inAlignment, followed, alignmentInRange}
+use Rattle.hearing.specs.Heard.{heardUp, lossUp}
+use Rattle.cells.specs.Notes.{noted}
+use Rattle.hearing.specs.Sensing.{shownUp}
+use Rattle.network.specs.Network as network
+use Rattle.terminal.specs.Terminal as terminal
 
 -- whether bits are the given ones, written as 0 and 1
 abbrev bits : List ℕ → List Bool
