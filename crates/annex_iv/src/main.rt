@@ -3,10 +3,10 @@
 mod d_channel;
 mod network_end;
 mod print;
-mod terminal;
+mod terminals;
 
 fn main() {
     network_end::rows();
-    terminal::rows();
+    terminals::rows();
     d_channel::tests();
 }

@@ -1,15 +1,14 @@
 // Table IV-2: the network end. A row is its number, the state before and the stimulus, an event of table 6-3.
 use super::print::number;
 use super::print::say;
-use network::Network;
-use line::fields::Four;
-use line::info::info1;
-use line::info::info3;
 use hearing::alignment::Alignment;
-use timing::counts::Periods;
 use hearing::heard::Upward;
 use hearing::sensing::SensedUp;
 use hearing::sensing::sense_up;
+use line::fields::Four;
+use line::info::info1;
+use line::info::info3;
+use network::Network;
 use table_6_3::AR;
 use table_6_3::DR;
 use table_6_3::INFO_0;
@@ -19,6 +18,7 @@ use table_6_3::LOSS;
 use table_6_3::T1_DUE;
 use table_6_3::T2_DUE;
 use table_6_3::info_sent;
+use timing::counts::Periods;
 
 // The period in which the stimulus comes.
 const NOW: u32 = 1000;
@@ -114,7 +114,7 @@ fn at_rest(state: u8) -> Network {
 fn timed(state: u8, event: u8) -> Network {
     if event == T1_DUE {
         Network {
-            t1: NOW,
+            t1: NOW as u64,
             t2: 0,
             state,
             alignment: Alignment::fresh(),
@@ -122,7 +122,7 @@ fn timed(state: u8, event: u8) -> Network {
     } else {
         Network {
             t1: 0,
-            t2: NOW,
+            t2: NOW as u64,
             state,
             alignment: Alignment::fresh(),
         }

@@ -1,5 +1,5 @@
 -- What table 6-2 comes to: each law is one computed test over its cells.
-use mathlib.Core.Path.{_≡_, refl}
+use mathlib.Core.Path.{_≡_, refl, sym, _∙_}
 use mathlib.Core.Bool.{true, false, cond}
 use mathlib.Core.List.{List, [], _∷_, map}
 use Prim.Native.Nat.{ℕ, _≤_, _<_}
@@ -9,6 +9,9 @@ use lib.ListN.{length}
 use borrow.Author.Tests.{eqb-true, ne-eqb}
 use Rattle.cells.specs.Notes.{packedNotes, noted}
 use Rattle.cells.specs.Cells.{rowOf, cellIn, cellOf, infoIn, stateAfter, cellNotes, barsRequest}
+use Rattle.cells.specs.declared.cell.Cell.{Cell}
+use Rattle.cells.specs.declared.cell.Cell.the-variants.{To}
+use Rattle.cells.specs.declared.notes.Notes.{Notes}
 use Rattle.cells.proofs.Everywhere.{in-table, in-sent, at-state, at-event}
 use Rattle.cells.proofs.NextState.{alike, alike-is, nextTo, row-keeps}
 use Rattle.cells.proofs.NotesKept.{tidy, tidy-is, atMost, at-most-is, everyNote, isIndication, indications}
@@ -34,6 +37,12 @@ next-state e s = in-table (nextTo F8) table62 refl refl e s
 pub notes-in-order : (e s : ℕ) → packedNotes (noted (cellNotes (cellOf table62 e s))) ≡ cellNotes (cellOf table62 e s)
 unfolding tidy noted
 notes-in-order e s = tidy-is (cellOf table62 e s) (in-table tidy table62 refl refl e s)
+
+-- The same of a cell that was found to lead to a state.
+pub found-in-order : (e s : ℕ) {x : Cell} {next action : ℕ} {notes : Notes} → x ≡ cellOf table62 e s → x ≡ To next action notes → packedNotes (noted notes) ≡ notes
+found-in-order e s {x} {next} {action} {notes} p q =
+    let h : cellOf table62 e s ≡ To next action notes = sym p ∙ q in
+    rw h at (notes-in-order e s)
 
 pub notes-three : (e s : ℕ) → length (noted (cellNotes (cellOf table62 e s))) ≤ 3
 notes-three e s = at-most-is 3 (cellOf table62 e s) (in-table (atMost 3) table62 refl refl e s)

@@ -1,17 +1,14 @@
 // Table IV-3: a terminal. A row is its number, the state before and the stimulus, an event of table 6-2. Row 40 is empty.
 use super::print::number;
 use super::print::say;
-use terminal::Terminal;
-use terminal::TerminalStep;
 use dchannel::access::Access;
-use line::fields::Four;
-use line::info::info2;
-use line::info::info4;
 use hearing::alignment::Alignment;
-use timing::counts::Periods;
 use hearing::heard::Downward;
 use hearing::sensing::SensedDown;
 use hearing::sensing::sense_down;
+use line::fields::Four;
+use line::info::info2;
+use line::info::info4;
 use table_6_2::AR;
 use table_6_2::INFO_0;
 use table_6_2::INFO_2;
@@ -22,6 +19,9 @@ use table_6_2::ON;
 use table_6_2::SIGNAL;
 use table_6_2::T3_DUE;
 use table_6_2::info_sent;
+use terminal::Terminal;
+use terminal::TerminalStep;
+use timing::counts::Periods;
 
 // The period in which the stimulus comes.
 const NOW: u32 = 1000;
@@ -138,16 +138,16 @@ fn name(event: u8) {
 // The stimulus, given to a terminal in a state.
 fn met(state: u8, event: u8) -> TerminalStep {
     match event {
-        ON => unit(state, 0, false, 0).on(Periods(NOW)),
-        OFF => unit(state, 0, false, 0).off(Periods(NOW)),
-        AR => unit(state, 0, false, 0).ar(Periods(NOW)),
-        T3_DUE => unit(state, NOW, false, 0).timer_due(Periods(NOW)),
+        ON => unit(state, 0, false, 0).switch_on(Periods(NOW)),
+        OFF => unit(state, 0, false, 0).switch_off(Periods(NOW)),
+        AR => unit(state, 0, false, 0).request(Periods(NOW)),
+        T3_DUE => unit(state, NOW as u64, false, 0).timer_due(Periods(NOW)),
         SIGNAL => unit(state, 0, false, 0).hear(downward(event), Periods(NOW)),
         _ => unit(state, 0, true, 1).hear(downward(event), Periods(NOW)),
     }
 }
 
-fn unit(state: u8, t3: u32, aligned: bool, run: u8) -> Terminal {
+fn unit(state: u8, t3: u64, aligned: bool, run: u8) -> Terminal {
     Terminal {
         t3,
         access: Access::fresh(),
