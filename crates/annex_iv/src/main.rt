@@ -9,7 +9,7 @@ use frame::fields::Four;
 mod d_channel;
 mod network_end;
 mod print;
-mod terminal;
+mod terminals;
 
 // The period in which a stimulus comes.
 const NOW: u32 = 1000;
@@ -32,7 +32,7 @@ fn tests(table: u8, first: u8, state: u8, events: &[u8])
         if table == 2 {
             network_end::test(number, state, event);
         } else {
-            terminal::test(number, state, event);
+            terminals::test(number, state, event);
         }
         i += 1;
     }
@@ -40,7 +40,7 @@ fn tests(table: u8, first: u8, state: u8, events: &[u8])
 
 fn main() {
     network_end::rows();
-    terminal::rows();
+    terminals::rows();
     d_channel::tests(1);
     d_channel::tests(2);
 }

@@ -7,24 +7,24 @@ use super::print::outcome;
 use super::print::say;
 use super::print::timer;
 use super::tests;
-use activation::network::Network;
-use activation::network::NetworkStep;
+use cells::cell::NO_NOTES;
+use hearing::alignment::Alignment;
+use hearing::sensing::SensedUp;
+use hearing::sensing::sense_up;
 use info::info::info1;
 use info::info::info3;
-use period::alignment::Alignment;
-use period::counts::Periods;
-use period::sensing::SensedUp;
-use period::sensing::sense_up;
-use tables::cell::NO_NOTES;
-use tables::table_6_3::AR;
-use tables::table_6_3::DR;
-use tables::table_6_3::INFO_0;
-use tables::table_6_3::INFO_1;
-use tables::table_6_3::INFO_3;
-use tables::table_6_3::LOSS;
-use tables::table_6_3::T1_DUE;
-use tables::table_6_3::T2_DUE;
-use tables::table_6_3::info_sent;
+use network::Network;
+use network::NetworkStep;
+use table_6_3::AR;
+use table_6_3::DR;
+use table_6_3::INFO_0;
+use table_6_3::INFO_1;
+use table_6_3::INFO_3;
+use table_6_3::LOSS;
+use table_6_3::T1_DUE;
+use table_6_3::T2_DUE;
+use table_6_3::info_sent;
+use timing::counts::Periods;
 
 pub(crate) fn rows() {
     tests(2, 1, 1, &[AR, T1_DUE, T2_DUE, INFO_0, INFO_1]);
@@ -67,8 +67,8 @@ fn name(event: u8) {
 fn unit(state: u8, event: u8) -> Network {
     let aligned = (event == INFO_0) | (event == INFO_3) | (event == LOSS);
     Network {
-        t1: if event == T1_DUE { NOW } else { 50_000 },
-        t2: if event == T2_DUE { NOW } else { 60_000 },
+        t1: if event == T1_DUE { NOW as u64 } else { 50_000 },
+        t2: if event == T2_DUE { NOW as u64 } else { 60_000 },
         state,
         alignment: Alignment {
             aligned,

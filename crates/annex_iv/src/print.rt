@@ -1,15 +1,15 @@
 // Printing.
+use cells::notes::MPH_ACT;
+use cells::notes::MPH_DEACT;
+use cells::notes::MPH_EI;
+use cells::notes::MPH_EI1;
+use cells::notes::MPH_EI2;
+use cells::notes::MPH_II_CONNECTED;
+use cells::notes::MPH_II_DISCONNECTED;
+use cells::notes::Notes;
+use cells::notes::PH_ACT;
+use cells::notes::PH_DEACT;
 use libc::STDOUT_FILENO;
-use tables::notes::MPH_ACT;
-use tables::notes::MPH_DEACT;
-use tables::notes::MPH_EI;
-use tables::notes::MPH_EI1;
-use tables::notes::MPH_EI2;
-use tables::notes::MPH_II_CONNECTED;
-use tables::notes::MPH_II_DISCONNECTED;
-use tables::notes::Notes;
-use tables::notes::PH_ACT;
-use tables::notes::PH_DEACT;
 
 pub(crate) fn say(text: &[u8]) {
     io::write_all(STDOUT_FILENO, text);
@@ -38,12 +38,12 @@ pub(crate) fn outcome(letter: &[u8], state: u8, info: u8, reply: u8) {
 }
 
 // The period at whose start a timer is due.
-pub(crate) fn timer(name: &[u8], due: u32) {
+pub(crate) fn timer(name: &[u8], due: u64) {
     say(name);
     if due == 0 {
         say(b"-");
     } else {
-        io::print_decimal(STDOUT_FILENO, due as u64);
+        io::print_decimal(STDOUT_FILENO, due);
     }
 }
 

@@ -15,14 +15,16 @@ use Rattle.dchannel.specs.Ranges.{accessInRange}
 use Rattle.dchannel.specs.Access as access
 use Rattle.dchannel.specs.declared.access.Access.{Access}
 use Rattle.dchannel.specs.declared.access.Turn.{Turn}
-use Rattle.tables.specs.Cells.{cellIn}
-use Rattle.activation.specs.Timers.{due, timerAfter}
-use Rattle.period.specs.Alignment.{unaligned, inAlignment, followed, alignmentInRange}
-use Rattle.period.specs.Hearing.{heardUp, lossUp}
-use Rattle.tables.specs.Notes.{noted}
-use Rattle.period.specs.Sensing.{shownUp}
-use Rattle.activation.specs.Network as network
-use Rattle.activation.specs.Terminal as terminal
+use Rattle.cells.specs.Cells.{cellIn}
+use Rattle.table_6_2.specs.Table62.{F6}
+use Rattle.table_6_3.specs.Table63.{G1, G4}
+use Rattle.timing.specs.Timers.{due, startedBy, timerAfter}
+use Rattle.hearing.specs.Alignment.{unaligned, inAlignment, followed}
+use Rattle.hearing.specs.Heard.{upwardEvent, lossUp}
+use Rattle.cells.specs.Notes.{noted}
+use Rattle.hearing.specs.Sensing.{shownUp}
+use Rattle.network.specs.Network as network
+use Rattle.terminal.specs.Terminal as terminal
 
 -- whether bits are the given ones, written as 0 and 1
 abbrev bits : List ℕ → List Bool
@@ -56,10 +58,10 @@ first00 = completed 25 (image (0 ∷ [])) (image (1 ∷ [])) (holding 1 false 24
 
 -- the state of the network end in G4 after it has heard a line, and of a terminal in F6 after its T3 is due
 abbrev g4Hears : List ℕ → ℕ
-g4Hears line = network.heard (shownUp line) (record { 0 = 9 }) (record { t1 = 0; t2 = 0; state = 4; alignment = unaligned 0 }) .network .state
+g4Hears line = network.heard (shownUp line) (record { 0 = 9 }) (record { t1 = 0; t2 = 0; state = G4; alignment = unaligned 0 }) .network .state
 
 abbrev f6Due : ℕ
-f6Due = terminal.timerDue (record { 0 = 9 }) (record { t3 = 9; access = access.fresh; state = 6; alignment = inAlignment 0 }) .terminal .state
+f6Due = terminal.timerDue (record { 0 = 9 }) (record { t3 = 9; access = access.fresh; state = F6; alignment = inAlignment 0 }) .terminal .state
 
 -- an upward line whose first pulse after symbol 2 is minus and stands at a position
 abbrev pulseAt : ℕ → ℕ → List ℕ
@@ -88,8 +90,8 @@ edges =
     ∷ framedUp (pulseAt 11 34)
     ∷ not (framedUp (pulseAt 12 33))
     -- G4 hearing INFO 0 goes to G1. F6 with T3 due stays in F6.
-    ∷ eqb (g4Hears info0) 1
-    ∷ eqb f6Due 6
+    ∷ eqb (g4Hears info0) G1
+    ∷ eqb f6Due F6
     ∷ []
 
 -- every test holds
@@ -98,5 +100,5 @@ all [] = true
 all (b ∷ bs) = cond b (all bs) false
 
 pub edges-hold : all edges ≡ true
-unfolding edges image stuff bodyBits lowBits mayStart threshold lowOf turn afterE countAfter lowAfter sendsNext stops completes idles sameSymbols framedIn firstPulse hasPulse shownUp network.heard network.ready network.networkInRange network.heardAs network.andThen network.happens network.acts network.moved network.alignedBy lossUp heardUp followed alignmentInRange noted cellIn timerAfter due terminal.timerDue terminal.ready terminal.terminalInRange terminal.happens terminal.acts terminal.noTimer accessInRange
+unfolding edges image stuff bodyBits lowBits mayStart threshold lowOf turn afterE countAfter lowAfter sendsNext stops completes idles sameSymbols framedIn firstPulse hasPulse shownUp network.checked network.ready network.networkInRange network.hears network.heardAs network.andThen network.happens network.acts network.moved network.aligned lossUp upwardEvent followed noted cellIn timerAfter startedBy due terminal.checked terminal.timer terminal.ready terminal.terminalInRange terminal.happens terminal.acts terminal.noTimer accessInRange
 edges-hold = refl

@@ -1,0 +1,3 @@
+// What the cells of tables 6-2 and 6-3 of JT-I430 hold: the next state, what is done to a timer, and the notes.
+pub mod cell;
+pub mod notes;

@@ -1,0 +1,154 @@
+-- What the definitions of the network end come to, for their readers and for the crates above.
+use mathlib.Core.Path.{_≡_, refl}
+use mathlib.Core.Bool.{true, false}
+use mathlib.Core.List.{[], _++_}
+use Prim.Native.Nat.{ℕ, zero, suc, _≤_}
+use native.Mathlib.Omega.{arith}
+use lib.Dec.{eqb}
+use lib.ListN.{length, length-append}
+use borrow.Author.Tests.{le-leb}
+use Rattle.cases.proofs.ByCases.{by-test}
+use Rattle.cells.specs.Notes.{noted}
+use Rattle.cells.specs.Cells.{cellIn, cellOf, stateAfter}
+use Rattle.cells.specs.declared.cell.Cell.{Cell}
+use Rattle.cells.specs.declared.cell.Cell.the-variants.{To, Stay, Impossible, Absent}
+use Rattle.cells.proofs.NotesKept.{noted-packed, everyNote, every-append, isIndication}
+use Rattle.table_6_3.specs.Table63.{table63, G3, T1-DUE, T2-DUE, INFO-1, LOSS}
+use Rattle.table_6_3.proofs.Laws.{notes-two, notes-indications, t1-keeps-G3, t2-keeps-G3}
+use Rattle.timing.specs.Counts.{mostPeriods}
+use Rattle.timing.specs.Timers.{due, startedBy, timerAfter}
+use Rattle.timing.specs.declared.counts.Periods.{Periods}
+use Rattle.hearing.specs.Alignment.{gained, lost, followed}
+use Rattle.hearing.specs.Heard.{upwardEvent, lossUp}
+use Rattle.hearing.specs.declared.alignment.Alignment.{Alignment}
+use Rattle.hearing.specs.declared.heard.Upward.{Upward}
+use Rattle.network.specs.Network.{unchanged, acts, moved, happens, andThen, aligned, isRequest, requests, t1Due, t2Due, timers, heardAs, hears, networkInRange, ready, checked, requested, timerDue, heard}
+use Rattle.network.specs.declared.Network.{Network}
+use Rattle.network.specs.declared.NetworkStep.{NetworkStep}
+use Rattle.network.proofs.TwoEvents.{happens-notes}
+
+-- ---- the calls, where the record is in range and the period one that a bus runs
+abbrev pub at : ℕ → Periods
+at now = record { 0 = now }
+
+checked-called : (step : ℕ → Network → NetworkStep) (now : ℕ) (n : Network) → now ≤ mostPeriods → networkInRange n ≡ true → checked step (at now) n ≡ step now n
+unfolding checked ready
+checked-called step now n l h = rw (h, le-leb now mostPeriods l)
+
+module _ (now : ℕ) (n : Network) (l : now ≤ mostPeriods) (h : networkInRange n ≡ true) where
+  pub requested-called : (event : ℕ) → requested event (at now) n ≡ requests event now n
+  requested-called event = checked-called (requests event) now n l h
+
+  pub timer-due-called : timerDue (at now) n ≡ timers now n
+  timer-due-called = checked-called timers now n l h
+
+  pub heard-called : (line : Upward) → heard line (at now) n ≡ hears line now n
+  heard-called line = checked-called (hears line) now n l h
+
+-- ---- states
+acts-state : (k : ℕ) (c : Cell) (now : ℕ) (n : Network) → acts k c now n .network .state ≡ stateAfter c (n .state)
+unfolding acts moved
+acts-state k (To next action notes) now n = refl
+acts-state k (Stay notes) now n = refl
+acts-state k Impossible now n = refl
+acts-state k Absent now n = refl
+
+pub happens-state : (k e now : ℕ) (n : Network) → happens k e now n .network .state ≡ stateAfter (cellOf table63 e (n .state)) (n .state)
+unfolding happens
+happens-state k e now n = acts-state k (cellOf table63 e (n .state)) now n
+
+t1-due-G3 : (now : ℕ) (n : Network) → eqb (t1Due now n .network .state) G3 ≡ eqb (n .state) G3
+unfolding t1Due
+t1-due-G3 now n = by-test (due (n .t1) now) (λ t. rw (t, happens-state 0 T1-DUE now _) (t1-keeps-G3 (n .state))) (λ t. rw t)
+
+t2-due-G3 : (now : ℕ) (n : Network) → eqb (t2Due now n .network .state) G3 ≡ eqb (n .state) G3
+unfolding t2Due
+t2-due-G3 now n = by-test (due (n .t2) now) (λ t. rw (t, happens-state 0 T2-DUE now _) (t2-keeps-G3 (n .state))) (λ t. rw t)
+
+-- No timer that is due leads into G3 or out of it.
+pub timers-keep-G3 : (now : ℕ) (n : Network) → eqb (timers now n .network .state) G3 ≡ eqb (n .state) G3
+unfolding timers andThen
+timers-keep-G3 now n = rw (t2-due-G3 now (t1Due now n .network)) (t1-due-G3 now n)
+
+-- ---- notes
+pub happens-two : (k e now : ℕ) (n : Network) → length (noted (happens k e now n .notes)) ≤ 2
+happens-two k e now n = rw (happens-notes k e now n) (notes-two e (n .state))
+
+t1-two : (now : ℕ) (n : Network) → length (noted (t1Due now n .notes)) ≤ 2
+unfolding t1Due noted
+t1-two now n = by-test (due (n .t1) now) (λ t. rw t (happens-two 0 T1-DUE now _)) (λ t. rw t (omega arith))
+
+t2-two : (now : ℕ) (n : Network) → length (noted (t2Due now n .notes)) ≤ 2
+unfolding t2Due noted
+t2-two now n = by-test (due (n .t2) now) (λ t. rw t (happens-two 0 T2-DUE now _)) (λ t. rw t (omega arith))
+
+joined : (s : NetworkStep) (f : Network → NetworkStep) → length (noted (s .notes)) ≤ 2 → length (noted (f (s .network) .notes)) ≤ 2 →
+    noted (andThen s f .notes) ≡ noted (s .notes) ++ noted (f (s .network) .notes)
+unfolding andThen
+joined s f p q = noted-packed (noted (s .notes) ++ noted (f (s .network) .notes)) (simp length-append (omega arith))
+
+-- Of the timers' notes none is cut off: they are T1's and then T2's.
+pub timers-notes : (now : ℕ) (n : Network) → noted (timers now n .notes) ≡ noted (t1Due now n .notes) ++ noted (t2Due now (t1Due now n .network) .notes)
+unfolding timers
+timers-notes now n = joined (t1Due now n) (t2Due now) (t1-two now n) (t2-two now (t1Due now n .network))
+
+-- Nor of those of a heard line: they are the loss's and then the line's.
+abbrev lossHeard : Upward → ℕ → Network → NetworkStep
+lossHeard line now n =
+    happens 0 (lossUp (followed gained lost (line .pulse) (line .framed) (n .alignment))) now
+    (aligned (followed gained lost (line .pulse) (line .framed) (n .alignment) .alignment) n)
+
+abbrev lineHeard : Upward → ℕ → Network → NetworkStep
+lineHeard line now n = happens 0 (upwardEvent line (followed gained lost (line .pulse) (line .framed) (n .alignment))) now (lossHeard line now n .network)
+
+pub hears-notes : (line : Upward) (now : ℕ) (n : Network) → noted (hears line now n .notes) ≡ noted (lossHeard line now n .notes) ++ noted (lineHeard line now n .notes)
+unfolding hears heardAs
+hears-notes line now n =
+    joined (lossHeard line now n) (happens 0 (upwardEvent line (followed gained lost (line .pulse) (line .framed) (n .alignment))) now) (happens-two 0 _ now _) (happens-two 0 _ now _)
+
+-- Every note is an indication of table 6-3.
+abbrev Told : NetworkStep → Type 0
+Told s = everyNote isIndication (noted (s .notes)) ≡ true
+
+pub happens-told : (k e now : ℕ) (n : Network) → Told (happens k e now n)
+happens-told k e now n = rw (happens-notes k e now n) (notes-indications e (n .state))
+
+pub requests-told : (event now : ℕ) (n : Network) → Told (requests event now n)
+unfolding requests everyNote noted
+requests-told event now n = by-test (isRequest event) (λ t. rw t (happens-told 5 event now n)) (λ t. rw t)
+
+t1-told : (now : ℕ) (n : Network) → Told (t1Due now n)
+unfolding t1Due everyNote noted
+t1-told now n = by-test (due (n .t1) now) (λ t. rw t (happens-told 0 T1-DUE now _)) (λ t. rw t)
+
+t2-told : (now : ℕ) (n : Network) → Told (t2Due now n)
+unfolding t2Due everyNote noted
+t2-told now n = by-test (due (n .t2) now) (λ t. rw t (happens-told 0 T2-DUE now _)) (λ t. rw t)
+
+pub timers-told : (now : ℕ) (n : Network) → Told (timers now n)
+timers-told now n = rw (timers-notes now n) (every-append isIndication (noted (t1Due now n .notes)) _ (t1-told now n) (t2-told now (t1Due now n .network)))
+
+pub hears-told : (line : Upward) (now : ℕ) (n : Network) → Told (hears line now n)
+hears-told line now n = rw (hears-notes line now n) (every-append isIndication (noted (lossHeard line now n .notes)) _ (happens-told 0 _ now _) (happens-told 0 _ now _))
+
+-- ---- events
+-- A signal, for which table 6-3 has no row, changes nothing.
+pub no-event : (k now : ℕ) (n : Network) → happens k 0 now n ≡ unchanged k n
+unfolding happens acts cellIn
+no-event k now n = from (n .state)
+  where
+    from : (s : ℕ) → acts k (cellOf table63 0 s) now n ≡ unchanged k n
+    from zero = refl
+    from (suc s) = refl
+
+-- Where INFO 1 and the event of loss fall together, their order does not matter.
+pub loss-and-info-1 : (now t1 t2 state : ℕ) (a : Alignment) →
+    andThen (happens 0 LOSS now (record { t1 = t1; t2 = t2; state = state; alignment = a })) (happens 0 INFO-1 now)
+    ≡ andThen (happens 0 INFO-1 now (record { t1 = t1; t2 = t2; state = state; alignment = a })) (happens 0 LOSS now)
+unfolding happens acts cellIn andThen moved noted timerAfter startedBy
+loss-and-info-1 now t1 t2 zero a = refl
+loss-and-info-1 now t1 t2 (suc zero) a = refl
+loss-and-info-1 now t1 t2 (suc (suc zero)) a = refl
+loss-and-info-1 now t1 t2 (suc (suc (suc zero))) a = refl
+loss-and-info-1 now t1 t2 (suc (suc (suc (suc zero)))) a = refl
+loss-and-info-1 now t1 t2 (suc (suc (suc (suc (suc s))))) a = refl

@@ -1,0 +1,120 @@
+-- Two events of the network end, one after the other, of which one has no notes: the notes are the other's.
+use mathlib.Core.Path.{_≡_, refl, ap, _∙_}
+use mathlib.Core.Bool.{Bool, true, false, cond}
+use mathlib.Core.List.{[], append-nil}
+use Prim.Native.Nat.{ℕ}
+use Rattle.cases.proofs.ByCases.{by-test, clash}
+use Rattle.cells.specs.Notes.{packedNotes, noted}
+use Rattle.cells.specs.Cells.{cellOf, cellNotes}
+use Rattle.cells.specs.declared.cell.Cell.{Cell}
+use Rattle.cells.specs.declared.cell.Cell.the-variants.{To, Stay, Impossible, Absent}
+use Rattle.table_6_3.specs.Table63.{table63, T1-DUE, T2-DUE, INFO-0, INFO-1, INFO-3}
+use Rattle.table_6_3.proofs.Laws.{notes-in-order, t2-quiet, info-1-quiet, no-event-quiet}
+use Rattle.timing.specs.Timers.{due}
+use Rattle.hearing.specs.Alignment.{gained, lost, followed}
+use Rattle.hearing.specs.Heard.{upwardEvent, lossUp}
+use Rattle.hearing.specs.declared.alignment.Alignment.{Alignment}
+use Rattle.hearing.specs.declared.alignment.Followed.{Followed}
+use Rattle.hearing.specs.declared.heard.Upward.{Upward}
+use Rattle.hearing.proofs.Alignments.{framed-kept, pulseless-kept}
+use Rattle.network.specs.Network.{unchanged, acts, happens, andThen, aligned, t1Due, t2Due, timers, heardAs, hears}
+use Rattle.network.specs.declared.Network.{Network}
+use Rattle.network.specs.declared.NetworkStep.{NetworkStep}
+
+acts-notes : (k : ℕ) (c : Cell) (now : ℕ) (n : Network) → acts k c now n .notes ≡ cellNotes c
+unfolding acts
+acts-notes k (To next action notes) now n = refl
+acts-notes k (Stay notes) now n = refl
+acts-notes k Impossible now n = refl
+acts-notes k Absent now n = refl
+
+-- The notes of an event are its cell's.
+pub happens-notes : (k e now : ℕ) (n : Network) → happens k e now n .notes ≡ cellNotes (cellOf table63 e (n .state))
+unfolding happens
+happens-notes k e now n = acts-notes k (cellOf table63 e (n .state)) now n
+
+happens-tidy : (k e now : ℕ) (n : Network) → packedNotes (noted (happens k e now n .notes)) ≡ happens k e now n .notes
+happens-tidy k e now n = rw (happens-notes k e now n) (notes-in-order e (n .state))
+
+happens-quiet : (k e now : ℕ) (n : Network) → noted (cellNotes (cellOf table63 e (n .state))) ≡ [] → noted (happens k e now n .notes) ≡ []
+happens-quiet k e now n q = rw (happens-notes k e now n) q
+
+first-only : (s : NetworkStep) (f : Network → NetworkStep) → packedNotes (noted (s .notes)) ≡ s .notes → noted (f (s .network) .notes) ≡ [] →
+    record { network = f (s .network) .network; notes = s .notes; reply = 0 } ≡ andThen s f
+unfolding andThen
+first-only s f t q = rw (q, append-nil, t)
+
+second-only : (s : NetworkStep) (f : Network → NetworkStep) → noted (s .notes) ≡ [] → packedNotes (noted (f (s .network) .notes)) ≡ f (s .network) .notes →
+    record { network = f (s .network) .network; notes = f (s .network) .notes; reply = 0 } ≡ andThen s f
+unfolding andThen
+second-only s f q t = rw (q, t)
+
+-- T1, then T2.
+t1-tidy : (now : ℕ) (n : Network) → packedNotes (noted (t1Due now n .notes)) ≡ t1Due now n .notes
+unfolding t1Due noted
+t1-tidy now n = by-test (due (n .t1) now) (λ t. rw t (happens-tidy 0 T1-DUE now _)) (λ t. rw t)
+
+pub t2-without-notes : (now : ℕ) (n : Network) → noted (t2Due now n .notes) ≡ []
+unfolding t2Due noted
+t2-without-notes now n = by-test (due (n .t2) now) (λ t. rw t (happens-quiet 0 T2-DUE now _ (t2-quiet (n .state)))) (λ t. rw t)
+
+pub timers-are : (now : ℕ) (n : Network) {a b : NetworkStep} → a ≡ t1Due now n → b ≡ t2Due now (a .network) → record { network = b .network; notes = a .notes; reply = 0 } ≡ timers now n
+unfolding timers
+timers-are now n p q = rw (q, p) (first-only (t1Due now n) (t2Due now) (t1-tidy now n) (t2-without-notes now (t1Due now n .network)))
+
+-- A line that loses alignment is INFO 1 or a signal.
+lost-lines : (p framed i : Bool) (f : Followed) (a : Alignment) (s : ℕ) → f ≡ followed gained lost p framed a → f .lost ≡ true →
+    noted (cellNotes (cellOf table63 (cond p (cond i INFO-1 (cond framed (cond (f .alignment .aligned) INFO-3 0) 0)) INFO-0) s)) ≡ []
+lost-lines false framed i f a s e l = clash (f .lost) l (ap (λ g. g .lost) e ∙ pulseless-kept gained lost framed a)
+lost-lines true true i f a s e l = clash (f .lost) l (ap (λ g. g .lost) e ∙ framed-kept gained lost a)
+lost-lines true false true f a s e l = info-1-quiet s
+lost-lines true false false f a s e l = no-event-quiet s
+
+lost-quiet : (line : Upward) (f : Followed) (a : Alignment) (s : ℕ) → f ≡ followed gained lost (line .pulse) (line .framed) a → f .lost ≡ true →
+    noted (cellNotes (cellOf table63 (upwardEvent line f) s)) ≡ []
+unfolding upwardEvent
+lost-quiet line f a s e l = lost-lines (line .pulse) (line .framed) (line .info1) f a s e l
+
+no-loss : (f : Followed) → f .lost ≡ false → lossUp f ≡ 0
+unfolding lossUp
+no-loss f l = rw l
+
+module _ (line : Upward) (now : ℕ) (n : Network) (f : Followed) (a b : NetworkStep) (m : a ≡ happens 0 (lossUp f) now (aligned (f .alignment) n)) (h : b ≡ happens 0 (upwardEvent line f) now (a .network)) where
+  heard-lost : f ≡ followed gained lost (line .pulse) (line .framed) (n .alignment) → f .lost ≡ true → record { network = b .network; notes = a .notes; reply = 0 } ≡ heardAs line f now n
+  unfolding heardAs
+  heard-lost e l =
+      rw (h, m)
+      (first-only (happens 0 (lossUp f) now (aligned (f .alignment) n)) (happens 0 (upwardEvent line f) now)
+      (happens-tidy 0 (lossUp f) now (aligned (f .alignment) n))
+      (happens-quiet 0 (upwardEvent line f) now (happens 0 (lossUp f) now (aligned (f .alignment) n) .network)
+      (lost-quiet line f (n .alignment) (happens 0 (lossUp f) now (aligned (f .alignment) n) .network .state) e l)))
+
+  heard-kept : f .lost ≡ false → record { network = b .network; notes = b .notes; reply = 0 } ≡ heardAs line f now n
+  unfolding heardAs
+  heard-kept l =
+      rw (h, m)
+      (second-only (happens 0 (lossUp f) now (aligned (f .alignment) n)) (happens 0 (upwardEvent line f) now)
+      (happens-quiet 0 (lossUp f) now (aligned (f .alignment) n) (rw (no-loss f l) (no-event-quiet (aligned (f .alignment) n .state))))
+      (happens-tidy 0 (upwardEvent line f) now (happens 0 (lossUp f) now (aligned (f .alignment) n) .network)))
+
+-- A heard line, over what the calls in between gave.
+module _
+    (line : Upward) (now : ℕ) (n : Network)
+    {f : Followed} (ef : f ≡ followed gained lost (line .pulse) (line .framed) (n .alignment))
+    {k : ℕ} (ek : k ≡ lossUp f)
+    {e : ℕ} (ee : e ≡ upwardEvent line f)
+    {a : NetworkStep} (ea : a ≡ happens 0 k now (aligned (f .alignment) n))
+    {b : NetworkStep} (eb : b ≡ happens 0 e now (a .network)) where
+  loss-is : a ≡ happens 0 (lossUp f) now (aligned (f .alignment) n)
+  loss-is = cc
+
+  line-is : b ≡ happens 0 (upwardEvent line f) now (a .network)
+  line-is = cc
+
+  pub heard-with-loss : f .lost ≡ true → record { network = b .network; notes = a .notes; reply = 0 } ≡ hears line now n
+  unfolding hears
+  heard-with-loss l = rw (← ef) (heard-lost line now n f a b loss-is line-is ef l)
+
+  pub heard-without : f .lost ≡ false → record { network = b .network; notes = b .notes; reply = 0 } ≡ hears line now n
+  unfolding hears
+  heard-without l = rw (← ef) (heard-kept line now n f a b loss-is line-is l)

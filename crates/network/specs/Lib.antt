@@ -1,0 +1,2 @@
+-- The network end.
+pub mod Network

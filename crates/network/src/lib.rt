@@ -1,0 +1,220 @@
+// The network end: states G1 to G4, alignment, T1 and T2.
+ghost use mathlib.Core.Path.{_≡_};
+ghost use Rattle.network.specs.Network as spec;
+use cells::cell::Cell;
+use cells::cell::NO_NOTES;
+use cells::cell::START_T2;
+use cells::notes::Notes;
+use hearing::alignment::Alignment;
+use hearing::heard::Upward;
+use hearing::heard::loss_up;
+use table_6_3::AR;
+use table_6_3::DR;
+use table_6_3::G1;
+use table_6_3::G4;
+use table_6_3::T1_DUE;
+use table_6_3::T2_DUE;
+use table_6_3::cell;
+use timing::counts::MOST_PERIODS;
+use timing::counts::Periods;
+use timing::timers::T1;
+use timing::timers::T2;
+use timing::timers::due;
+use timing::timers::started_by;
+use timing::timers::timer_after;
+
+// The latest T1 and T2: those started when the last period has been run.
+const LATEST_T1: u64 = MOST_PERIODS as u64 + T1 as u64;
+
+const LATEST_T2: u64 = MOST_PERIODS as u64 + T2 as u64;
+
+pub struct Network {
+    // The periods at whose start T1 and T2 are due, 0 for none.
+    pub t1: u64,
+    pub t2: u64,
+    // G1 to G4.
+    pub state: u8,
+    pub alignment: Alignment,
+}
+
+// What a call gives: the record, the notes, and 0 or the number of the refusal with the record as it was.
+pub struct NetworkStep {
+    pub network: Network,
+    pub notes: Notes,
+    pub reply: u8,
+}
+
+impl Network {
+    // G1, unaligned, with no timer running.
+    pub fn fresh() -> Self
+        ensures { λ r. ⌜ r ≡ spec.fresh ⌝ }
+    {
+        Network {
+            t1: 0,
+            t2: 0,
+            state: G1,
+            alignment: Alignment::fresh(),
+        }
+    }
+
+    // Whether every field is in its range.
+    pub fn in_range(self) -> bool
+        ensures { λ r. ⌜ r ≡ spec.networkInRange self ⌝ }
+    {
+        if self.state < G1 {
+            return false;
+        }
+        if G4 < self.state {
+            return false;
+        }
+        if LATEST_T1 < self.t1 {
+            return false;
+        }
+        if LATEST_T2 < self.t2 {
+            return false;
+        }
+        self.alignment.in_range()
+    }
+
+    // `ar` and `dr`, by their numbers in table 6-3.
+    pub fn request(self, event: u8, now: Periods) -> NetworkStep
+        ensures { λ r. ⌜ r ≡ spec.requested event now self ⌝ }
+    {
+        if self.ready(now) {
+            match event {
+                AR => self.happens(5, AR, now),
+                DR => self.happens(5, DR, now),
+                _ => self.unchanged(4),
+            }
+        } else {
+            self.unchanged(1)
+        }
+    }
+
+    // The start of a period: T1, then T2, where they are due.
+    pub fn timer_due(self, now: Periods) -> NetworkStep
+        ensures { λ r. ⌜ r ≡ spec.timerDue now self ⌝ }
+    {
+        if self.ready(now) {
+            let first = self.t1_due(now);
+            let between = first.network;
+            let second = between.t2_due(now);
+            let network = second.network;
+            // The row of T2 has no notes.
+            let notes = first.notes;
+            NetworkStep {
+                network,
+                notes,
+                reply: 0,
+            }
+        } else {
+            self.unchanged(1)
+        }
+    }
+
+    // A period's upward line is heard: the event of loss, if any, and what the line is.
+    pub fn hear(self, line: Upward, now: Periods) -> NetworkStep
+        ensures { λ r. ⌜ r ≡ spec.heard line now self ⌝ }
+    {
+        if self.ready(now) {
+            let before = self.alignment;
+            let f = before.follow(line.pulse, line.framed);
+            let mut n = self;
+            let alignment = f.alignment;
+            n.alignment = alignment;
+            let first = n.happens(0, loss_up(f), now);
+            let between = first.network;
+            let second = between.happens(0, line.event(f), now);
+            let network = second.network;
+            // Where alignment is lost, the line is INFO 1, whose row has no notes, or a signal.
+            if f.lost {
+                let notes = first.notes;
+                NetworkStep {
+                    network,
+                    notes,
+                    reply: 0,
+                }
+            } else {
+                let notes = second.notes;
+                NetworkStep {
+                    network,
+                    notes,
+                    reply: 0,
+                }
+            }
+        } else {
+            self.unchanged(1)
+        }
+    }
+
+    // Whether record and period are in range.
+    fn ready(self, now: Periods) -> bool
+        ensures { λ r. ⌜ r ≡ spec.ready now self ⌝ }
+    {
+        self.in_range() && now.in_range()
+    }
+
+    fn unchanged(self, reply: u8) -> NetworkStep
+        ensures { λ r. ⌜ r ≡ spec.unchanged reply self ⌝ }
+    {
+        NetworkStep {
+            network: self,
+            notes: NO_NOTES,
+            reply,
+        }
+    }
+
+    // An event of table 6-3; the reply at a cell that is impossible or empty is barred.
+    fn happens(self, barred: u8, event: u8, now: Periods) -> NetworkStep
+        ensures { λ r. ⌜ r ≡ spec.happens barred event (now .0) self ⌝ }
+    {
+        let found = cell(event, self.state);
+        match found {
+            Cell::To(next, action, notes) => {
+                let alignment = self.alignment;
+                let network = Network {
+                    t1: timer_after(T1, action, now, self.t1),
+                    t2: started_by(START_T2, T2, action, now, self.t2),
+                    state: next,
+                    alignment,
+                };
+                NetworkStep {
+                    network,
+                    notes,
+                    reply: 0,
+                }
+            }
+            Cell::Stay(notes) => NetworkStep {
+                network: self,
+                notes,
+                reply: 0,
+            },
+            Cell::Impossible => self.unchanged(barred),
+            Cell::Absent => self.unchanged(barred),
+        }
+    }
+
+    fn t1_due(self, now: Periods) -> NetworkStep
+        ensures { λ r. ⌜ r ≡ spec.t1Due (now .0) self ⌝ }
+    {
+        if due(self.t1, now) {
+            let mut spent = self;
+            spent.t1 = 0;
+            spent.happens(0, T1_DUE, now)
+        } else {
+            self.unchanged(0)
+        }
+    }
+
+    fn t2_due(self, now: Periods) -> NetworkStep
+        ensures { λ r. ⌜ r ≡ spec.t2Due (now .0) self ⌝ }
+    {
+        if due(self.t2, now) {
+            let mut spent = self;
+            spent.t2 = 0;
+            spent.happens(0, T2_DUE, now)
+        } else {
+            self.unchanged(0)
+        }
+    }
+}

@@ -1,0 +1,2 @@
+-- What table 6-2 comes to.
+pub mod Laws

@@ -1,0 +1,27 @@
+-- What table 6-2 does to the states alone, for the laws about terminals that hear the same line.
+use mathlib.Core.Bool.{Bool, true, false, cond, not}
+use Prim.Native.Nat.{ℕ}
+use lib.Dec.{eqb}
+use Rattle.cells.specs.Cells.{cellOf, stateAfter}
+use Rattle.table_6_2.specs.Table62.{table62, F1, F6, F7, ON, OFF, INFO-0, INFO-2, INFO-4, LOSS}
+
+-- The state that an event leads to.
+abbrev pub nextState : ℕ → ℕ → ℕ
+nextState event state = stateAfter (cellOf table62 event state) state
+
+-- F6 and F7 are the states in which INFO 3 is sent.
+abbrev pub inF6OrF7 : ℕ → Bool
+inF6OrF7 state = cond (eqb state F6) true (eqb state F7)
+
+-- Whether an event leads into F6 or F7: INFO 0, loss and power off lead out, INFO 2 and INFO 4 lead there from all states but F1, and
+-- no other event leads in or out.
+abbrev pub inF6OrF7After : ℕ → ℕ → Bool
+inF6OrF7After event state =
+    cond (eqb event INFO-0) false
+    (cond (eqb event LOSS) false
+    (cond (eqb event OFF) false
+    (cond (eqb event INFO-2) (not (eqb state F1)) (cond (eqb event INFO-4) (not (eqb state F1)) (inF6OrF7 state)))))
+
+-- Whether it leads to F1: power on leads out, power off leads there, and no other event leads in or out.
+abbrev pub inF1After : ℕ → ℕ → Bool
+inF1After event state = cond (eqb event ON) false (cond (eqb event OFF) true (eqb state F1))

@@ -1,0 +1,2 @@
+-- What table 6-3 comes to.
+pub mod Laws

@@ -1,0 +1,20 @@
+use borrow.Author.Needs.{needs}
+use Rattle.table_6_3.specs.Table63.{t1Expiry}
+use Rattle.cells.proofs.Rows.{settled}
+use Rattle.table_6_3.proofs.t1_expiry.Statement.{statement}
+use Rattle.table_6_3.proofs.t1_expiry.Tie as tie
+
+returns : tie.Need-returns
+returns c = settled t1Expiry _ (search needs)
+
+returns-2 : tie.Need-returns-2
+returns-2 c = settled t1Expiry _ (search needs)
+
+returns-3 : tie.Need-returns-3
+returns-3 c = settled t1Expiry _ (search needs)
+
+returns-4 : tie.Need-returns-4
+returns-4 c = settled t1Expiry _ (search needs)
+
+pub t1-expiry-spec : {M : Type 1} → statement M
+t1-expiry-spec = tie.close (tie.spec returns returns-2 returns-3 returns-4)

@@ -1,0 +1,2 @@
+-- Table 6-3 of JT-I430.
+pub mod Table63

@@ -1,6 +1,0 @@
--- Tables 6-2 and 6-3 of JT-I430, and the notes of document 01.
-pub mod Notes
-pub mod Names
-pub mod Cells
-pub mod Table62
-pub mod Table63

@@ -1,0 +1,217 @@
+-- What the definitions of a terminal come to, for their readers and for the crates above.
+use mathlib.Core.Path.{_≡_, refl}
+use mathlib.Core.Bool.{Bool, true, false, cond}
+use mathlib.Core.List.{List, [], _∷_, _++_}
+use Prim.Native.Nat.{ℕ, _≤_}
+use native.Mathlib.Omega.{arith}
+use lib.Dec.{eqb}
+use lib.ListN.{length, length-append}
+use borrow.Author.Tests.{le-leb}
+use Rattle.cases.proofs.ByCases.{by-test}
+use Rattle.cells.specs.Notes.{DROPPED1, DROPPED2, packedNotes, noted}
+use Rattle.cells.specs.Cells.{cellOf, stateAfter, cellNotes}
+use Rattle.cells.specs.declared.cell.Cell.{Cell}
+use Rattle.cells.specs.declared.cell.Cell.the-variants.{To, Stay, Impossible, Absent}
+use Rattle.cells.proofs.NotesKept.{noted-packed, everyNote, every-append, every-of, isIndication}
+use Rattle.dchannel.specs.declared.access.Access.{Access}
+use Rattle.dchannel.specs.declared.access.Class.{Class}
+use Rattle.table_6_2.specs.Table62.{table62, F1, F7, ON, OFF, AR, T3-DUE}
+use Rattle.table_6_2.specs.States.{nextState}
+use Rattle.table_6_2.proofs.Laws.{notes-three, notes-indications, t3-keeps-F7}
+use Rattle.timing.specs.Counts.{mostPeriods}
+use Rattle.timing.specs.Timers.{due}
+use Rattle.timing.specs.declared.counts.Periods.{Periods}
+use Rattle.hearing.specs.Alignment.{gained, lost, followed}
+use Rattle.hearing.specs.Heard.{downwardEvent}
+use Rattle.hearing.specs.declared.alignment.Followed.{Followed}
+use Rattle.hearing.specs.declared.heard.Downward.{Downward}
+use Rattle.terminal.specs.Terminal.{accessAfter, droppedNote, moved, acts, happens, aligned, noTimer, switchesOn, switchesOff, requests, handsOver, holding, timer, heardAs, hears, terminalInRange, ready, checked, switchedOn, switchedOff, requested, timerDue, heard, handedOver}
+use Rattle.terminal.specs.declared.Terminal.{Terminal}
+use Rattle.terminal.specs.declared.TerminalStep.{TerminalStep}
+
+-- ---- the calls, where the record is in range and the period one that a bus runs
+abbrev pub at : ℕ → Periods
+at now = record { 0 = now }
+
+checked-called : (step : ℕ → Terminal → TerminalStep) (now : ℕ) (t : Terminal) → now ≤ mostPeriods → terminalInRange t ≡ true → checked step (at now) t ≡ step now t
+unfolding checked ready
+checked-called step now t l h = rw (h, le-leb now mostPeriods l)
+
+module _ (now : ℕ) (t : Terminal) (l : now ≤ mostPeriods) (h : terminalInRange t ≡ true) where
+  pub switched-on-called : switchedOn (at now) t ≡ switchesOn now t
+  switched-on-called = checked-called switchesOn now t l h
+
+  pub switched-off-called : switchedOff (at now) t ≡ switchesOff now t
+  switched-off-called = checked-called switchesOff now t l h
+
+  pub requested-called : requested (at now) t ≡ requests now t
+  requested-called = checked-called requests now t l h
+
+  pub timer-due-called : timerDue (at now) t ≡ timer now t
+  timer-due-called = checked-called timer now t l h
+
+  pub heard-called : (line : Downward) → heard line (at now) t ≡ hears line now t
+  heard-called line = checked-called (hears line) now t l h
+
+pub handed-over-called : (class : Class) (n : ℕ) (t : Terminal) → terminalInRange t ≡ true → handedOver class n t ≡ handsOver class n t
+unfolding handedOver
+handed-over-called class n t h = rw h
+
+-- ---- what an event does to the fields
+module _ (k : ℕ) (now : ℕ) (t : Terminal) where
+  acts-state : (c : Cell) → acts k c now t .terminal .state ≡ stateAfter c (t .state)
+  unfolding acts moved
+  acts-state (To next action notes) = refl
+  acts-state (Stay notes) = refl
+  acts-state Impossible = refl
+  acts-state Absent = refl
+
+  acts-alignment : (c : Cell) → acts k c now t .terminal .alignment ≡ t .alignment
+  unfolding acts moved
+  acts-alignment (To next action notes) = refl
+  acts-alignment (Stay notes) = refl
+  acts-alignment Impossible = refl
+  acts-alignment Absent = refl
+
+  pub happens-state : (e : ℕ) → happens k e now t .terminal .state ≡ nextState e (t .state)
+  unfolding happens
+  happens-state e = acts-state (cellOf table62 e (t .state))
+
+  pub happens-alignment : (e : ℕ) → happens k e now t .terminal .alignment ≡ t .alignment
+  unfolding happens
+  happens-alignment e = acts-alignment (cellOf table62 e (t .state))
+
+-- who stays where it is keeps its access
+stays : (s : ℕ) (a : Access) → accessAfter s s a ≡ record { access = a; dropped = 0 }
+unfolding accessAfter
+stays s a = by-test (eqb s F7) (λ t. rw t) (λ t. rw t)
+
+-- The access goes by the state before and after alone.
+pub happens-access : (k e now : ℕ) (t : Terminal) → happens k e now t .terminal .access ≡ accessAfter (t .state) (nextState e (t .state)) (t .access) .access
+unfolding happens
+happens-access k e now t = from (cellOf table62 e (t .state))
+  where
+    from : (c : Cell) → acts k c now t .terminal .access ≡ accessAfter (t .state) (stateAfter c (t .state)) (t .access) .access
+    from (To next action notes) = unfold acts in unfold moved in refl
+    from (Stay notes) = unfold acts in rw (stays (t .state) (t .access))
+    from Impossible = unfold acts in rw (stays (t .state) (t .access))
+    from Absent = unfold acts in rw (stays (t .state) (t .access))
+
+-- T3, where it is due, leads neither into F7 nor out of it, and so leaves the access alone.
+pub timer-keeps-F7 : (now : ℕ) (t : Terminal) → eqb (timer now t .terminal .state) F7 ≡ eqb (t .state) F7
+unfolding timer noTimer
+timer-keeps-F7 now t = by-test (due (t .t3) now) (λ e. rw (e, happens-state 0 now _ T3-DUE) (t3-keeps-F7 (t .state))) (λ e. rw e)
+
+kept-access : (from next : ℕ) (a : Access) → eqb next F7 ≡ eqb from F7 → accessAfter from next a .access ≡ a
+unfolding accessAfter
+kept-access from next a h = rw h (by-test (eqb from F7) (λ t. rw t) (λ t. rw t))
+
+pub timer-keeps-access : (now : ℕ) (t : Terminal) → timer now t .terminal .access ≡ t .access
+unfolding timer noTimer
+timer-keeps-access now t =
+    by-test (due (t .t3) now)
+    (λ e. rw (e, happens-access 0 T3-DUE now _) (kept-access (t .state) _ (t .access) (t3-keeps-F7 (t .state))))
+    (λ e. rw e)
+
+-- ---- notes
+dropped-length : (class : ℕ) → length (droppedNote class) ≤ 1
+unfolding droppedNote
+dropped-length class = by-test (eqb class 1) (λ t. rw t (omega arith)) (λ t. rw t (by-test (eqb class 2) (λ u. rw u (omega arith)) (λ u. rw u (omega arith))))
+
+-- the note of the frame that an event drops
+abbrev pub droppedAt : ℕ → Terminal → List ℕ
+droppedAt e t = droppedNote (accessAfter (t .state) (nextState e (t .state)) (t .access) .dropped)
+
+none-dropped : (s : ℕ) (a : Access) → droppedNote (accessAfter s s a .dropped) ≡ []
+unfolding droppedNote
+none-dropped s a = rw (stays s a)
+
+acts-notes : (k : ℕ) (c : Cell) (now : ℕ) (t : Terminal) → length (noted (cellNotes c)) ≤ 3 →
+    noted (acts k c now t .notes) ≡ droppedNote (accessAfter (t .state) (stateAfter c (t .state)) (t .access) .dropped) ++ noted (cellNotes c)
+unfolding acts
+acts-notes k (To next action notes) now t l =
+    noted-packed _ (simp length-append (omega (arith, dropped-length (accessAfter (t .state) next (t .access) .dropped))))
+acts-notes k (Stay notes) now t l = rw (none-dropped (t .state) (t .access))
+acts-notes k Impossible now t l = rw (none-dropped (t .state) (t .access))
+acts-notes k Absent now t l = rw (none-dropped (t .state) (t .access))
+
+-- Of an event's notes none is cut off: they are the dropped frame's and then the cell's.
+pub happens-notes : (k e now : ℕ) (t : Terminal) → noted (happens k e now t .notes) ≡ droppedAt e t ++ noted (cellNotes (cellOf table62 e (t .state)))
+unfolding happens
+happens-notes k e now t = acts-notes k (cellOf table62 e (t .state)) now t (notes-three e (t .state))
+
+-- A powered terminal hears a line: the event that it is, with the state, the alignment and the notes.
+abbrev pub following : Downward → Terminal → Followed
+following line t = followed gained lost (line .pulse) (line .framed) (t .alignment)
+
+abbrev pub eventHeard : Downward → Terminal → ℕ
+eventHeard line t = downwardEvent line (following line t)
+
+module _ (line : Downward) (now : ℕ) (t : Terminal) (on : eqb (t .state) F1 ≡ false) where
+  pub hears-state : hears line now t .terminal .state ≡ nextState (eventHeard line t) (t .state)
+  unfolding hears heardAs aligned
+  hears-state = rw on (happens-state 0 now _ (eventHeard line t))
+
+  pub hears-alignment : hears line now t .terminal .alignment ≡ following line t .alignment
+  unfolding hears heardAs aligned
+  hears-alignment = rw on (happens-alignment 0 now _ (eventHeard line t))
+
+  pub hears-access : hears line now t .terminal .access ≡ accessAfter (t .state) (nextState (eventHeard line t) (t .state)) (t .access) .access
+  unfolding hears heardAs aligned
+  hears-access = rw on (happens-access 0 (eventHeard line t) now _)
+
+  pub hears-notes : noted (hears line now t .notes) ≡ droppedAt (eventHeard line t) t ++ noted (cellNotes (cellOf table62 (eventHeard line t) (t .state)))
+  unfolding hears heardAs aligned
+  hears-notes = rw on (happens-notes 0 (eventHeard line t) now _)
+
+-- T3, where it is due, drops no frame: its notes are the cell's.
+pub timer-notes : (now : ℕ) (t : Terminal) → due (t .t3) now ≡ true → noted (timer now t .notes) ≡ noted (cellNotes (cellOf table62 T3-DUE (t .state)))
+unfolding timer noTimer
+timer-notes now t d =
+    rw (d, happens-notes 0 T3-DUE now (record { t3 = 0; access = t .access; state = t .state; alignment = t .alignment }), no-drop (t .state) (nextState T3-DUE (t .state)) (t .access) (t3-keeps-F7 (t .state)))
+  where
+    no-drop : (from next : ℕ) (a : Access) → eqb next F7 ≡ eqb from F7 → droppedNote (accessAfter from next a .dropped) ≡ []
+    no-drop from next a h = unfold accessAfter in unfold droppedNote in rw h (by-test (eqb from F7) (λ t. rw t) (λ t. rw t))
+
+-- Every note is an indication of table 6-2, DROPPED1 or DROPPED2.
+abbrev pub isTerminalNote : ℕ → Bool
+isTerminalNote code = cond (isIndication code) true (cond (eqb code DROPPED1) true (eqb code DROPPED2))
+
+abbrev Told : TerminalStep → Type 0
+Told s = everyNote isTerminalNote (noted (s .notes)) ≡ true
+
+dropped-told : (class : ℕ) → everyNote isTerminalNote (droppedNote class) ≡ true
+unfolding droppedNote everyNote
+dropped-told class = by-test (eqb class 1) (λ t. rw t) (λ t. rw t (by-test (eqb class 2) (λ u. rw u) (λ u. rw u)))
+
+pub happens-told : (k e now : ℕ) (t : Terminal) → Told (happens k e now t)
+happens-told k e now t =
+    rw (happens-notes k e now t)
+    (every-append isTerminalNote (droppedAt e t) _ (dropped-told _)
+    (every-of isIndication isTerminalNote (λ code h. rw h) (noted (cellNotes (cellOf table62 e (t .state)))) (notes-indications e (t .state))))
+
+module _ (now : ℕ) (t : Terminal) where
+  pub on-told : Told (switchesOn now t)
+  unfolding switchesOn everyNote noted
+  on-told = by-test (eqb (t .state) F1) (λ e. rw e (happens-told 0 ON now _)) (λ e. rw e)
+
+  pub off-told : Told (switchesOff now t)
+  unfolding switchesOff everyNote noted
+  off-told = by-test (eqb (t .state) F1) (λ e. rw e) (λ e. rw e (happens-told 0 OFF now _))
+
+  pub requests-told : Told (requests now t)
+  unfolding requests
+  requests-told = happens-told 5 AR now t
+
+  pub timer-told : Told (timer now t)
+  unfolding timer everyNote noted
+  timer-told = by-test (due (t .t3) now) (λ e. rw e (happens-told 0 T3-DUE now _)) (λ e. rw e)
+
+  pub hears-told : (line : Downward) → Told (hears line now t)
+  unfolding hears heardAs everyNote noted
+  hears-told line = by-test (eqb (t .state) F1) (λ e. rw e) (λ e. rw e (happens-told 0 _ now _))
+
+-- A hand-over has no notes.
+pub hands-over-notes : (class : Class) (n : ℕ) (t : Terminal) → handsOver class n t .notes ≡ packedNotes []
+unfolding handsOver holding
+hands-over-notes class n t = by-test (eqb (t .state) F7) (λ e. rw e) (λ e. rw e)

@@ -1,0 +1,2 @@
+-- A terminal.
+pub mod Terminal

@@ -1,0 +1,263 @@
+// A terminal: states F1 to F8, alignment, T3 and its D access.
+ghost use mathlib.Core.Path.{_≡_};
+ghost use mathlib.Core.List.{_++_};
+ghost use Rattle.cells.specs.Notes.{packedNotes, noted};
+ghost use Rattle.terminal.specs.Terminal as spec;
+use cells::cell::Cell;
+use cells::cell::NO_NOTES;
+use cells::notes::DROPPED1;
+use cells::notes::DROPPED2;
+use cells::notes::Notes;
+use dchannel::access::Access;
+use dchannel::access::Class;
+use dchannel::access::Left;
+use hearing::alignment::Alignment;
+use hearing::heard::Downward;
+use table_6_2::AR;
+use table_6_2::F1;
+use table_6_2::F7;
+use table_6_2::F8;
+use table_6_2::OFF;
+use table_6_2::ON;
+use table_6_2::T3_DUE;
+use table_6_2::cell;
+use timing::counts::MOST_PERIODS;
+use timing::counts::Periods;
+use timing::timers::T3;
+use timing::timers::due;
+use timing::timers::timer_after;
+
+// The latest T3: one started when the last period has been run.
+const LATEST_T3: u64 = MOST_PERIODS as u64 + T3 as u64;
+
+pub struct Terminal {
+    // The period at whose start T3 is due, 0 for none.
+    pub t3: u64,
+    pub access: Access,
+    // F1 to F8.
+    pub state: u8,
+    pub alignment: Alignment,
+}
+
+// What a call gives: the record, the notes, and 0 or the number of the refusal with the record as it was.
+pub struct TerminalStep {
+    pub terminal: Terminal,
+    pub notes: Notes,
+    pub reply: u8,
+}
+
+impl Terminal {
+    // F1, unaligned, with no timer running and both levels normal.
+    pub fn fresh() -> Self
+        ensures { λ r. ⌜ r ≡ spec.fresh ⌝ }
+    {
+        Terminal {
+            t3: 0,
+            access: Access::fresh(),
+            state: F1,
+            alignment: Alignment::fresh(),
+        }
+    }
+
+    // Whether every field is in its range.
+    pub fn in_range(self) -> bool
+        ensures { λ r. ⌜ r ≡ spec.terminalInRange self ⌝ }
+    {
+        if self.state < F1 {
+            return false;
+        }
+        if F8 < self.state {
+            return false;
+        }
+        if LATEST_T3 < self.t3 {
+            return false;
+        }
+        self.alignment.in_range() && self.access.in_range()
+    }
+
+    // Power on.
+    pub fn switch_on(self, now: Periods) -> TerminalStep
+        ensures { λ r. ⌜ r ≡ spec.switchedOn now self ⌝ }
+    {
+        if self.ready(now) {
+            if self.state == F1 {
+                let mut t = self;
+                t.alignment = Alignment::fresh();
+                t.happens(0, ON, now)
+            } else {
+                self.unchanged(5)
+            }
+        } else {
+            self.unchanged(1)
+        }
+    }
+
+    // Power off.
+    pub fn switch_off(self, now: Periods) -> TerminalStep
+        ensures { λ r. ⌜ r ≡ spec.switchedOff now self ⌝ }
+    {
+        if self.ready(now) {
+            if self.state == F1 {
+                self.unchanged(5)
+            } else {
+                let mut t = self;
+                t.t3 = 0;
+                t.happens(0, OFF, now)
+            }
+        } else {
+            self.unchanged(1)
+        }
+    }
+
+    // `ar`, the request for activation.
+    pub fn request(self, now: Periods) -> TerminalStep
+        ensures { λ r. ⌜ r ≡ spec.requested now self ⌝ }
+    {
+        if self.ready(now) {
+            self.happens(5, AR, now)
+        } else {
+            self.unchanged(1)
+        }
+    }
+
+    // A frame of a class is handed over; its image has so many bits.
+    pub fn hand_over(self, class: Class, length: u16) -> TerminalStep
+        ensures { λ r. ⌜ r ≡ spec.handedOver class length self ⌝ }
+    {
+        if self.in_range() {
+            if self.state == F7 {
+                let handed = self.access.hand(class, length);
+                let access = handed.access;
+                let mut terminal = self;
+                terminal.access = access;
+                TerminalStep {
+                    terminal,
+                    notes: NO_NOTES,
+                    reply: handed.reply,
+                }
+            } else {
+                self.unchanged(6)
+            }
+        } else {
+            self.unchanged(1)
+        }
+    }
+
+    // The start of a period: T3, where it is due.
+    pub fn timer_due(self, now: Periods) -> TerminalStep
+        ensures { λ r. ⌜ r ≡ spec.timerDue now self ⌝ }
+    {
+        if self.ready(now) {
+            if due(self.t3, now) {
+                let mut spent = self;
+                spent.t3 = 0;
+                spent.happens(0, T3_DUE, now)
+            } else {
+                self.unchanged(0)
+            }
+        } else {
+            self.unchanged(1)
+        }
+    }
+
+    // A period's downward line is heard.
+    pub fn hear(self, line: Downward, now: Periods) -> TerminalStep
+        ensures { λ r. ⌜ r ≡ spec.heard line now self ⌝ }
+    {
+        if self.ready(now) {
+            if self.state == F1 {
+                self.unchanged(0)
+            } else {
+                let before = self.alignment;
+                let f = before.follow(line.pulse, line.framed);
+                let alignment = f.alignment;
+                let mut t = self;
+                t.alignment = alignment;
+                t.happens(0, line.event(f), now)
+            }
+        } else {
+            self.unchanged(1)
+        }
+    }
+
+    // Whether record and period are in range.
+    fn ready(self, now: Periods) -> bool
+        ensures { λ r. ⌜ r ≡ spec.ready now self ⌝ }
+    {
+        self.in_range() && now.in_range()
+    }
+
+    fn unchanged(self, reply: u8) -> TerminalStep
+        ensures { λ r. ⌜ r ≡ spec.unchanged reply self ⌝ }
+    {
+        TerminalStep {
+            terminal: self,
+            notes: NO_NOTES,
+            reply,
+        }
+    }
+
+    // An event of table 6-2; the reply at a cell that is impossible or empty is barred.
+    fn happens(self, barred: u8, event: u8, now: Periods) -> TerminalStep
+        ensures { λ r. ⌜ r ≡ spec.happens barred event (now .0) self ⌝ }
+    {
+        let found = cell(event, self.state);
+        match found {
+            Cell::To(next, action, notes) => {
+                let way = access_after(self.state, next, self.access);
+                let access = way.access;
+                let alignment = self.alignment;
+                let terminal = Terminal {
+                    t3: timer_after(T3, action, now, self.t3),
+                    access,
+                    state: next,
+                    alignment,
+                };
+                TerminalStep {
+                    terminal,
+                    notes: after_dropped(way.dropped, notes),
+                    reply: 0,
+                }
+            }
+            Cell::Stay(notes) => TerminalStep {
+                terminal: self,
+                notes,
+                reply: 0,
+            },
+            Cell::Impossible => self.unchanged(barred),
+            Cell::Absent => self.unchanged(barred),
+        }
+    }
+}
+
+// The D access on the way from a state to the next, and the class of the frame that is dropped there, 0 for none.
+fn access_after(from: u8, next: u8, access: Access) -> Left
+    ensures { λ r. ⌜ r ≡ spec.accessAfter from next access ⌝ }
+{
+    if from == F7 {
+        if next == F7 {
+            return Left { access, dropped: 0 };
+        }
+        return access.leave();
+    }
+    if next == F7 {
+        Left {
+            access: access.enter(),
+            dropped: 0,
+        }
+    } else {
+        Left { access, dropped: 0 }
+    }
+}
+
+// The notes of a cell, after that of a dropped frame.
+fn after_dropped(class: u8, notes: Notes) -> Notes
+    requires { ⌜ packedNotes (noted notes) ≡ notes ⌝ }
+    ensures { λ r. ⌜ r ≡ packedNotes (spec.droppedNote class ++ noted notes) ⌝ }
+{
+    match class {
+        1 => Notes(notes.0 + 1, DROPPED1, notes.1, notes.2, notes.3),
+        2 => Notes(notes.0 + 1, DROPPED2, notes.1, notes.2, notes.3),
+        _ => notes,
+    }
+}

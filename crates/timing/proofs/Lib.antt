@@ -1,0 +1,2 @@
+-- Counts and timers stay in their ranges.
+pub mod RangesKept

@@ -1,0 +1,30 @@
+-- Periods run and D opportunities run (document 01, "D access (6.1)", last paragraph, and refusals 1 and 9).
+use mathlib.Core.Bool.{Bool, cond}
+use Prim.Native.Nat.{ℕ, _+_, _*_}
+use lib.Dec.{leb}
+use Rattle.timing.specs.declared.counts.Periods.{Periods}
+use Rattle.timing.specs.declared.counts.Opportunities.{Opportunities}
+
+-- The most periods that a bus runs.
+abbrev pub mostPeriods : ℕ
+mostPeriods = 4000000
+
+abbrev pub periodsInRange : Periods → Bool
+periodsInRange p = leb (p .0) mostPeriods
+
+-- At most four opportunities for each period run: the one range that goes by another field, so that a period more leaves the count in
+-- its range.
+abbrev pub opportunitiesInRange : Periods → Opportunities → Bool
+opportunitiesInRange p o = leb (o .0) (4 * p .0)
+
+-- Refusal 9: no period can be run any more.
+abbrev pub allRun : Periods → Bool
+allRun p = leb mostPeriods (p .0)
+
+-- One period more, where one can be run.
+unfoldable pub nextPeriod : Periods → Periods
+nextPeriod p = cond (allRun p) p (record { 0 = p .0 + 1 })
+
+-- "four for each period whose lines leave the network end in G3", for every count that a bus can have
+unfoldable pub fourMore : Opportunities → Opportunities
+fourMore o = cond (leb (o .0) (4 * mostPeriods)) (record { 0 = o .0 + 4 }) o

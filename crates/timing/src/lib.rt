@@ -1,0 +1,3 @@
+// Counts of periods and D opportunities, and timers.
+pub mod counts;
+pub mod timers;

@@ -1,0 +1,43 @@
+// Timers: the period at whose start one is due, 0 for none.
+ghost use mathlib.Core.Path.{_≡_};
+ghost use Rattle.timing.specs.Timers.{due, startedBy, timerAfter};
+use super::counts::Periods;
+use cells::cell::START;
+use cells::cell::STOP;
+
+pub const T1: u32 = 120_000;
+
+pub const T2: u32 = 200;
+
+pub const T3: u32 = 120_000;
+
+// Whether a timer is due at the start of a period.
+pub fn due(timer: u64, now: Periods) -> bool
+    ensures { λ r. ⌜ r ≡ due timer (now .0) ⌝ }
+{
+    if timer == 0 {
+        return false;
+    }
+    timer == now.0 as u64
+}
+
+// A timer of a length after a cell's action, where `start` is the action that starts it.
+pub fn started_by(start: u8, length: u32, action: u8, now: Periods, timer: u64) -> u64
+    ensures { λ r. ⌜ r ≡ startedBy start length action (now .0) timer ⌝ }
+{
+    if action == start {
+        now.0 as u64 + length as u64
+    } else {
+        timer
+    }
+}
+
+// A timer that START starts and STOP stops: T1 in table 6-3, T3 in table 6-2.
+pub fn timer_after(length: u32, action: u8, now: Periods, timer: u64) -> u64
+    ensures { λ r. ⌜ r ≡ timerAfter length action (now .0) timer ⌝ }
+{
+    if action == STOP {
+        return 0;
+    }
+    started_by(START, length, action, now, timer)
+}
