@@ -31,6 +31,11 @@ weight-is (suc (suc (suc (suc (suc (suc zero)))))) h = refl
 weight-is (suc (suc (suc (suc (suc (suc (suc zero))))))) h = refl
 weight-is (suc (suc (suc (suc (suc (suc (suc (suc k)))))))) h = absurd (omega arith)
 
+-- the buffer keeps its length
+pub room-kept : (bs : List Bool) (p : Packer) (buf b₁ : List ℕ) → b₁ ≡ putBitsOctets bs p buf → imageRoom ≤ length buf
+    → imageRoom ≤ length b₁
+room-kept bs p buf b₁ e l = rw (e, length-putBits bs p buf) l
+
 -- where the packer stands at five 1s after a bit, the bit has a 0 after it
 pub two-bits : (b : Bool) (p q : Packer) → q ≡ putBit b p → q .ones ≡ 5 → length (stuff (p .ones) (b ∷ [])) ≡ 2
 unfolding putBit stuff
@@ -148,7 +153,7 @@ module _ (body buf : List ℕ) (most : length body ≤ longestBody) (long : imag
         let S : List Bool = stuff 0 (bodyBits body) in (
           omega (arith, body-fits, at-end, length-image body),
           rw e₂ (omega (arith, put-ones S flagPacker, stuff-ones 0 (bodyBits body) (omega arith))),
-          rw (i₂, length-putBits S flagPacker (set buf 0 126)) (after-flag .2),
+          room-kept S flagPacker (set buf 0 126) b₂ i₂ (after-flag .2),
         )
 
     closed-buffer : putBitsOctets flag p₂ b₂ ≡ putBitsOctets (image body) freshPacker buf

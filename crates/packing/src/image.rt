@@ -1,7 +1,6 @@
 // The image of a body (document 01, "D access (6.1)"), packed into octets.
 use crate::bits;
 ghost use mathlib.Core.Path.{_≡_};
-ghost use mathlib.Core.List.{[], _∷_};
 ghost use Prim.Native.Nat.{_+_, _*_, _≤_, _<_};
 ghost use lib.ListN.{length, take};
 ghost use Rattle.hdlc.specs.Bits.{bodyBits};
@@ -110,20 +109,7 @@ impl Packer {
         packer
     }
 
-    // A data bit is put, with a 0 after it where it is the fifth 1.
-    fn put_data(self, bit: bool, out: &mut [u8]) -> Self
-        requires { ⌜ (self .at + length (stuff (self .ones) (bit ∷ [])) ≤ 8 * imageRoom) × (self .ones < 5) × (imageRoom ≤ length (now out)) ⌝ }
-        ensures { λ r. ⌜ (r ≡ putBits (stuff (self .ones) (bit ∷ [])) self) × (now (out .exit) ≡ putBitsOctets (stuff (self .ones) (bit ∷ [])) self (now (out .entry))) ⌝ }
-    {
-        let packer = self.put_bit(bit, out);
-        if packer.ones == 5 {
-            packer.put_bit(false, out)
-        } else {
-            packer
-        }
-    }
-
-    // The bits of a body, or of a part of it, are put.
+    // The bits of a body, or of a part of it, are put, with a 0 after each fifth 1.
     fn put_body(self, body: &[u8], out: &mut [u8]) -> Self
         requires { ⌜ (self .at + length (stuff (self .ones) (bodyBits (now body))) ≤ 8 * imageRoom) × (self .ones < 5) × (imageRoom ≤ length (now out)) ⌝ }
         ensures { λ r. ⌜ (r ≡ putBits (stuff (self .ones) (bodyBits (now (body .entry)))) self) × (now (out .exit) ≡ putBitsOctets (stuff (self .ones) (bodyBits (now (body .entry)))) self (now (out .entry))) ⌝ }
@@ -132,7 +118,10 @@ impl Packer {
         let mut packer = self;
         let mut i: u16 = 0;
         while i < count {
-            packer = packer.put_data(packed_bit(body, i), out);
+            packer = packer.put_bit(packed_bit(body, i), out);
+            if packer.ones == 5 {
+                packer = packer.put_bit(false, out);
+            }
             i += 1;
         }
         packer

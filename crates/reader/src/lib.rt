@@ -10,9 +10,9 @@ ghost use Rattle.reader.specs.ReaderRange.{readerInRange};
 ghost use Rattle.reader.specs.StandsFor.{StandsFor, ReadsOn};
 
 // The most octets of a body.
-const LONGEST_BODY: u16 = 266;
+const LONGEST_BODY: usize = 266;
 // Its bits.
-const BODY_BITS: u16 = 8 * LONGEST_BODY;
+const BODY_BITS: u16 = 8 * LONGEST_BODY as u16;
 // Bits are counted up to here.
 const MOST_BITS: u16 = BODY_BITS + 8;
 
@@ -92,7 +92,7 @@ impl Reader {
     pub fn read(self, bit: bool, octets: &mut [u8]) -> Read
         ensures { λ r. ⌜ (r ≡ readBit bit (now (octets .entry)) self) × (now (octets .exit) ≡ readOctets bit self (now (octets .entry))) × ReadsOn self (now (octets .entry)) bit r (now (octets .exit)) ⌝ }
     {
-        if octets.len() < LONGEST_BODY as usize {
+        if octets.len() < LONGEST_BODY {
             return Read {
                 reader: self,
                 answer: ReaderAnswer::Refused(2),

@@ -5,9 +5,6 @@ use borrow.Author.Needs.{needs}
 use Rattle.reader.proofs.Reader.read.Statement.{statement}
 use Rattle.reader.proofs.Reader.read.Tie as tie
 
-cast-if1 : tie.Need-cast-if1
-cast-if1 c = search needs
-
 returns : tie.Need-returns
 unfolding readBit readOctets
 returns c =
@@ -41,7 +38,6 @@ pub read-spec : {M : Type 1} → statement M
 read-spec =
     tie.close
     (tie.spec
-    cast-if1
     returns
     store-whole-requires
     after-bit-requires

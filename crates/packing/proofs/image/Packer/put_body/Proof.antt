@@ -1,3 +1,5 @@
+use mathlib.Core.Logic.{⊎-elim}
+use mathlib.Core.List.{[], _∷_}
 use mathlib.Core.Path.{_≡_, refl, ap, sym, _∙_}
 use native.Mathlib.Omega.{arith}
 use lib.ListN.{length, take}
@@ -5,9 +7,10 @@ use Prim.Native.Nat.{ℕ, _-_, _*_, _≤_}
 use borrow.Author.Needs.{needs}
 use Rattle.hdlc.specs.Bits.{bodyBits}
 use Rattle.hdlc.specs.Image.{stuff}
-use Rattle.hdlc.proofs.ImageLaws.{length-bodyBits}
-use Rattle.packing.specs.Packer.{putBits, putBitsOctets}
-use Rattle.packing.proofs.ImageParts.{octets-fit, body-room, body-again}
+use Rattle.hdlc.proofs.ImageLaws.{length-bodyBits, length-stuff-least}
+use Rattle.packing.specs.Packer.{putBit, putBits, putBitsOctets}
+use Rattle.packing.specs.declared.image.Packer.{Packer}
+use Rattle.packing.proofs.ImageParts.{room-kept, octets-fit, two-bits, put-one, put-two, body-room, body-again}
 use Rattle.packing.proofs.PackerLaws.{length-putBits}
 use lib.Seq.{take-length}
 use Rattle.packing.proofs.image.Packer.put_body.Statement.{statement}
@@ -33,18 +36,36 @@ loop-holds c = (omega arith, refl, refl)
 packed-bit-requires : tie.Need-packed-bit-requires Inv-loop μ-loop
 packed-bit-requires c κs = search needs
 
-put-data-requires : tie.Need-put-data-requires Inv-loop μ-loop
-put-data-requires c κs =
-    let args = c .before .before .before .before .before .before .args in
+put-bit-requires : tie.Need-put-bit-requires Inv-loop μ-loop
+put-bit-requires c κs =
+    let start = c .before .before .before .before .before .before in
+    let args = start .args in
     let loop = c .before .before .before .loop in
-    let pre = c .before .before .before .before .before .before .pre in
     let packed-bit = c .before .packed-bit in
-    let x = body-room (args .body .now) (loop .i) (args .self) (loop .packer) (omega arith) (pre .1) (loop .inv .1) _ (packed-bit .ensures) in
-    (omega (arith, x .0), x .1, rw (loop .inv .2) (rw (length-putBits (stuff (args .self .ones) (take (loop .i) (bodyBits (args .body .now)))) (args .self) (args .out .now)) (pre .2)))
+    let room = body-room (args .body .now) (loop .i) (args .self) (loop .packer) (omega arith) (start .pre .1) (loop .inv .1) _ (packed-bit .ensures) in (
+      omega (arith, room .0, length-stuff-least (packed-bit .result ∷ []) (loop .packer .ones)),
+      omega (arith, room .1),
+      room-kept _ _ _ _ (loop .inv .2) (start .pre .2),
+    )
+
+put-bit-requires-2 : tie.Need-put-bit-requires-2 Inv-loop μ-loop
+unfolding putBit
+put-bit-requires-2 c κs =
+    let start = c .before .before .before .before .before .before .before .before .before .before .before .before in
+    let args = start .args in
+    let loop = c .before .before .before .before .before .before .before .before .before .loop in
+    let packed-bit = c .before .before .before .before .before .before .before .packed-bit in
+    let put-bit = c .before .before .before .before .before .put-bit in
+    let room = body-room (args .body .now) (loop .i) (args .self) (loop .packer) (omega arith) (start .pre .1) (loop .inv .1) _ (packed-bit .ensures) in
+    let two = two-bits (packed-bit .result) (loop .packer) _ (put-bit .ensures .0) (c .before .if1 .taken) in (
+      omega (arith, room .0, two, ap (λ (p : Packer). p .at) (put-bit .ensures .0)),
+      omega arith,
+      omega (arith, put-bit .kept .1 .1 .0, room-kept _ _ _ _ (loop .inv .2) (start .pre .2)),
+    )
 
 add-i : tie.Need-add-i Inv-loop μ-loop
 add-i c =
-    let args = c .before .before .before .before .before .before .before .before .before .args in
+    let args = c .before .before .before .before .before .before .before .before .before .before .before .args in
     record { fits = omega (arith, octets-fit (args .body .now) (args .self .ones)) }
 
 loop-less : tie.Need-loop-less Inv-loop μ-loop
@@ -52,13 +73,23 @@ loop-less c = omega arith
 
 loop-again : tie.Need-loop-again Inv-loop μ-loop
 loop-again c =
-    let args = c .before .before .before .before .before .before .before .before .before .args in
-    let loop = c .before .before .before .before .before .before .loop in
-    let pre = c .before .before .before .before .before .before .before .before .before .pre in
-    let packed-bit = c .before .before .before .before .packed-bit in
-    let put-data = c .before .before .put-data in
-    let x = body-again (args .body .now) (loop .i) (args .self) (loop .packer) (omega arith) (pre .1) (loop .inv .1) _ (packed-bit .ensures) _ (args .out .now) _ _ (loop .inv .2) (put-data .ensures .0) (put-data .ensures .1) in
-    (omega arith, x .0, x .1)
+    let start = c .before .before .before .before .before .before .before .before .before .before .before in
+    let args = start .args in
+    let loop = c .before .before .before .before .before .before .before .before .loop in
+    let packed-bit = c .before .before .before .before .before .before .packed-bit in
+    let put-bit = c .before .before .before .before .put-bit in
+    let room = body-room (args .body .now) (loop .i) (args .self) (loop .packer) (omega arith) (start .pre .1) (loop .inv .1) _ (packed-bit .ensures) in
+    let again = body-again (args .body .now) (loop .i) (args .self) (loop .packer) (omega arith) (start .pre .1) (loop .inv .1) _ (packed-bit .ensures) in
+    ⊎-elim
+    (λ w.
+    let y = put-two _ _ _ _ _ (room .1) (put-bit .ensures .0) (put-bit .ensures .1) _ _ (w .0 .taken) (w .6 ∙ w .2 .ensures .0) (w .5 ∙ w .2 .ensures .1) in
+    let x = again _ (args .out .now) _ _ (loop .inv .2) (y .0) (y .1) in
+    (omega arith, x .0, x .1))
+    (λ w.
+    let y = put-one _ _ _ _ _ (room .1) (put-bit .ensures .0) (put-bit .ensures .1) (w .0 .left) in
+    let x = again _ (args .out .now) _ _ (loop .inv .2) (w .2 ∙ y .0) (w .1 ∙ y .1) in
+    (omega arith, x .0, x .1))
+    (c .if1 .came)
 
 same-length : tie.Need-same-length Inv-loop μ-loop
 same-length c =
@@ -82,7 +113,8 @@ put-body-spec =
     mul-count
     loop-holds
     packed-bit-requires
-    put-data-requires
+    put-bit-requires
+    put-bit-requires-2
     add-i
     loop-less
     loop-again

@@ -5,7 +5,7 @@ use Prim.Native.Nat.{ℕ, _-_, _*_, _≤_}
 use borrow.Author.Needs.{needs}
 use Rattle.hdlc.specs.Bits.{bodyBits}
 use Rattle.packing.specs.Packer.{putBits, putBitsOctets}
-use Rattle.packing.proofs.ImageParts.{plain-room, plain-again}
+use Rattle.packing.proofs.ImageParts.{room-kept, plain-room, plain-again}
 use Rattle.packing.proofs.PackerLaws.{length-putBits}
 use Rattle.packing.proofs.image.Packer.put_plain.Statement.{statement}
 use Rattle.packing.proofs.image.Packer.put_plain.Tie as tie
@@ -26,10 +26,10 @@ packed-bit-requires c κs = search needs
 
 put-bit-requires : tie.Need-put-bit-requires Inv-loop μ-loop
 put-bit-requires c κs =
-    let args = c .before .before .before .before .before .before .args in
+    let start = c .before .before .before .before .before .before in
     let loop = c .before .before .before .loop in
-    let pre = c .before .before .before .before .before .before .pre in
-    (omega (arith, plain-room (args .octets .now) (loop .i) (args .self) (loop .packer) (omega arith) (loop .inv .1) .0), omega (arith, plain-room (args .octets .now) (loop .i) (args .self) (loop .packer) (omega arith) (loop .inv .1) .1), rw (loop .inv .2) (rw (length-putBits (take (loop .i) (bodyBits (args .octets .now))) (args .self) (args .out .now)) ((pre .2))))
+    let room = plain-room (start .args .octets .now) (loop .i) (start .args .self) (loop .packer) (omega arith) (loop .inv .1) in
+    (omega (arith, room .0), omega (arith, room .1), room-kept _ _ _ _ (loop .inv .2) (start .pre .2))
 
 add-i : tie.Need-add-i Inv-loop μ-loop
 add-i c = search needs
