@@ -5,7 +5,7 @@ use mathlib.Core.Bool.{Bool, true, false}
 use mathlib.Core.List.{List, [], _∷_, _++_, map}
 use Prim.Native.Nat.{ℕ, _<_}
 use lib.ListN.{length, getD, replicate}
-use Rattle.symbols.specs.Symbols.{lineLength, none, plus, minus, level, levels, within, isLine}
+use Rattle.symbols.specs.Symbols.{lineLength, none, plus, minus, level, levels, within, fits, isLine}
 use Rattle.frame.specs.Four.{andAll}
 use Rattle.frame.specs.Bits.{dBits}
 use Rattle.frame.specs.Down.{downLine, eBits, aBit}
@@ -14,7 +14,7 @@ use Rattle.frame.specs.declared.fields.Four.{Four}
 use Rattle.frame.specs.declared.fields.DownFields.{DownFields}
 use Rattle.frame.specs.declared.fields.UpFields.{UpFields}
 use Rattle.info.specs.Info.{info0, info3}
-use Rattle.combining.specs.Combine.{terminals, combinedOver, combined, rows, laid, eight}
+use Rattle.combining.specs.Combine.{terminals, linesLength, combinedOver, combined, rows, laid, eight}
 use Rattle.combining.specs.Groups.{Combines, allOf, ofSender}
 use Rattle.combining.specs.Sent.{Sent, sentLine, sentD, anyCalling, frames, framesLine, heardWithInfo1}
 use Rattle.combining.specs.Hit.{keepLetter, plusLetter, minusLetter, noneLetter, struck, hit, struckBit, struckE, struckA}
@@ -76,6 +76,20 @@ RowsLaid = (ls : List (List ℕ)) → ((i : ℕ) → i < length ls → length (g
 
 abbrev pub EightLaid : Type 0
 EightLaid = (ls : List (List ℕ)) → length ls ≡ terminals → ((i : ℕ) → i < length ls → length (getD ls i []) ≡ lineLength) → eight (laid ls) ≡ combined ls
+
+-- Eight lines so laid fit the call.
+abbrev pub FitsLaid : Type 0
+FitsLaid = (ls : List (List ℕ)) → length ls ≡ terminals → ((i : ℕ) → i < length ls → isLine (getD ls i []) ≡ true) → fits linesLength minus (laid ls) ≡ true
+
+-- The same for what eight terminals send.
+abbrev pub LineSent : Type 0
+LineSent = (x : Sent) → isLine (sentLine x) ≡ true
+
+abbrev pub FitsSent : Type 0
+FitsSent = (xs : List Sent) → length xs ≡ terminals → fits linesLength minus (laid (map sentLine xs)) ≡ true
+
+abbrev pub EightSent : Type 0
+EightSent = (xs : List Sent) → length xs ≡ terminals → eight (laid (map sentLine xs)) ≡ combined (map sentLine xs)
 
 -- ---- A hit changes exactly its letters' positions: keep leaves the symbol, plus, minus and none give theirs.
 abbrev pub HitAt : Type 0
