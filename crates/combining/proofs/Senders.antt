@@ -1,5 +1,5 @@
 -- What terminals give together that send INFO 0, INFO 1 or INFO 3.
-use mathlib.Core.Path.{_≡_, refl, sym, ap, _∙_}
+use mathlib.Core.Path.{_≡_, refl, ap, _∙_}
 use mathlib.Core.Bool.{Bool, true, false, not, cond, _&&_, _||_}
 use mathlib.Core.List.{List, [], _∷_, _++_, map, map-append, append-assoc, append-nil}
 use Prim.Native.Nat.{ℕ, zero, suc, _<_}
@@ -14,7 +14,7 @@ use Rattle.frame.specs.Bits.{dBits, dIndex}
 use Rattle.frame.specs.declared.fields.Four.{Four}
 use Rattle.frame.proofs.Laws.{d-symbol-up, pick-and, pick-ones, pick-d, pick-same, d-index-in-line}
 use Rattle.info.specs.Info.{info0, info1, info3, info3Fields}
-use Rattle.combining.specs.Combine.{isSent, only, combinedSymbol, column, combined}
+use Rattle.combining.specs.Combine.{isSent, only, column, combined}
 use Rattle.combining.specs.Sent.{Sent, sentLine, sentD, isCalling, anyCalling, frames, framesLine, heardWithInfo1}
 use Rattle.combining.specs.Sent.Sent.{silent, calling, frame}
 use Rattle.combining.proofs.Columns.{combined-at, combined-silent, de-morgan}

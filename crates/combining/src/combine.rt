@@ -24,7 +24,7 @@ pub enum Combined {
     Refused(u8),
 }
 
-// Puts a line over what is gathered: 1 for plus, 2 for minus, 3 for both.
+// Puts a line over what is gathered.
 fn overlay(out: &mut [u8], line: &[u8])
     requires { ⌜ length (now out) ≡ lineLength ⌝ }
     requires { ⌜ length (now line) ≡ lineLength ⌝ }
