@@ -53,7 +53,7 @@ group-bit b xs =
     (sym (group-of-bit (allOf b xs)))
 
 -- ---- INFO 3 together.
-all-and : (k : ℕ) (ds : List Four) → allOf (pick k) ds ≡ pick k (andAll ds)
+pub all-and : (k : ℕ) (ds : List Four) → allOf (pick k) ds ≡ pick k (andAll ds)
 unfolding allOf andAll
 all-and k [] = sym (pick-ones k)
 all-and k (d ∷ ds) = rw (all-and k ds, ← pick-and k d (andAll ds))

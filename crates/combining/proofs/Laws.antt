@@ -12,7 +12,7 @@ use Rattle.symbols.specs.Symbols.{lineLength, none, plus, minus, level, levels,
 use Rattle.symbols.proofs.Fill.{getD-tabulate}
 use Rattle.symbols.proofs.Levels.{level-at}
 use Rattle.symbols.proofs.Lines.{fits-is, line-length, line-small, fits-within, line-by}
-use Rattle.frame.specs.Four.{andAll}
+use Rattle.frame.specs.Four.{pick, andAll}
 use Rattle.frame.specs.Down.{downLine, eIndex, aIndex}
 use Rattle.frame.proofs.Laws.{d-up, e-down, a-down}
 use Rattle.info.specs.Info.{info3Fields}
@@ -81,6 +81,15 @@ combined-sent = senders.combined-sent
 
 pub combined-sent-d : Laws.CombinedSentD
 combined-sent-d = senders.combined-sent-d
+
+pub combined-quiet-d : Laws.CombinedQuietD
+combined-quiet-d xs h = rw h at (senders.combined-sent-d xs)
+
+pub pick-all : Laws.PickAll
+pick-all k ds = sym (by-group.all-and k ds)
+
+pub pick-heard : Laws.PickHeard
+pick-heard = senders.pick-heard
 
 -- ---- The lines as they are lent.
 pub rows-laid : Laws.RowsLaid
@@ -166,6 +175,14 @@ e-hit letters l =
 
 pub e-hit-down : Laws.EHitDown
 e-hit-down letters f = e-hit letters (downLine f) ∙ ap (struckE letters) (e-down f)
+
+pub pick-struck-e : Laws.PickStruckE
+unfolding pick
+pick-struck-e zero letters e h = refl
+pick-struck-e (suc zero) letters e h = refl
+pick-struck-e (suc (suc zero)) letters e h = refl
+pick-struck-e (suc (suc (suc zero))) letters e h = refl
+pick-struck-e (suc (suc (suc (suc k)))) letters e h = absurd (omega arith)
 
 pub a-hit : Laws.AHit
 a-hit letters l = bit-hit letters l aIndex (omega arith)

@@ -1,5 +1,5 @@
 -- What terminals give together that send INFO 0, INFO 1 or INFO 3.
-use mathlib.Core.Path.{_≡_, refl, ap, _∙_}
+use mathlib.Core.Path.{_≡_, refl, sym, ap, _∙_}
 use mathlib.Core.Bool.{Bool, true, false, not, cond, _&&_, _||_}
 use mathlib.Core.List.{List, [], _∷_, _++_, map, map-append, append-assoc, append-nil}
 use Prim.Native.Nat.{ℕ, zero, suc, _<_}
@@ -89,14 +89,14 @@ module _ (k : ℕ) (h : k < 4) where
       rw (pick-d k (combined (map sentLine xs)) h, combined-at (map sentLine xs) (dIndex k) (d-index-in-line k h), plus-sent xs, minus-sent xs)
       (heard (eqb k 1 && anyCalling xs) (pick k (andAll (map sentD xs))))
 
-with-info1 : (c : Bool) (d : Four) (k : ℕ) → k < 4 → cond (eqb k 1 && c) (not (pick k d)) (pick k d) ≡ pick k (heardWithInfo1 c d)
+pub pick-heard : (k : ℕ) (info1 : Bool) (d : Four) → k < 4 → pick k (heardWithInfo1 info1 d) ≡ cond (eqb k 1 && info1) (not (pick k d)) (pick k d)
 unfolding pick
-with-info1 c d zero h = refl
-with-info1 c d (suc zero) h = refl
-with-info1 c d (suc (suc zero)) h = refl
-with-info1 c d (suc (suc (suc zero))) h = refl
-with-info1 c d (suc (suc (suc (suc k)))) h = absurd (omega arith)
+pick-heard zero c d h = refl
+pick-heard (suc zero) c d h = refl
+pick-heard (suc (suc zero)) c d h = refl
+pick-heard (suc (suc (suc zero))) c d h = refl
+pick-heard (suc (suc (suc (suc k)))) c d h = absurd (omega arith)
 
 pub combined-sent-d : (xs : List Sent) → dBits (levels (combined (map sentLine xs))) ≡ heardWithInfo1 (anyCalling xs) (andAll (map sentD xs))
 combined-sent-d xs =
-    pick-same _ _ (λ k h. d-heard k h xs ∙ with-info1 (anyCalling xs) (andAll (map sentD xs)) k h)
+    pick-same _ _ (λ k h. d-heard k h xs ∙ sym (pick-heard k (anyCalling xs) (andAll (map sentD xs)) h))
