@@ -2,7 +2,7 @@
 use mathlib.Core.Path.{_≡_, refl, sym, ap, _∙_}
 use mathlib.Core.Bool.{Bool, true, false, cond}
 use mathlib.Core.List.{List, [], _∷_, map, map-map}
-use Prim.Native.Nat.{ℕ, _+_}
+use Prim.Native.Nat.{ℕ}
 use lib.ListN.{getD}
 use Rattle.symbols.specs.Symbols.{lineLength, none, plus, minus, within, tabulate}
 use Rattle.frame.specs.Four.{pick, andAll}
@@ -13,7 +13,7 @@ use Rattle.frame.specs.declared.fields.Four.{Four}
 use Rattle.frame.specs.declared.fields.UpFields.{UpFields}
 use Rattle.frame.proofs.Laws.{groups-up, pick-and, pick-ones}
 use Rattle.info.specs.Info.{info3, info3Fields}
-use Rattle.combining.specs.Combine.{combinedSymbol, column, combinedOver, combined}
+use Rattle.combining.specs.Combine.{column, combinedOver, combined}
 use Rattle.combining.specs.Groups.{Combines, allOf, ofSender}
 use Rattle.combining.specs.Groups.Combines.{end, group}
 use Rattle.combining.proofs.Columns.{map-ext, combined-parts, combined-alike, combined-plus, combined-minus}
@@ -53,7 +53,7 @@ group-bit b xs =
     (sym (group-of-bit (allOf b xs)))
 
 -- ---- INFO 3 together.
-all-and : (k : ℕ) (ds : List Four) → allOf (pick k) ds ≡ pick k (andAll ds)
+pub all-and : (k : ℕ) (ds : List Four) → allOf (pick k) ds ≡ pick k (andAll ds)
 unfolding allOf andAll
 all-and k [] = sym (pick-ones k)
 all-and k (d ∷ ds) = rw (all-and k ds, ← pick-and k d (andAll ds))

@@ -9,10 +9,10 @@ use lib.Dec.{eqb}
 use lib.ListN.{length, getD, replicate, getD-replicate, List·getD-append}
 use lib.Seq.{getD-append-add}
 use Rattle.cases.proofs.ByCases.{by-test, at-each-below}
-use Rattle.symbols.specs.Symbols.{lineLength, none, plus, minus, within, tabulate}
+use Rattle.symbols.specs.Symbols.{lineLength, none, plus, minus, within}
 use Rattle.symbols.proofs.Fill.{getD-tabulate, tabulate-is, tabulate-ext, tabulate-append}
 use Rattle.symbols.proofs.Lines.{within-small}
-use Rattle.combining.specs.Combine.{isSent, only, combinedSymbol, column, combinedOver, combined}
+use Rattle.combining.specs.Combine.{isSent, combinedSymbol, column, combinedOver, combined}
 use Rattle.combining.specs.Groups.{allOf}
 
 pub map-ext : {X Y : Type 0} (f g : X → Y) → ((x : X) → f x ≡ g x) → (xs : List X) → map f xs ≡ map g xs

@@ -1,22 +1,25 @@
 -- The laws of `specs/Laws.antt`, proved under the same names in small letters.
-use mathlib.Core.Path.{_≡_, refl, ap, _∙_}
+use mathlib.Core.Path.{_≡_, refl, sym, ap, _∙_}
 use mathlib.Core.Bool.{Bool, true, false}
-use mathlib.Core.List.{List, [], _∷_}
-use Prim.Native.Nat.{ℕ, suc, _<_, _≤_}
+use mathlib.Core.List.{List, [], _∷_, _++_, map}
+use Prim.Native.Nat.{ℕ, zero, suc, _*_, _<_, _≤_}
 use native.Mathlib.Omega.{arith}
-use lib.Dec.{eqb}
-use lib.ListN.{getD}
+use lib.Dec.{eqb, leb}
+use lib.ListN.{length, getD, length-append, length-map}
 use lib.Seq.{take-at, drop-at}
-use Rattle.cases.proofs.ByCases.{by-test}
-use Rattle.symbols.specs.Symbols.{lineLength, none, plus, minus, level, levels, tabulate}
+use Rattle.cases.proofs.ByCases.{by-test, both}
+use Rattle.symbols.specs.Symbols.{lineLength, none, plus, minus, level, levels, within, isLine, tabulate}
 use Rattle.symbols.proofs.Fill.{getD-tabulate}
 use Rattle.symbols.proofs.Levels.{level-at}
-use Rattle.symbols.proofs.Lines.{line-length, line-small, fits-within, line-by}
-use Rattle.frame.specs.Four.{andAll}
+use Rattle.symbols.proofs.Lines.{fits-is, line-length, line-small, fits-within, line-by}
+use Rattle.frame.specs.Four.{pick, andAll}
 use Rattle.frame.specs.Down.{downLine, eIndex, aIndex}
 use Rattle.frame.proofs.Laws.{d-up, e-down, a-down}
 use Rattle.info.specs.Info.{info3Fields}
+use Rattle.info.proofs.Laws.{line-info0, line-info1, line-info3}
 use Rattle.combining.specs.Combine.{isSent, only, combinedSymbol, column, combined, rows, laid}
+use Rattle.combining.specs.Sent.{Sent, sentLine}
+use Rattle.combining.specs.Sent.Sent.{silent, calling, frame}
 use Rattle.combining.specs.Hit.{keepLetter, plusLetter, minusLetter, struck, hit, struckBit, struckE, struckA}
 use Rattle.combining.specs.Laws
 use Rattle.combining.proofs.Columns as columns
@@ -79,6 +82,15 @@ combined-sent = senders.combined-sent
 pub combined-sent-d : Laws.CombinedSentD
 combined-sent-d = senders.combined-sent-d
 
+pub combined-quiet-d : Laws.CombinedQuietD
+combined-quiet-d xs h = rw h at (senders.combined-sent-d xs)
+
+pub pick-all : Laws.PickAll
+pick-all k ds = sym (by-group.all-and k ds)
+
+pub pick-heard : Laws.PickHeard
+pick-heard = senders.pick-heard
+
 -- ---- The lines as they are lent.
 pub rows-laid : Laws.RowsLaid
 unfolding rows laid
@@ -89,6 +101,44 @@ rows-laid (l ∷ ls) h =
 
 pub eight-laid : Laws.EightLaid
 eight-laid ls n h = ap combined (rw n at (rows-laid ls h))
+
+-- n lines so laid are n times 48 symbols.
+within-append : (k : ℕ) (xs ys : List ℕ) → within k xs ≡ true → within k ys ≡ true → within k (xs ++ ys) ≡ true
+unfolding within
+within-append k [] ys p q = q
+within-append k (x ∷ xs) ys p q = let h = both (leb x k) (within k xs) p in rw (h .0, within-append k xs ys (h .1) q)
+
+laid-length : (ls : List (List ℕ)) → ((i : ℕ) → i < length ls → isLine (getD ls i []) ≡ true) → length (laid ls) ≡ length ls * lineLength
+unfolding laid
+laid-length [] h = refl
+laid-length (l ∷ ls) h =
+    rw (length-append l (laid ls), line-length l (h 0 (omega arith)), laid-length ls (λ i k. h (suc i) (omega arith))) (omega arith)
+
+laid-within : (ls : List (List ℕ)) → ((i : ℕ) → i < length ls → isLine (getD ls i []) ≡ true) → within minus (laid ls) ≡ true
+unfolding laid within
+laid-within [] h = refl
+laid-within (l ∷ ls) h =
+    within-append minus l (laid ls) (fits-within lineLength minus l (h 0 (omega arith))) (laid-within ls (λ i k. h (suc i) (omega arith)))
+
+pub fits-laid : Laws.FitsLaid
+fits-laid ls n h = sym (fits-is minus (laid ls) (laid-length ls h ∙ rw n) (sym (laid-within ls h)))
+
+-- What terminals send.
+pub line-sent : Laws.LineSent
+line-sent silent = line-info0
+line-sent calling = line-info1
+line-sent (frame d) = line-info3 d
+
+each-sent : (xs : List Sent) (i : ℕ) → i < length (map sentLine xs) → isLine (getD (map sentLine xs) i []) ≡ true
+each-sent [] i h = absurd (omega arith)
+each-sent (x ∷ xs) zero h = line-sent x
+each-sent (x ∷ xs) (suc i) h = each-sent xs i (omega arith)
+
+pub fits-sent : Laws.FitsSent
+fits-sent xs n = fits-laid (map sentLine xs) (length-map xs sentLine ∙ n) (each-sent xs)
+
+pub eight-sent : Laws.EightSent
+eight-sent xs n = eight-laid (map sentLine xs) (length-map xs sentLine ∙ n) (λ i h. line-length _ (each-sent xs i h))
 
 -- ---- Hits.
 pub hit-at : Laws.HitAt
@@ -125,6 +175,14 @@ e-hit letters l =
 
 pub e-hit-down : Laws.EHitDown
 e-hit-down letters f = e-hit letters (downLine f) ∙ ap (struckE letters) (e-down f)
+
+pub pick-struck-e : Laws.PickStruckE
+unfolding pick
+pick-struck-e zero letters e h = refl
+pick-struck-e (suc zero) letters e h = refl
+pick-struck-e (suc (suc zero)) letters e h = refl
+pick-struck-e (suc (suc (suc zero))) letters e h = refl
+pick-struck-e (suc (suc (suc (suc k)))) letters e h = absurd (omega arith)
 
 pub a-hit : Laws.AHit
 a-hit letters l = bit-hit letters l aIndex (omega arith)

@@ -65,10 +65,14 @@ combinedReply good = cond good Combined.Line (Combined.Refused 2)
 abbrev pub eight : List ℕ → List ℕ
 eight lines = combined (rows terminals lines)
 
--- How the code gathers what is sent at a position: m has 1 for plus and 2 for minus, so that 3 is both.
+-- How the code gathers what is sent at a position, bit by bit: plus and minus together are 3.
+abbrev pub plusAndMinus : ℕ
+plusAndMinus = 3
+
 unfoldable pub gathered : ℕ → List ℕ → ℕ
 gathered m [] = m
 gathered m (x ∷ xs) = gathered (bitOr m x) xs
 
+-- The symbol of what is gathered.
 abbrev pub gatheredSymbol : ℕ → ℕ
-gatheredSymbol m = cond (eqb m 3) none m
+gatheredSymbol m = cond (eqb m plusAndMinus) none m

@@ -1,20 +1,21 @@
 -- What holds of combined and of hit lines: the statements, each a type. `proofs/Laws.antt` proves each under the same name in small
 -- letters.
 use mathlib.Core.Path.{_≡_}
-use mathlib.Core.Bool.{Bool, true, false}
+use mathlib.Core.Bool.{Bool, true, false, not, cond, _&&_}
 use mathlib.Core.List.{List, [], _∷_, _++_, map}
 use Prim.Native.Nat.{ℕ, _<_}
+use lib.Dec.{eqb}
 use lib.ListN.{length, getD, replicate}
-use Rattle.symbols.specs.Symbols.{lineLength, none, plus, minus, level, levels, within, isLine}
-use Rattle.frame.specs.Four.{andAll}
+use Rattle.symbols.specs.Symbols.{lineLength, none, plus, minus, level, levels, within, fits, isLine}
+use Rattle.frame.specs.Four.{pick, andAll}
 use Rattle.frame.specs.Bits.{dBits}
-use Rattle.frame.specs.Down.{downLine, eBits, aBit}
+use Rattle.frame.specs.Down.{downLine, eBits, eIndex, aBit}
 use Rattle.frame.specs.Up.{upLine, groupSymbols, upGroups}
 use Rattle.frame.specs.declared.fields.Four.{Four}
 use Rattle.frame.specs.declared.fields.DownFields.{DownFields}
 use Rattle.frame.specs.declared.fields.UpFields.{UpFields}
 use Rattle.info.specs.Info.{info0, info3}
-use Rattle.combining.specs.Combine.{terminals, combinedOver, combined, rows, laid, eight}
+use Rattle.combining.specs.Combine.{terminals, linesLength, combinedOver, combined, rows, laid, eight}
 use Rattle.combining.specs.Groups.{Combines, allOf, ofSender}
 use Rattle.combining.specs.Sent.{Sent, sentLine, sentD, anyCalling, frames, framesLine, heardWithInfo1}
 use Rattle.combining.specs.Hit.{keepLetter, plusLetter, minusLetter, noneLetter, struck, hit, struckBit, struckE, struckA}
@@ -70,12 +71,36 @@ CombinedSent = (xs : List Sent) → anyCalling xs ≡ false → combined (map se
 abbrev pub CombinedSentD : Type 0
 CombinedSentD = (xs : List Sent) → dBits (levels (combined (map sentLine xs))) ≡ heardWithInfo1 (anyCalling xs) (andAll (map sentD xs))
 
+abbrev pub CombinedQuietD : Type 0
+CombinedQuietD = (xs : List Sent) → anyCalling xs ≡ false → dBits (levels (combined (map sentLine xs))) ≡ andAll (map sentD xs)
+
+-- Place by place.
+abbrev pub PickAll : Type 0
+PickAll = (k : ℕ) (ds : List Four) → pick k (andAll ds) ≡ allOf (pick k) ds
+
+abbrev pub PickHeard : Type 0
+PickHeard = (k : ℕ) (info1 : Bool) (d : Four) → k < 4 → pick k (heardWithInfo1 info1 d) ≡ cond (eqb k 1 && info1) (not (pick k d)) (pick k d)
+
 -- ---- The lines as they are lent: laid one after the other, they are the rows, and the call combines them.
 abbrev pub RowsLaid : Type 0
 RowsLaid = (ls : List (List ℕ)) → ((i : ℕ) → i < length ls → length (getD ls i []) ≡ lineLength) → rows (length ls) (laid ls) ≡ ls
 
 abbrev pub EightLaid : Type 0
 EightLaid = (ls : List (List ℕ)) → length ls ≡ terminals → ((i : ℕ) → i < length ls → length (getD ls i []) ≡ lineLength) → eight (laid ls) ≡ combined ls
+
+-- Eight lines so laid fit the call.
+abbrev pub FitsLaid : Type 0
+FitsLaid = (ls : List (List ℕ)) → length ls ≡ terminals → ((i : ℕ) → i < length ls → isLine (getD ls i []) ≡ true) → fits linesLength minus (laid ls) ≡ true
+
+-- The same for what eight terminals send.
+abbrev pub LineSent : Type 0
+LineSent = (x : Sent) → isLine (sentLine x) ≡ true
+
+abbrev pub FitsSent : Type 0
+FitsSent = (xs : List Sent) → length xs ≡ terminals → fits linesLength minus (laid (map sentLine xs)) ≡ true
+
+abbrev pub EightSent : Type 0
+EightSent = (xs : List Sent) → length xs ≡ terminals → eight (laid (map sentLine xs)) ≡ combined (map sentLine xs)
 
 -- ---- A hit changes exactly its letters' positions: keep leaves the symbol, plus, minus and none give theirs.
 abbrev pub HitAt : Type 0
@@ -102,6 +127,9 @@ EHit = (letters l : List ℕ) → eBits (levels (hit letters l)) ≡ struckE let
 
 abbrev pub EHitDown : Type 0
 EHitDown = (letters : List ℕ) (f : DownFields) → eBits (levels (hit letters (downLine f))) ≡ struckE letters (f .e)
+
+abbrev pub PickStruckE : Type 0
+PickStruckE = (k : ℕ) (letters : List ℕ) (e : Four) → k < 4 → pick k (struckE letters e) ≡ struckBit (getD letters (eIndex k) keepLetter) (pick k e)
 
 abbrev pub AHit : Type 0
 AHit = (letters l : List ℕ) → aBit (levels (hit letters l)) ≡ struckA letters (aBit (levels l))

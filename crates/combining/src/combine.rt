@@ -15,8 +15,8 @@ pub const TERMINALS: usize = 8;
 
 pub const LINES_LENGTH: usize = 384;
 
-// What stands for plus and minus both, 1 and 2 put together.
-const BOTH: u8 = 3;
+// Plus and minus gathered together.
+const PLUS_AND_MINUS: u8 = 3;
 
 // Whether the line was combined, or the number of the refusal.
 pub enum Combined {
@@ -24,7 +24,7 @@ pub enum Combined {
     Refused(u8),
 }
 
-// Puts a line over what is gathered: 1 for plus, 2 for minus, 3 for both.
+// Puts a line over what is gathered.
 fn overlay(out: &mut [u8], line: &[u8])
     requires { ⌜ length (now out) ≡ lineLength ⌝ }
     requires { ⌜ length (now line) ≡ lineLength ⌝ }
@@ -40,7 +40,7 @@ fn overlay(out: &mut [u8], line: &[u8])
 fn gathered_symbol(m: u8) -> u8
     ensures { λ r. ⌜ r ≡ gatheredSymbol m ⌝ }
 {
-    if m == BOTH { NONE } else { m }
+    if m == PLUS_AND_MINUS { NONE } else { m }
 }
 
 // Makes symbols of what is gathered: none where both are sent.

@@ -6,7 +6,7 @@ use Prim.Native.Nat.{ℕ, zero, suc, _+_, _-_, _%_, _<_, _≤_}
 use native.Mathlib.Omega.{arith}
 use borrow.Author.Tests.{eqb-true, eqb-false, eq-eqb, ne-eqb}
 use lib.Dec.{eqb}
-use lib.ListN.{getD}
+use lib.ListN.{getD, replicate}
 use Rattle.cases.proofs.ByCases.{by-test}
 use Rattle.symbols.specs.Symbols.{none, plus, minus}
 use Rattle.frame.specs.Bits.{octetBits, zeros, balanced, dIndex}
@@ -81,3 +81,21 @@ d-symbol-up (suc zero) f h = rw (groups-up f)
 d-symbol-up (suc (suc zero)) f h = rw (groups-up f)
 d-symbol-up (suc (suc (suc zero))) f h = rw (groups-up f)
 d-symbol-up (suc (suc (suc (suc k)))) f h = absurd (omega arith)
+
+-- 1s are nones.
+alternate-ones : (n : ℕ) → alternate minus (replicate n true) ≡ replicate n none
+unfolding alternate
+alternate-ones zero = refl
+alternate-ones (suc n) = rw (alternate-ones n)
+
+zeros-ones : (n : ℕ) → zeros (replicate n true) ≡ 0
+unfolding zeros
+zeros-ones zero = refl
+zeros-ones (suc n) = rw (zeros-ones n)
+
+ones-more : (n : ℕ) → replicate n true ++ (true ∷ []) ≡ replicate (suc n) true
+ones-more zero = refl
+ones-more (suc n) = rw (ones-more n)
+
+pub ones-silent : (n : ℕ) → groupSymbols (replicate n true) ≡ replicate (suc n) none
+ones-silent n = rw (zeros-ones n, ones-more n) (alternate-ones (suc n))

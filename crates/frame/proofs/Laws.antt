@@ -53,6 +53,9 @@ groups-up = groups.groups-up
 pub d-symbol-up : Laws.DSymbolUp
 d-symbol-up = groups.d-symbol-up
 
+pub ones-silent : Laws.OnesSilent
+ones-silent = groups.ones-silent
+
 -- ---- Four bits by their place.
 pub pick-and : Laws.PickAnd
 unfolding pick

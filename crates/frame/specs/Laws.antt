@@ -2,14 +2,14 @@
 use mathlib.Core.Path.{_≡_}
 use mathlib.Core.Bool.{Bool, true, cond, _&&_}
 use mathlib.Core.List.{List}
-use Prim.Native.Nat.{ℕ, _<_}
-use lib.ListN.{getD}
+use Prim.Native.Nat.{ℕ, suc, _<_}
+use lib.ListN.{getD, replicate}
 use Rattle.symbols.specs.Symbols.{lineLength, none, minus, level, levels, isLine}
 use Rattle.frame.specs.Four.{pick, padded, allFour, andFour}
 use Rattle.frame.specs.Bits.{balanced, dBits, dIndex}
 use Rattle.frame.specs.Polarity.{nextPulse}
 use Rattle.frame.specs.Down.{downBits, downLine, eBits, aBit, eIndex}
-use Rattle.frame.specs.Up.{upBits, upLine, upGroups, laidOut}
+use Rattle.frame.specs.Up.{upBits, upLine, groupSymbols, upGroups, laidOut}
 use Rattle.frame.specs.declared.fields.Four.{Four}
 use Rattle.frame.specs.declared.fields.DownFields.{DownFields}
 use Rattle.frame.specs.declared.fields.UpFields.{UpFields}
@@ -50,6 +50,10 @@ GroupsUp = (f : UpFields) → upLine f ≡ laidOut upGroups f
 
 abbrev pub DSymbolUp : Type 0
 DSymbolUp = (k : ℕ) (f : UpFields) → k < 4 → getD (upLine f) (dIndex k) none ≡ cond (pick k (f .d)) none minus
+
+-- A group of 1s, with its L, is nones.
+abbrev pub OnesSilent : Type 0
+OnesSilent = (n : ℕ) → groupSymbols (replicate n true) ≡ replicate (suc n) none
 
 -- ---- Four bits by their place.
 abbrev pub PickAnd : Type 0

@@ -1,18 +1,26 @@
--- The loop that reads an octet at symbol level.
-use mathlib.Core.Path.{_≡_, refl, _∙_}
+-- Bits and octets of a line at symbol level.
+use mathlib.Core.Path.{_≡_, _∙_}
 use mathlib.Core.List.{List, map-append}
-use Prim.Native.Nat.{ℕ, _+_, _*_, _<_, _≤_}
+use Prim.Native.Nat.{ℕ, _+_, _-_, _*_, _<_, _≤_}
 use native.Mathlib.Numerals.{add-one}
 use native.Mathlib.Omega.{arith}
 use lib.ListN.{length, take, drop, getD, length-drop, length-map}
 use lib.Seq.{take-suc, length-take-le, getD-drop}
 use lib.Pow.{pow-mono}
-use Rattle.symbols.specs.Symbols.{level, levels}
-use Rattle.symbols.proofs.Levels.{levels-take, levels-drop}
-use Rattle.frame.specs.Bits.{bit, numberHighFirst}
+use Rattle.symbols.specs.Symbols.{none, level, levels}
+use Rattle.symbols.proofs.Levels.{level-at, levels-take, levels-drop}
+use Rattle.frame.specs.Bits.{bit, numberHighFirst, fourAt}
 use Rattle.frame.proofs.Bits.{number-lt, number-last}
 
--- From index at on: n is the number of the first i bits.
+-- The bits at four indices, which are one below their positions.
+pub four-levels : (l : List ℕ) (i j k m : ℕ)
+    → record { first = level (getD l i none); second = level (getD l j none); third = level (getD l k none); fourth = level (getD l m none) }
+    ≡ fourAt (i + 1) (j + 1) (k + 1) (m + 1) (levels l)
+four-levels l i j k m =
+    let back : (n : ℕ) → n + 1 - 1 ≡ n = λ n. omega arith in
+    simp back (rw (level-at l i, level-at l j, level-at l k, level-at l m))
+
+-- The loop that reads an octet, from index at on: n is the number of the first i bits.
 pub record OctetReading (line : List ℕ) (at n i : ℕ) : Type 0 where
   pub long : at + 8 ≤ length line
   pub low : i ≤ 8

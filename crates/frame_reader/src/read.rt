@@ -1,8 +1,7 @@
 // Reading frames, and what is taken from a line at symbol level: none is 1, a pulse is 0.
 ghost use mathlib.Core.Path.{_≡_};
-ghost use mathlib.Core.Bool.{true};
 ghost use Prim.Native.Nat.{_+_, _<_, _≤_};
-ghost use lib.ListN.{length, getD, take, drop};
+ghost use lib.ListN.{length, take, drop};
 ghost use Rattle.symbols.specs.Symbols.{lineLength, levels, sameSymbols, tested};
 ghost use Rattle.frame.specs.Bits.{numberHighFirst, fourAt, dBits};
 ghost use Rattle.frame.specs.Down.{downLine, downFieldsOf, eBits};
@@ -23,14 +22,6 @@ use symbols::TestAnswer;
 use symbols::answer;
 use symbols::fits;
 use symbols::same_symbols;
-
-// The bit at index i.
-fn level_at(line: &[u8], i: usize) -> bool
-    requires { ⌜ i < length (now line) ⌝ }
-    ensures { λ r. ⌜ r ≡ getD (levels (now (line .entry))) i true ⌝ }
-{
-    line[i] == NONE
-}
 
 // The octet whose bits are the eight symbols from index at on.
 fn octet_at(line: &[u8], at: usize) -> u8
@@ -54,11 +45,15 @@ fn four_at(line: &[u8], i: usize, j: usize, k: usize, l: usize) -> Four
     requires { ⌜ l < length (now line) ⌝ }
     ensures { λ r. ⌜ r ≡ fourAt (i + 1) (j + 1) (k + 1) (l + 1) (levels (now (line .entry))) ⌝ }
 {
+    let first = line[i] == NONE;
+    let second = line[j] == NONE;
+    let third = line[k] == NONE;
+    let fourth = line[l] == NONE;
     Four {
-        first: level_at(line, i),
-        second: level_at(line, j),
-        third: level_at(line, k),
-        fourth: level_at(line, l),
+        first: first,
+        second: second,
+        third: third,
+        fourth: fourth,
     }
 }
 
@@ -81,6 +76,10 @@ fn down_fields(line: &[u8]) -> DownFields
     requires { ⌜ length (now line) ≡ lineLength ⌝ }
     ensures { λ r. ⌜ r ≡ downFieldsOf (now (line .entry)) ⌝ }
 {
+    let a = line[12] == NONE;
+    let fa = line[13] == NONE;
+    let m = line[25] == NONE;
+    let s = line[36] == NONE;
     DownFields {
         b1first: octet_at(line, 2),
         b2first: octet_at(line, 15),
@@ -88,10 +87,10 @@ fn down_fields(line: &[u8]) -> DownFields
         b2second: octet_at(line, 37),
         e: e_of(line),
         d: d_of(line),
-        a: level_at(line, 12),
-        fa: level_at(line, 13),
-        m: level_at(line, 25),
-        s: level_at(line, 36),
+        a: a,
+        fa: fa,
+        m: m,
+        s: s,
     }
 }
 
@@ -186,7 +185,7 @@ pub fn a_bit(line: &[u8]) -> TestAnswer
     ensures { λ r. ⌜ r ≡ tested aLevel (now (line .entry)) ⌝ }
 {
     if fits(line, LINE_LENGTH, MINUS) {
-        answer(level_at(line, 12))
+        answer(line[12] == NONE)
     } else {
         TestAnswer::Refused(2)
     }

@@ -1,16 +1,17 @@
 -- The laws of `specs/Laws.antt`, proved under the same names in small letters.
 use mathlib.Core.Path.{_≡_, refl, sym, _∙_}
-use mathlib.Core.Bool.{true, false, true≢false}
+use mathlib.Core.Bool.{true≢false}
 use mathlib.Core.List.{List, [], _∷_}
 use Prim.Native.Nat.{ℕ}
 use borrow.Author.Tests.{eqb-true, eqb-false, not-false}
 use lib.Dec.{eqb}
 use lib.ListN.{length, replicate}
 use Rattle.cases.proofs.ByCases.{by-test}
-use Rattle.symbols.specs.Symbols.{none}
+use Rattle.symbols.specs.Symbols.{none, within, fits}
 use Rattle.symbols.proofs.Lines.{same-symbols-true, same-symbols-self}
 use Rattle.frame.specs.Down.{downBits, downLine}
 use Rattle.frame.specs.Up.{upBits, upLine}
+use Rattle.frame.proofs.Laws.{line-down, line-up, d-up, e-down, a-down}
 use Rattle.info.specs.Info.{info1, info2Fields, info3Fields, info4Fields, isInfo1}
 use Rattle.info.specs.Framed.{firstPulse, framedIn, hasPulse}
 use Rattle.info.specs.Laws
@@ -82,3 +83,41 @@ pulse-info3 d = pulse-up (info3Fields d)
 
 pub pulse-info4 : Laws.PulseInfo4
 pulse-info4 e = pulse-down (info4Fields e)
+
+pub line-info0 : Laws.LineInfo0
+unfolding fits within
+line-info0 = refl
+
+pub line-info1 : Laws.LineInfo1
+unfolding fits within
+line-info1 = refl
+
+pub line-info2 : Laws.LineInfo2
+line-info2 = line-down info2Fields
+
+pub line-info3 : Laws.LineInfo3
+line-info3 d = line-up (info3Fields d)
+
+pub line-info4 : Laws.LineInfo4
+line-info4 e = line-down (info4Fields e)
+
+pub e-info0 : Laws.EInfo0
+e-info0 = refl
+
+pub e-info2 : Laws.EInfo2
+e-info2 = e-down info2Fields
+
+pub e-info4 : Laws.EInfo4
+e-info4 e = e-down (info4Fields e)
+
+pub a-info0 : Laws.AInfo0
+a-info0 = refl
+
+pub a-info2 : Laws.AInfo2
+a-info2 = a-down info2Fields
+
+pub a-info4 : Laws.AInfo4
+a-info4 e = a-down (info4Fields e)
+
+pub d-info3 : Laws.DInfo3
+d-info3 d = d-up (info3Fields d)

@@ -15,7 +15,7 @@ use Rattle.frame.specs.declared.fields.UpFields.{UpFields}
 abbrev pub info0 : List ℕ
 info0 = replicate lineLength none
 
--- INFO 1 is plus, minus, six nones, six times.
+-- Two symbols and six nones, six times.
 abbrev pub times : ℕ → List ℕ → List ℕ
 times zero l = []
 times (suc n) l = l ++ times n l
@@ -23,6 +23,7 @@ times (suc n) l = l ++ times n l
 abbrev pub repeated : ℕ → ℕ → List ℕ
 repeated first second = times 6 (first ∷ second ∷ replicate 6 none)
 
+-- INFO 1 is plus, minus, six nones, six times.
 abbrev pub info1 : List ℕ
 info1 = repeated plus minus
 

@@ -5,8 +5,10 @@ use mathlib.Core.Logic.{_↔_}
 use mathlib.Core.List.{List}
 use Prim.Native.Nat.{ℕ}
 use lib.ListN.{length}
-use Rattle.symbols.specs.Symbols.{lineLength}
-use Rattle.frame.specs.Down.{downLine}
+use Rattle.symbols.specs.Symbols.{lineLength, levels, isLine}
+use Rattle.frame.specs.Four.{allFour}
+use Rattle.frame.specs.Bits.{dBits}
+use Rattle.frame.specs.Down.{downLine, eBits, aBit}
 use Rattle.frame.specs.Up.{upLine}
 use Rattle.frame.specs.declared.fields.Four.{Four}
 use Rattle.frame.specs.declared.fields.DownFields.{DownFields}
@@ -67,3 +69,41 @@ PulseInfo3 = (d : Four) → hasPulse (info3 d) ≡ true
 
 abbrev pub PulseInfo4 : Type 0
 PulseInfo4 = (e : Four) → hasPulse (info4 e) ≡ true
+
+-- All five are lines.
+abbrev pub LineInfo0 : Type 0
+LineInfo0 = isLine info0 ≡ true
+
+abbrev pub LineInfo1 : Type 0
+LineInfo1 = isLine info1 ≡ true
+
+abbrev pub LineInfo2 : Type 0
+LineInfo2 = isLine info2 ≡ true
+
+abbrev pub LineInfo3 : Type 0
+LineInfo3 = (d : Four) → isLine (info3 d) ≡ true
+
+abbrev pub LineInfo4 : Type 0
+LineInfo4 = (e : Four) → isLine (info4 e) ≡ true
+
+-- What is taken from them at symbol level: E and A downward, D upward.
+abbrev pub EInfo0 : Type 0
+EInfo0 = eBits (levels info0) ≡ allFour true
+
+abbrev pub EInfo2 : Type 0
+EInfo2 = eBits (levels info2) ≡ allFour false
+
+abbrev pub EInfo4 : Type 0
+EInfo4 = (e : Four) → eBits (levels (info4 e)) ≡ e
+
+abbrev pub AInfo0 : Type 0
+AInfo0 = aBit (levels info0) ≡ true
+
+abbrev pub AInfo2 : Type 0
+AInfo2 = aBit (levels info2) ≡ false
+
+abbrev pub AInfo4 : Type 0
+AInfo4 = (e : Four) → aBit (levels (info4 e)) ≡ true
+
+abbrev pub DInfo3 : Type 0
+DInfo3 = (d : Four) → dBits (levels (info3 d)) ≡ d
