@@ -1,10 +1,9 @@
 // Table IV-3: a terminal. Row 40 is empty.
 use super::NOW;
 use super::ONES;
-use super::print::before;
-use super::print::notes;
+use super::due;
+use super::print::number;
 use super::print::outcome;
-use super::print::say;
 use super::print::timer;
 use super::tests;
 use activation::terminal::Terminal;
@@ -14,9 +13,9 @@ use line::info::info2;
 use line::info::info4;
 use period::alignment::Alignment;
 use period::counts::Periods;
+use period::hearing::Downward;
 use period::sensing::SensedDown;
 use period::sensing::sense_down;
-use tables::cell::NO_NOTES;
 use tables::table_6_2::AR;
 use tables::table_6_2::INFO_0;
 use tables::table_6_2::INFO_2;
@@ -39,27 +38,26 @@ pub(crate) fn rows() {
     tests(3, 41, 8, &[OFF, AR, INFO_0, INFO_2, INFO_4, SIGNAL, T3_DUE]);
 }
 
-pub(crate) fn test(number: u8, state: u8, event: u8) {
+pub(crate) fn test(state: u8, event: u8) {
     let step = meets(unit(state, event), event);
-    let after = step.terminal;
-    before(b"IV-3 ", number, b" F", state);
-    name(event);
-    outcome(b" F", after.state, info_sent(after.state), step.reply);
-    timer(b" T3 ", after.t3);
-    notes(step.notes);
+    outcome(
+        b"F",
+        step.terminal.state,
+        info_sent(step.terminal.state),
+        step.reply,
+        step.notes,
+    );
+    timer(b"T3 ", step.terminal.t3);
 }
 
-fn name(event: u8) {
+// The stimulus, given to a unit.
+fn meets(unit: Terminal, event: u8) -> TerminalStep {
     match event {
-        ON => say(b" on"),
-        OFF => say(b" off"),
-        AR => say(b" PH-AR"),
-        T3_DUE => say(b" T3"),
-        INFO_0 => say(b" INFO 0"),
-        SIGNAL => say(b" signal"),
-        INFO_2 => say(b" INFO 2"),
-        INFO_4 => say(b" INFO 4"),
-        _ => say(b" loss"),
+        ON => unit.on(Periods(NOW)),
+        OFF => unit.off(Periods(NOW)),
+        AR => unit.ar(Periods(NOW)),
+        T3_DUE => unit.timer_due(Periods(NOW)),
+        _ => unit.hear(downward(event), Periods(NOW)),
     }
 }
 
@@ -68,9 +66,8 @@ fn name(event: u8) {
 fn unit(state: u8, event: u8) -> Terminal {
     let aligned = (event == INFO_0) | (INFO_2 <= event);
     let runs = (2 < state) & (state != 7);
-    let later = if runs { 50_000 } else { 0 };
     Terminal {
-        t3: if event == T3_DUE { NOW } else { later },
+        t3: due(event == T3_DUE, runs, 50_000),
         access: Access::fresh(),
         state,
         alignment: Alignment {
@@ -80,18 +77,8 @@ fn unit(state: u8, event: u8) -> Terminal {
     }
 }
 
-// The stimulus. For a signal or a loss the line has a single pulse.
-fn meets(unit: Terminal, event: u8) -> TerminalStep {
-    match event {
-        ON => unit.on(Periods(NOW)),
-        OFF => unit.off(Periods(NOW)),
-        AR => unit.ar(Periods(NOW)),
-        T3_DUE => unit.timer_due(Periods(NOW)),
-        _ => hears(unit, event),
-    }
-}
-
-fn hears(unit: Terminal, event: u8) -> TerminalStep {
+// What the stimulus's line shows: for a signal or a loss, a single pulse.
+fn downward(event: u8) -> Downward {
     let mut line = [0u8; 48];
     match event {
         INFO_0 => {}
@@ -105,17 +92,21 @@ fn hears(unit: Terminal, event: u8) -> TerminalStep {
             line[4] = 1;
         }
     }
-    heard(unit, &line)
+    shown(&line)
 }
 
-fn heard(unit: Terminal, line: &[u8; 48]) -> TerminalStep {
+// What a line shows; a refused one, which shows nothing, is told.
+fn shown(line: &[u8; 48]) -> Downward {
     let sensed = sense_down(line);
     match sensed {
-        SensedDown::Line(shows) => unit.hear(shows, Periods(NOW)),
-        SensedDown::Refused(k) => TerminalStep {
-            terminal: unit,
-            notes: NO_NOTES,
-            reply: k,
-        },
+        SensedDown::Line(shows) => shows,
+        SensedDown::Refused(k) => {
+            number(b"refused ", k);
+            Downward {
+                pulse: false,
+                framed: false,
+                a: false,
+            }
+        }
     }
 }
