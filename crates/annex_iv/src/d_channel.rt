@@ -14,7 +14,8 @@ pub(crate) fn tests(k: u8, class: Class) {
     starts_over(k, 9, 0, true);
     starts_over(k, 9, 0, false);
     starts_over(k, 24, 6, false);
-    sent_whole(k, class);
+    starts_again(k, class);
+    returns(k);
 }
 
 // A frame of class k is held and some of its bits have left, with C as it is then.
@@ -49,29 +50,38 @@ fn mismatch(k: u8, low: bool, last: bool) {
     number(b" D ", turn.d as u8);
 }
 
-// (b): after an echo that differs, C, how many 1s of the echo go before the start, and C there.
+// (b): after an echo that differs, how many 1s of the echo go before the start.
 fn starts_over(k: u8, sent: u16, count: u8, last: bool) {
     number(b"\nIV.2.2 b class ", k);
     echo(false, last);
-    let stopped = holding(k, false, sent, count, last)
-        .turn(!last, false)
-        .access;
-    number(b" C ", stopped.count);
-    settles(b" starts after ", stopped);
+    let turn = holding(k, false, sent, count, last).turn(!last, false);
+    settles(b" starts after ", turn.access);
 }
 
-// (c): after a sent frame, the echo of whose last bit, a 0, agrees: how many 1s of the echo go before the next one's start, or bring a
-// terminal without a frame back to the normal level.
-fn sent_whole(k: u8, class: Class) {
-    let done = holding(k, false, 24, 0, false).turn(false, false).access;
+// (c): after a sent frame, how many 1s of the echo go before the next one's start ..
+fn starts_again(k: u8, class: Class) {
     number(b"\nIV.2.2 c class ", k);
-    settles(b" low starts after ", done.hand(class, 24).access);
-    number(b"\nIV.2.2 c class ", k);
-    settles(b" low normal after ", done);
+    say(b" low");
+    let handed = done(k).hand(class, 24);
+    settles(b" starts after ", handed.access);
 }
 
-// The 1s of the echo, at most 20, until a held frame starts or, without one, both levels are normal; and C then.
+// .. or bring a terminal without a frame back to the normal level.
+fn returns(k: u8) {
+    number(b"\nIV.2.2 c class ", k);
+    say(b" low");
+    settles(b" normal after ", done(k));
+}
+
+// The record after a frame of class k has been sent: the echo of its last bit, a 0, agrees.
+fn done(k: u8) -> Access {
+    let turn = holding(k, false, 24, 0, false).turn(false, false);
+    turn.access
+}
+
+// C; the 1s of the echo, at most 20, until a held frame starts or, without one, both levels are normal; and C then.
 fn settles(text: &[u8], access: Access) {
+    number(b" C ", access.count);
     let mut a = access;
     let mut n: u8 = 0;
     while n < 20 {
