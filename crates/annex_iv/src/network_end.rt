@@ -39,13 +39,8 @@ pub(crate) fn rows() {
 
 pub(crate) fn test(state: u8, event: u8) {
     let step = meets(unit(state, event), event);
-    outcome(
-        b"G",
-        step.network.state,
-        info_sent(step.network.state),
-        step.reply,
-        step.notes,
-    );
+    let next = step.network.state;
+    outcome(b"G", next, info_sent(next), step.reply, step.notes);
     timer(b"T1 ", step.network.t1);
     timer(b" T2 ", step.network.t2);
 }

@@ -40,25 +40,26 @@ pub(crate) fn rows() {
 
 pub(crate) fn test(state: u8, event: u8) {
     let step = meets(unit(state, event), event);
-    outcome(
-        b"F",
-        step.terminal.state,
-        info_sent(step.terminal.state),
-        step.reply,
-        step.notes,
-    );
+    let next = step.terminal.state;
+    outcome(b"F", next, info_sent(next), step.reply, step.notes);
     timer(b"T3 ", step.terminal.t3);
 }
 
 // The stimulus, given to a unit.
 fn meets(unit: Terminal, event: u8) -> TerminalStep {
-    match event {
-        ON => unit.on(Periods(NOW)),
-        OFF => unit.off(Periods(NOW)),
-        AR => unit.ar(Periods(NOW)),
-        T3_DUE => unit.timer_due(Periods(NOW)),
-        _ => unit.hear(downward(event), Periods(NOW)),
+    if event == ON {
+        return unit.on(Periods(NOW));
     }
+    if event == OFF {
+        return unit.off(Periods(NOW));
+    }
+    if event == AR {
+        return unit.ar(Periods(NOW));
+    }
+    if event == T3_DUE {
+        return unit.timer_due(Periods(NOW));
+    }
+    unit.hear(downward(event), Periods(NOW))
 }
 
 // Before the stimulus T3 runs in every state in which it may run; to hear an INFO or a loss, the unit is in alignment and one unframed
