@@ -1,14 +1,13 @@
 // Table IV-2: the network end.
 use super::NOW;
 use super::ONES;
-use super::print::before;
-use super::print::notes;
+use super::due;
+use super::print::number;
 use super::print::outcome;
-use super::print::say;
 use super::print::timer;
 use super::tests;
-use cells::cell::NO_NOTES;
 use hearing::alignment::Alignment;
+use hearing::heard::Upward;
 use hearing::sensing::SensedUp;
 use hearing::sensing::sense_up;
 use info::info::info1;
@@ -38,28 +37,23 @@ pub(crate) fn rows() {
     );
 }
 
-pub(crate) fn test(number: u8, state: u8, event: u8) {
+pub(crate) fn test(state: u8, event: u8) {
     let step = meets(unit(state, event), event);
-    let after = step.network;
-    before(b"IV-2 ", number, b" G", state);
-    name(event);
-    outcome(b" G", after.state, info_sent(after.state), step.reply);
-    timer(b" T1 ", after.t1);
-    timer(b" T2 ", after.t2);
-    notes(step.notes);
+    let next = step.network.state;
+    outcome(b"G", next, info_sent(next), step.reply, step.notes);
+    timer(b"T1 ", step.network.t1);
+    timer(b" T2 ", step.network.t2);
 }
 
-fn name(event: u8) {
-    match event {
-        AR => say(b" PH-AR"),
-        DR => say(b" MPH-DR"),
-        T1_DUE => say(b" T1"),
-        T2_DUE => say(b" T2"),
-        INFO_0 => say(b" INFO 0"),
-        INFO_1 => say(b" INFO 1"),
-        INFO_3 => say(b" INFO 3"),
-        _ => say(b" loss"),
+// The stimulus, given to a unit.
+fn meets(unit: Network, event: u8) -> NetworkStep {
+    if event <= DR {
+        return unit.request(event, Periods(NOW));
     }
+    if event <= T2_DUE {
+        return unit.timer_due(Periods(NOW));
+    }
+    unit.hear(upward(event), Periods(NOW))
 }
 
 // Before the stimulus both timers run; to hear INFO 0, INFO 3 or a loss, the unit is in alignment and one unframed period short of
@@ -67,8 +61,8 @@ fn name(event: u8) {
 fn unit(state: u8, event: u8) -> Network {
     let aligned = (event == INFO_0) | (event == INFO_3) | (event == LOSS);
     Network {
-        t1: if event == T1_DUE { NOW as u64 } else { 50_000 },
-        t2: if event == T2_DUE { NOW as u64 } else { 60_000 },
+        t1: due(event == T1_DUE, true, 50_000),
+        t2: due(event == T2_DUE, true, 60_000),
         state,
         alignment: Alignment {
             aligned,
@@ -77,14 +71,8 @@ fn unit(state: u8, event: u8) -> Network {
     }
 }
 
-// The stimulus. For a loss the line has a single pulse.
-fn meets(unit: Network, event: u8) -> NetworkStep {
-    if event <= DR {
-        return unit.request(event, Periods(NOW));
-    }
-    if event <= T2_DUE {
-        return unit.timer_due(Periods(NOW));
-    }
+// What the stimulus's line shows: for a loss, a single pulse.
+fn upward(event: u8) -> Upward {
     let mut line = [0u8; 48];
     match event {
         INFO_1 => {
@@ -98,17 +86,21 @@ fn meets(unit: Network, event: u8) -> NetworkStep {
         }
         _ => {}
     }
-    hears(unit, &line)
+    shown(&line)
 }
 
-fn hears(unit: Network, line: &[u8; 48]) -> NetworkStep {
+// What a line shows; a refused one, which shows nothing, is told.
+fn shown(line: &[u8; 48]) -> Upward {
     let sensed = sense_up(line);
     match sensed {
-        SensedUp::Line(shows) => unit.hear(shows, Periods(NOW)),
-        SensedUp::Refused(k) => NetworkStep {
-            network: unit,
-            notes: NO_NOTES,
-            reply: k,
-        },
+        SensedUp::Line(shows) => shows,
+        SensedUp::Refused(k) => {
+            number(b"refused ", k);
+            Upward {
+                pulse: false,
+                framed: false,
+                info1: false,
+            }
+        }
     }
 }

@@ -1,15 +1,14 @@
 // Table IV-3: a terminal. Row 40 is empty.
 use super::NOW;
 use super::ONES;
-use super::print::before;
-use super::print::notes;
+use super::due;
+use super::print::number;
 use super::print::outcome;
-use super::print::say;
 use super::print::timer;
 use super::tests;
-use cells::cell::NO_NOTES;
 use dchannel::access::Access;
 use hearing::alignment::Alignment;
+use hearing::heard::Downward;
 use hearing::sensing::SensedDown;
 use hearing::sensing::sense_down;
 use info::info::info2;
@@ -39,28 +38,28 @@ pub(crate) fn rows() {
     tests(3, 41, 8, &[OFF, AR, INFO_0, INFO_2, INFO_4, SIGNAL, T3_DUE]);
 }
 
-pub(crate) fn test(number: u8, state: u8, event: u8) {
+pub(crate) fn test(state: u8, event: u8) {
     let step = meets(unit(state, event), event);
-    let after = step.terminal;
-    before(b"IV-3 ", number, b" F", state);
-    name(event);
-    outcome(b" F", after.state, info_sent(after.state), step.reply);
-    timer(b" T3 ", after.t3);
-    notes(step.notes);
+    let next = step.terminal.state;
+    outcome(b"F", next, info_sent(next), step.reply, step.notes);
+    timer(b"T3 ", step.terminal.t3);
 }
 
-fn name(event: u8) {
-    match event {
-        ON => say(b" on"),
-        OFF => say(b" off"),
-        AR => say(b" PH-AR"),
-        T3_DUE => say(b" T3"),
-        INFO_0 => say(b" INFO 0"),
-        SIGNAL => say(b" signal"),
-        INFO_2 => say(b" INFO 2"),
-        INFO_4 => say(b" INFO 4"),
-        _ => say(b" loss"),
+// The stimulus, given to a unit.
+fn meets(unit: Terminal, event: u8) -> TerminalStep {
+    if event == ON {
+        return unit.switch_on(Periods(NOW));
     }
+    if event == OFF {
+        return unit.switch_off(Periods(NOW));
+    }
+    if event == AR {
+        return unit.request(Periods(NOW));
+    }
+    if event == T3_DUE {
+        return unit.timer_due(Periods(NOW));
+    }
+    unit.hear(downward(event), Periods(NOW))
 }
 
 // Before the stimulus T3 runs in every state in which it may run; to hear an INFO or a loss, the unit is in alignment and one unframed
@@ -68,9 +67,8 @@ fn name(event: u8) {
 fn unit(state: u8, event: u8) -> Terminal {
     let aligned = (event == INFO_0) | (INFO_2 <= event);
     let runs = (2 < state) & (state != 7);
-    let later: u64 = if runs { 50_000 } else { 0 };
     Terminal {
-        t3: if event == T3_DUE { NOW as u64 } else { later },
+        t3: due(event == T3_DUE, runs, 50_000),
         access: Access::fresh(),
         state,
         alignment: Alignment {
@@ -80,18 +78,8 @@ fn unit(state: u8, event: u8) -> Terminal {
     }
 }
 
-// The stimulus. For a signal or a loss the line has a single pulse.
-fn meets(unit: Terminal, event: u8) -> TerminalStep {
-    match event {
-        ON => unit.switch_on(Periods(NOW)),
-        OFF => unit.switch_off(Periods(NOW)),
-        AR => unit.request(Periods(NOW)),
-        T3_DUE => unit.timer_due(Periods(NOW)),
-        _ => hears(unit, event),
-    }
-}
-
-fn hears(unit: Terminal, event: u8) -> TerminalStep {
+// What the stimulus's line shows: for a signal or a loss, a single pulse.
+fn downward(event: u8) -> Downward {
     let mut line = [0u8; 48];
     match event {
         INFO_0 => {}
@@ -105,17 +93,21 @@ fn hears(unit: Terminal, event: u8) -> TerminalStep {
             line[4] = 1;
         }
     }
-    heard(unit, &line)
+    shown(&line)
 }
 
-fn heard(unit: Terminal, line: &[u8; 48]) -> TerminalStep {
+// What a line shows; a refused one, which shows nothing, is told.
+fn shown(line: &[u8; 48]) -> Downward {
     let sensed = sense_down(line);
     match sensed {
-        SensedDown::Line(shows) => unit.hear(shows, Periods(NOW)),
-        SensedDown::Refused(k) => TerminalStep {
-            terminal: unit,
-            notes: NO_NOTES,
-            reply: k,
-        },
+        SensedDown::Line(shows) => shows,
+        SensedDown::Refused(k) => {
+            number(b"refused ", k);
+            Downward {
+                pulse: false,
+                framed: false,
+                a: false,
+            }
+        }
     }
 }

@@ -12,14 +12,15 @@ use lib.ListN.{length, getD, take, replicate, length-append}
 use lib.Seq.{getD-at, append-snoc, take-suc}
 use borrow.Author.Tests.{ltb-true, ltb-false, leb-true, leb-false, eqb-true, eqb-false, lt-ltb, le-ltb, le-leb, lt-leb, eq-eqb, ne-eqb}
 use Rattle.hdlc.specs.Bits.{sameBit}
-use Rattle.hdlc.specs.Image.{image}
+use Rattle.hdlc.specs.Image.{image, shortestImage, longestImage, IsBody}
 use Rattle.dchannel.specs.Access.{entered, countAfter, lowAfter, afterE, sending, lowOf, threshold, mayStart, sendsNext, stops, completes, idles, turn, leavesAt}
-use Rattle.dchannel.specs.Handing.{left}
+use Rattle.dchannel.specs.Handing.{classNumber, isImageLength, takenUp, handed, left}
 use Rattle.hdlc.specs.Ones.{endingOnes}
 use Rattle.cases.proofs.ByCases.{by-test, both}
 use Rattle.hdlc.proofs.OnesLaws.{ending-one}
-use Rattle.hdlc.proofs.ImageLaws.{length-image}
+use Rattle.hdlc.proofs.ImageLaws.{length-image, image-least, image-most}
 use Rattle.dchannel.specs.declared.access.Access.{Access}
+use Rattle.dchannel.specs.declared.access.Class.{Class}
 use Rattle.dchannel.specs.declared.access.Turn.{Turn}
 
 pub same-refl : (b : Bool) → sameBit b b ≡ true
@@ -474,6 +475,17 @@ pub class2-returns-only : (x1 x2 : ℕ) (e next : Bool) (a : Access) → a .low2
     → countAfter x2 e (a .count) ≡ x2 + 1
 class2-returns-only x1 x2 e next a l h =
     returns-only x2 (countAfter x2 e (a .count)) (turn x1 x2 e next a .done) 2 (a .low2) l (sym (turn-low2 x1 x2 e next a) ∙ h)
+
+-- A hand-over. Every body's image has a length that an image may have ..
+pub image-fits : (body : List ℕ) → IsBody body → isImageLength (length (image body)) ≡ true
+unfolding isImageLength
+image-fits body b = rw (le-leb shortestImage (length (image body)) (image-least body b), le-leb (length (image body)) longestImage (image-most body b))
+
+-- .. so that a terminal that holds no frame takes it
+pub takes-body : (class : Class) (body : List ℕ) (a : Access) → IsBody body → a .held ≡ 0
+    → handed class (length (image body)) a ≡ record { access = takenUp (classNumber class) (length (image body)) a; reply = 0 }
+unfolding handed
+takes-body class body a b h = rw (image-fits body b, eq-eqb (a .held) 0 h)
 
 -- "Leaving F7 drops a held frame and sets both levels to normal"
 pub leaving : (a : Access)

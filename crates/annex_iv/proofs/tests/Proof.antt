@@ -13,14 +13,17 @@ abbrev μ-loop : tie.MeasureT-loop
 loop-holds : tie.Need-loop-holds Inv-loop μ-loop
 loop-holds c = search needs
 
-cast-number : tie.Need-cast-number Inv-loop μ-loop
-cast-number c = search needs
+cast-test : tie.Need-cast-test Inv-loop μ-loop
+cast-test c = search needs
 
-add-number : tie.Need-add-number Inv-loop μ-loop
-add-number c = search needs
+add-test : tie.Need-add-test Inv-loop μ-loop
+add-test c = search needs
 
 shared-slice-read-event : tie.Need-shared-slice-read-event Inv-loop μ-loop
 shared-slice-read-event c = search needs
+
+before-requires : tie.Need-before-requires Inv-loop μ-loop
+before-requires c κs = search needs
 
 test-requires : tie.Need-test-requires Inv-loop μ-loop
 test-requires c κs = search needs
@@ -47,9 +50,10 @@ tests-spec =
     Inv-loop
     μ-loop
     loop-holds
-    cast-number
-    add-number
+    cast-test
+    add-test
     shared-slice-read-event
+    before-requires
     test-requires
     test-requires-2
     add-i

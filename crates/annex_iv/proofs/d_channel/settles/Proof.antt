@@ -4,10 +4,16 @@ use Rattle.annex_iv.proofs.d_channel.settles.Statement.{statement}
 use Rattle.annex_iv.proofs.d_channel.settles.Tie as tie
 
 abbrev Inv-loop : tie.InvT-loop
-Inv-loop a₀ n₀ t5 t6 t7 a n = n ≤ 20
+Inv-loop text a₀ n₀ t7 a n = n ≤ 20
 
 abbrev μ-loop : tie.MeasureT-loop
-μ-loop a₀ n₀ t5 t6 t7 a n = 20 - n
+μ-loop text a₀ n₀ t7 a n = 20 - n
+
+slice-aggregate-number : tie.Need-slice-aggregate-number Inv-loop μ-loop
+slice-aggregate-number c = search needs
+
+number-requires : tie.Need-number-requires Inv-loop μ-loop
+number-requires c κs = search needs
 
 loop-holds : tie.Need-loop-holds Inv-loop μ-loop
 loop-holds c = search needs
@@ -24,29 +30,14 @@ loop-less c = search needs
 loop-again : tie.Need-loop-again Inv-loop μ-loop
 loop-again c = search needs
 
-slice-aggregate-say : tie.Need-slice-aggregate-say Inv-loop μ-loop
-slice-aggregate-say c = search needs
-
-say-requires : tie.Need-say-requires Inv-loop μ-loop
-say-requires c κs = search needs
-
-number-requires : tie.Need-number-requires Inv-loop μ-loop
-number-requires c κs = search needs
-
-slice-aggregate-say-2 : tie.Need-slice-aggregate-say-2 Inv-loop μ-loop
-slice-aggregate-say-2 c = search needs
-
-say-requires-2 : tie.Need-say-requires-2 Inv-loop μ-loop
-say-requires-2 c κs = search needs
-
 number-requires-2 : tie.Need-number-requires-2 Inv-loop μ-loop
 number-requires-2 c κs = search needs
 
-slice-aggregate-say-3 : tie.Need-slice-aggregate-say-3 Inv-loop μ-loop
-slice-aggregate-say-3 c = search needs
+slice-aggregate-number-2 : tie.Need-slice-aggregate-number-2 Inv-loop μ-loop
+slice-aggregate-number-2 c = search needs
 
-say-requires-3 : tie.Need-say-requires-3 Inv-loop μ-loop
-say-requires-3 c κs = search needs
+number-requires-3 : tie.Need-number-requires-3 Inv-loop μ-loop
+number-requires-3 c κs = search needs
 
 returns : tie.Need-returns Inv-loop μ-loop
 returns c = search needs
@@ -57,17 +48,14 @@ settles-spec =
     (tie.spec
     Inv-loop
     μ-loop
+    slice-aggregate-number
+    number-requires
     loop-holds
     turn-requires
     add-n
     loop-less
     loop-again
-    slice-aggregate-say
-    say-requires
-    number-requires
-    slice-aggregate-say-2
-    say-requires-2
     number-requires-2
-    slice-aggregate-say-3
-    say-requires-3
+    slice-aggregate-number-2
+    number-requires-3
     returns)
