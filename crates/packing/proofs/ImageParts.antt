@@ -2,7 +2,7 @@
 use mathlib.Core.Bool.{Bool, true, false, cond}
 use mathlib.Core.List.{List, [], _∷_, _++_}
 use mathlib.Core.Path.{_≡_, refl, ap, sym, _∙_}
-use Prim.Native.Nat.{ℕ, zero, suc, _+_, _-_, _*_, _/_, _%_, _^_, _≤_, _<_}
+use Prim.Native.Nat.{ℕ, zero, suc, _+_, _-_, _*_, _%_, _^_, _≤_, _<_}
 use native.Mathlib.Numerals.{add-one}
 use native.Mathlib.Omega.{arith}
 use lib.Dec.{eqb}
@@ -42,7 +42,7 @@ unfolding putBit stuff
 two-bits true p q e five = simp (eq-eqb (p .ones) 4 (omega (arith, ap (λ (x : Packer). x .ones) e)))
 two-bits false p q e five = absurd (omega (arith, ap (λ (x : Packer). x .ones) e))
 
-module _ (b : Bool) (p q : Packer) (buf b₁ : List ℕ) (few : p .ones < 5) (e : q ≡ putBit b p) (i : b₁ ≡ putBitOctets b p buf) where
+module _ (b : Bool) (p q : Packer) (buf b₁ : List ℕ) (e : q ≡ putBit b p) (i : b₁ ≡ putBitOctets b p buf) where
   -- the fifth 1 has a 0 after it
   pub put-two : (r : Packer) (b₂ : List ℕ) → q .ones ≡ 5 → r ≡ putBit false q → b₂ ≡ putBitOctets false q b₁
       → (r ≡ putBits (stuff (p .ones) (b ∷ [])) p) × (b₂ ≡ putBitsOctets (stuff (p .ones) (b ∷ [])) p buf)

@@ -1,16 +1,20 @@
 -- What stays after an answer: a heard body in the octets, and no second answer for some bits. Of every record, and of every buffer.
 use mathlib.Core.Bool.{Bool, true, false, cond}
-use mathlib.Core.List.{List, [], _∷_}
-use mathlib.Core.Path.{_≡_, refl, ap, sym, _∙_}
+use mathlib.Core.List.{List, [], _∷_, map}
+use mathlib.Core.Path.{_≡_, refl, ap, _∙_}
 use mathlib.Core.Logic.{⊎-elim, _⊎_, inl, inr}
-use Prim.Native.Nat.{ℕ, zero, suc, _+_, _-_, _%_, _≤_, _<_}
+use Prim.Native.Nat.{ℕ, zero, suc, _+_, _-_, _*_, _/_, _%_, _≤_, _<_}
 use native.Mathlib.Omega.{arith}
-use lib.Dec.{ltb, eqb}
+use lib.Dec.{ltb, leb, eqb}
 use lib.ListN.{length}
-use borrow.Author.Tests.{lt-ltb, ltb-true, ltb-false, ne-eqb, eqb-true}
+use borrow.Author.Tests.{lt-ltb, ltb-false, leb-true, ne-eqb, eqb-true}
 use Rattle.cases.proofs.ByCases.{by-test}
 use Rattle.hdlc.specs.Image.{longestBody}
-use Rattle.reader.specs.Counters.{mostBits, openedReader, oneMore, afterBit, isData, fills, storeWhole, betweenFlags, abortedAfter, answerTo, readBit, readOctets}
+use Rattle.reader.specs.Counters.{mostBits, oneMore, afterBit, isData, fills, storeWhole, betweenFlags, abortedAfter, answerTo, readBit, readOctets}
+use Rattle.hdlc.specs.Reading.{Reading, said, next}
+use Rattle.hdlc.proofs.ReadingLaws.{answers}
+use Rattle.reader.specs.StandsFor.{StandsFor, readerSays, readerMeaning}
+use Rattle.reader.proofs.ReadingKept.{reads-on, length-readOctets}
 use Rattle.reader.specs.Calls.{octetsAfter, answersAfter, speaks, speaking}
 use Rattle.reader.specs.declared.Reader.{Reader}
 use Rattle.reader.specs.declared.Read.{Read}
@@ -58,9 +62,25 @@ not-heard k n e =
     (λ t. let x : Nothing ≡ Heard n = simp t at e in let z : _≡_ {A = ℕ} 0 1 = cc in omega arith)
     (λ t. let x : Torn ≡ Heard n = simp t at e in let z : _≡_ {A = ℕ} 0 1 = cc in omega arith)
 
-heard-opens : (b : Bool) (r : Reader) (n : ℕ) → answerTo b r ≡ Heard n → afterBit b r .bits ≡ 0
+between-heard : (k n : ℕ) → betweenFlags k ≡ Heard n → (1 ≤ n) × (n ≤ longestBody)
+unfolding betweenFlags
+between-heard k n e =
+    by-test (ltb k 8)
+    (λ t. let x : Nothing ≡ Heard n = simp t at e in let z : _≡_ {A = ℕ} 0 1 = cc in absurd (omega arith))
+    (λ t. by-test (eqb (k % 8) 0)
+    (λ f. by-test (leb k (8 * longestBody))
+    (λ g. let x : Heard (k / 8) ≡ Heard n = simp (t, f, g) at e in
+    let y : k / 8 ≡ n = cc in
+    let l : 8 ≤ k = ltb-false k 8 t in
+    let m : k ≤ 8 * longestBody = leb-true k (8 * longestBody) g in
+    (omega arith, omega arith))
+    (λ g. let x : Torn ≡ Heard n = simp (t, f, g) at e in let z : _≡_ {A = ℕ} 0 1 = cc in absurd (omega arith)))
+    (λ f. let x : Torn ≡ Heard n = simp (t, f) at e in let z : _≡_ {A = ℕ} 0 1 = cc in absurd (omega arith)))
+
+-- what a heard body says: the reader begins anew, and the length is one that a body may have
+heard-says : (b : Bool) (r : Reader) (n : ℕ) → answerTo b r ≡ Heard n → (afterBit b r .bits ≡ 0) × (1 ≤ n) × (n ≤ longestBody)
 unfolding answerTo afterBit
-heard-opens b r n e =
+heard-says b r n e =
     by-test (r .opened)
     (λ o. by-test (eqb (r .ones) 6) (λ t. six b t (simp (o, t) at e)) (λ t. absurd (silent (simp (o, t) at e))))
     (λ o. absurd (silent (simp o at e)))
@@ -68,20 +88,27 @@ heard-opens b r n e =
     silent : Nothing ≡ Heard n → ⊥
     silent x = let z : _≡_ {A = ℕ} 0 1 = cc in omega arith
 
-    six : (b : Bool) → eqb (r .ones) 6 ≡ true → cond b (abortedAfter (r .bits - 6)) (betweenFlags (r .bits - cond (r .zero) 7 6)) ≡ Heard n → afterBit b r .bits ≡ 0
+    six : (b : Bool) → eqb (r .ones) 6 ≡ true → cond b (abortedAfter (r .bits - 6)) (betweenFlags (r .bits - cond (r .zero) 7 6)) ≡ Heard n
+        → (afterBit b r .bits ≡ 0) × (1 ≤ n) × (n ≤ longestBody)
     six true t x = absurd (not-heard (r .bits - 6) n x)
-    six false t x = simp t
+    six false t x =
+        let y : (1 ≤ n) × (n ≤ longestBody) = between-heard (r .bits - cond (r .zero) 7 6) n x in
+        (simp t, y .0, y .1)
+
+-- the same of a call
+pub heard-call : (b : Bool) (r : Reader) (buf : List ℕ) (n : ℕ) → readBit b buf r .answer ≡ Heard n
+    → (readBit b buf r .reader .bits ≡ 0) × (1 ≤ n) × (n ≤ longestBody)
+heard-call b r buf n e =
+    by-room (λ (x : Read). x .answer ≡ Heard n → (x .reader .bits ≡ 0) × (1 ≤ n) × (n ≤ longestBody)) b buf r refused (heard-says b r n) e
+  where
+    refused : Refused 2 ≡ Heard n → (r .bits ≡ 0) × (1 ≤ n) × (n ≤ longestBody)
+    refused x = let z : _≡_ {A = ℕ} 0 1 = cc in absurd (omega arith)
 
 -- After a heard body up to seven further calls change no octet of the buffer: the body stays in its first ones.
 pub heard-stays : (b : Bool) (r : Reader) (buf : List ℕ) (n : ℕ) → readBit b buf r .answer ≡ Heard n
     → (bs : List Bool) → length bs ≤ 7 → octetsAfter bs (readBit b buf r .reader) (readOctets b r buf) ≡ readOctets b r buf
 heard-stays b r buf n e bs l =
-    let none : readBit b buf r .reader .bits ≡ 0 =
-    by-room (λ (x : Read). x .answer ≡ Heard n → x .reader .bits ≡ 0) b buf r refused (heard-opens b r n) e in
-    octets-stay bs (readBit b buf r .reader) (readOctets b r buf) (omega arith)
-  where
-    refused : Refused 2 ≡ Heard n → r .bits ≡ 0
-    refused x = let z : _≡_ {A = ℕ} 0 1 = cc in absurd (omega arith)
+    octets-stay bs (readBit b buf r .reader) (readOctets b r buf) (omega (arith, heard-call b r buf n e .0))
 
 -- at rest for k bits: too few 1s for an answer, or waiting for a flag after seven 1s
 abbrev Resting : ℕ → Reader → Type 0
@@ -151,3 +178,27 @@ one-speaks (b ∷ bs) r buf n =
     (λ e. omega (arith, e, one-speaks bs (readBit b buf r .reader) (readOctets b r buf) (omega arith)))
     (λ e. omega (arith, speaks-most (readBit b buf r .answer), none-speaks bs 6 (readBit b buf r .reader) (readOctets b r buf) (omega arith) (omega arith) e))
     x
+
+-- what an answer means stays for up to seven further calls
+meaning-stays : (b : Bool) (r : Reader) (buf : List ℕ) (bs : List Bool) → length bs ≤ 7 → (x : ReaderAnswer) → readBit b buf r .answer ≡ x
+    → readerMeaning x (octetsAfter bs (readBit b buf r .reader) (readOctets b r buf)) ≡ readerMeaning x (readOctets b r buf)
+unfolding readerMeaning
+meaning-stays b r buf bs l Nothing e = refl
+meaning-stays b r buf bs l (Heard n) e = rw (heard-stays b r buf n e bs l)
+meaning-stays b r buf bs l Torn e = refl
+meaning-stays b r buf bs l (Refused k) e = refl
+
+-- Up to eight bits running, as the four of a period: the answers mean, with the octets as the last call leaves them, what the reader over
+-- raw bits says to these bits.
+pub answers-say : (bs : List Bool) (r : Reader) (buf : List ℕ) (s : Reading) → length bs ≤ 8 → longestBody ≤ length buf → StandsFor r buf s
+    → map (λ (x : ReaderAnswer). readerMeaning x (octetsAfter bs r buf)) (answersAfter bs r buf) ≡ map readerSays (answers s bs)
+unfolding octetsAfter answersAfter answers
+answers-say [] r buf s n long h = refl
+answers-say (b ∷ bs) r buf s n long h =
+    let r′ : Reader = readBit b buf r .reader in
+    let buf′ : List ℕ = readOctets b r buf in
+    let x : (readerMeaning (readBit b buf r .answer) buf′ ≡ readerSays (said s b)) × StandsFor r′ buf′ (next s b) =
+    reads-on r buf b _ _ refl refl s long h in
+    let first : readerMeaning (readBit b buf r .answer) (octetsAfter bs r′ buf′) ≡ readerSays (said s b) =
+    meaning-stays b r buf bs (omega arith) (readBit b buf r .answer) refl ∙ x .0 in
+    rw (first, answers-say bs r′ buf′ (next s b) (omega arith) (rw (length-readOctets b r buf) long) (x .1))

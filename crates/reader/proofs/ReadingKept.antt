@@ -8,25 +8,24 @@ use native.Mathlib.Omega.{arith}
 use lib.Dec.{ltb, leb, eqb}
 use lib.ListN.{length, take, drop, replicate, length-append, length-take, length-set}
 use lib.Seq.{getD-take, ext-getD}
-use borrow.Author.Tests.{lt-ltb, le-ltb, ltb-true, ltb-false, lt-leb, leb-true, eq-eqb, eqb-true, eqb-false}
+use borrow.Author.Tests.{lt-ltb, le-ltb, ltb-true, ltb-false, lt-leb, leb-true, eqb-true}
 use Rattle.cases.proofs.ByCases.{by-test, both, clash, below}
-use Rattle.hdlc.specs.Bits.{numberLowFirst, octets}
+use Rattle.hdlc.specs.Bits.{octets}
 use Rattle.hdlc.specs.Image.{longestBody}
 use Rattle.hdlc.specs.Ones.{leading}
-use Rattle.hdlc.specs.Reading.{Reading, Said, unstuff, reversed, rest, nothing, torn, heard, cleared, startsWith, contents, between, aborted, said, next}
+use Rattle.hdlc.specs.Reading.{Reading, unstuff, reversed, rest, torn, cleared, startsWith, contents, between, aborted, said, next}
 use Rattle.hdlc.proofs.OctetLaws.{length-octets, getD-octets}
 use Rattle.hdlc.proofs.RawLaws.{dataOf, data-one, data-zero, data-inserted, data-leading, contents-drop}
 use Rattle.hdlc.proofs.ReadingLaws.{after, bit-adds, bit-silent, waiting-silent}
-use Rattle.packing.specs.Octets.{WholeOctets, BitsKept}
+use Rattle.packing.specs.Octets.{WholeOctets}
 use Rattle.packing.proofs.KeptLaws.{eighth, kept-none, kept-stored, kept-on, whole-before}
 use Rattle.reader.specs.Counters.{mostBits, freshReader, oneMore, takeUp, afterBit, isData, fills, storeWhole, betweenFlags, abortedAfter, answerTo, readBit, readOctets}
-use Rattle.reader.specs.StandsFor.{onesSinceZero, zeroCounts, capped, FrameRead, StandsFor, ReaderReply, readerSays, readerMeaning, ReadsOn}
+use Rattle.reader.specs.StandsFor.{onesSinceZero, zeroCounts, capped, FrameRead, StandsFor, readerSays, readerMeaning, ReadsOn}
 use Rattle.reader.specs.Calls.{readerAfter, octetsAfter}
 use Rattle.reader.proofs.RawOnes.{ones-leading, leading-since, data-flag, next-zero, next-flag, next-seven, said-flag, said-seven}
 use Rattle.reader.specs.declared.Reader.{Reader}
 use Rattle.reader.specs.declared.Read.{Read}
-use Rattle.reader.specs.declared.ReaderAnswer.{ReaderAnswer}
-use Rattle.reader.specs.declared.ReaderAnswer.the-variants.{Nothing, Heard, Torn}
+use Rattle.reader.specs.declared.ReaderAnswer.the-variants.{Nothing}
 
 -- A fresh reader stands for a cleared reading, with any octets.
 pub stands-fresh : (buf : List ℕ) → StandsFor freshReader buf cleared
@@ -295,7 +294,7 @@ module _ (r : Reader) (buf : List ℕ) (s : Reading) (long : longestBody ≤ len
       (λ o. let e : answerTo b r ≡ Nothing = simp (h .same-state ∙ o) in
       rw (e, waiting-silent s b o))
 
-pub length-stored : (b : Bool) (r : Reader) (buf : List ℕ) → length (storeWhole b r buf) ≡ length buf
+length-stored : (b : Bool) (r : Reader) (buf : List ℕ) → length (storeWhole b r buf) ≡ length buf
 unfolding storeWhole
 length-stored b r buf = by-test (fills b r) (λ e. simp (e, length-set)) (λ e. simp e)
 
@@ -308,6 +307,10 @@ module _ (b : Bool) (r : Reader) (buf : List ℕ) (long : longestBody ≤ length
   pub octets-is : readOctets b r buf ≡ storeWhole b r buf
   unfolding readOctets
   octets-is = simp (le-ltb (length buf) longestBody long)
+
+pub length-readOctets : (b : Bool) (r : Reader) (buf : List ℕ) → length (readOctets b r buf) ≡ length buf
+unfolding readOctets
+length-readOctets b r buf = by-test (ltb (length buf) longestBody) (λ t. simp t) (λ t. simp t (length-stored b r buf))
 
 -- A call is a step of the reader over raw bits.
 pub reads-on : (r : Reader) (buf : List ℕ) (b : Bool) (after : Read) (left : List ℕ) → after ≡ readBit b buf r → left ≡ readOctets b r buf

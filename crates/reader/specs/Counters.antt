@@ -46,7 +46,7 @@ unfoldable pub isData : Bool → ℕ → Bool
 isData true ones = ltb ones 6
 isData false ones = cond (eqb ones 5) false (not (eqb ones 6))
 
--- whether a bit is the eighth of one of the first 266 octets
+-- whether a bit is the eighth of an octet, where a body may be so long
 unfoldable pub fills : Bool → Reader → Bool
 fills b r =
     cond (r .opened)

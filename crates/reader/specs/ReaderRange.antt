@@ -1,5 +1,5 @@
--- Every field of the reader's record in its range (document 01, refusal 1): bits 0 to 2,136, 1s 0 to 7. The octet is any, and a bool has
--- no range.
+-- Every field of the reader's record in its range (document 01, refusal 1): the bits go up to mostBits, the 1s to 7. An octet is any
+-- octet, and a bool has no range.
 use mathlib.Core.Bool.{Bool, false, cond}
 use lib.Dec.{ltb, leb}
 use Rattle.reader.specs.Counters.{mostBits}

@@ -116,7 +116,7 @@ impl Reader {
         }
     }
 
-    // An octet that is whole with this bit, of the first 266, goes to its place.
+    // An octet that is whole with this bit goes to its place, where a body may be so long.
     fn store_whole(self, bit: bool, octets: &mut [u8])
         requires { ⌜ longestBody ≤ length (now octets) ⌝ }
         ensures { λ r. ⌜ now (octets .exit) ≡ storeWhole bit self (now (octets .entry)) ⌝ }

@@ -1,4 +1,3 @@
-use mathlib.Core.Path.{_≡_, ap, _∙_}
 use borrow.Author.Tests.{lt-ltb, le-ltb, le-leb, lt-leb, eq-eqb, ne-eqb}
 use Rattle.hdlc.specs.Image.{image}
 use Rattle.packing.specs.Packing.{isBodyLength, imaged, imagedOctets, imageMeaning, imageOr}

@@ -1,9 +1,9 @@
 use mathlib.Core.Logic.{⊎-elim}
 use mathlib.Core.List.{[], _∷_}
-use mathlib.Core.Path.{_≡_, refl, ap, sym, _∙_}
+use mathlib.Core.Path.{_≡_, refl, ap, _∙_}
 use native.Mathlib.Omega.{arith}
 use lib.ListN.{length, take}
-use Prim.Native.Nat.{ℕ, _-_, _*_, _≤_}
+use Prim.Native.Nat.{_-_, _*_, _≤_}
 use borrow.Author.Needs.{needs}
 use Rattle.hdlc.specs.Bits.{bodyBits}
 use Rattle.hdlc.specs.Image.{stuff}
@@ -78,15 +78,14 @@ loop-again c =
     let loop = c .before .before .before .before .before .before .before .before .loop in
     let packed-bit = c .before .before .before .before .before .before .packed-bit in
     let put-bit = c .before .before .before .before .put-bit in
-    let room = body-room (args .body .now) (loop .i) (args .self) (loop .packer) (omega arith) (start .pre .1) (loop .inv .1) _ (packed-bit .ensures) in
     let again = body-again (args .body .now) (loop .i) (args .self) (loop .packer) (omega arith) (start .pre .1) (loop .inv .1) _ (packed-bit .ensures) in
     ⊎-elim
     (λ w.
-    let y = put-two _ _ _ _ _ (room .1) (put-bit .ensures .0) (put-bit .ensures .1) _ _ (w .0 .taken) (w .6 ∙ w .2 .ensures .0) (w .5 ∙ w .2 .ensures .1) in
+    let y = put-two _ _ _ _ _ (put-bit .ensures .0) (put-bit .ensures .1) _ _ (w .0 .taken) (w .6 ∙ w .2 .ensures .0) (w .5 ∙ w .2 .ensures .1) in
     let x = again _ (args .out .now) _ _ (loop .inv .2) (y .0) (y .1) in
     (omega arith, x .0, x .1))
     (λ w.
-    let y = put-one _ _ _ _ _ (room .1) (put-bit .ensures .0) (put-bit .ensures .1) (w .0 .left) in
+    let y = put-one _ _ _ _ _ (put-bit .ensures .0) (put-bit .ensures .1) (w .0 .left) in
     let x = again _ (args .out .now) _ _ (loop .inv .2) (w .2 ∙ y .0) (w .1 ∙ y .1) in
     (omega arith, x .0, x .1))
     (c .if1 .came)
