@@ -7,7 +7,7 @@ use native.Mathlib.Nat.{min-le-left, min-le-right}
 use native.Mathlib.Numerals.{add-one}
 use native.Mathlib.Omega.{arith}
 use lib.Dec.{eqb, ltb, leb}
-use lib.ListN.{getD, length, take, length-append, length-take}
+use lib.ListN.{getD, length, take, length-take}
 use borrow.Author.Tests.{eqb-true, leb-true}
 use Rattle.cases.proofs.ByCases.{both}
 use Rattle.cells.specs.Notes.{PH-ACT, MPH-II-DISCONNECTED, packedNotes, noted}

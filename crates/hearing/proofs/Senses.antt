@@ -8,15 +8,11 @@ use native.Mathlib.Omega.{arith}
 use types.Run.{OneOf}
 use denote.Enum.Declared.{tagOf}
 use Rattle.line.specs.Symbols.{isLine, tested, answer}
-use Rattle.line.specs.Framed.{framedDown, framedUp, hasPulse}
-use Rattle.line.specs.Info.{isInfo1}
-use Rattle.line.specs.Read.{aLevel}
+use Rattle.line.specs.Framed.{hasPulse}
 use Rattle.line.specs.declared.answers.Answer.{Answer}
 use Rattle.line.specs.declared.answers.Answer.the-variants.{Refused}
 use Rattle.line.proofs.answers.Answer.{the-type}
-use Rattle.hearing.specs.Sensing.{isYes, shownDown, shownUp, sensedDown, sensedUp}
-use Rattle.hearing.specs.declared.sensing.SensedDown.{SensedDown}
-use Rattle.hearing.specs.declared.sensing.SensedUp.{SensedUp}
+use Rattle.hearing.specs.Sensing.{isYes}
 
 -- a test of a line that is refused, and one that is not: its answer's place among the variants is 0 or 1
 refused : (g x : Bool) {k : ℕ} → cond g (answer x) (Refused 2) ≡ Refused k → (g ≡ false) × (k ≡ 2)
