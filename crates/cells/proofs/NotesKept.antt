@@ -7,14 +7,14 @@ use native.Mathlib.Nat.{min-le-left, min-le-right}
 use native.Mathlib.Numerals.{add-one}
 use native.Mathlib.Omega.{arith}
 use lib.Dec.{eqb, ltb, leb}
-use lib.ListN.{getD, length, take, length-append, length-take}
+use lib.ListN.{getD, length, take, length-take}
 use borrow.Author.Tests.{eqb-true, leb-true}
 use Rattle.cases.proofs.ByCases.{both}
-use Rattle.cells.specs.Notes.{PH-ACT, MPH-II-d, packedNotes, noted}
+use Rattle.cells.specs.Notes.{PH-ACT, MPH-II-DISCONNECTED, packedNotes, noted}
 use Rattle.cells.specs.Cells.{cellNotes}
 use Rattle.cells.specs.declared.cell.Cell.{Cell}
 use Rattle.cells.specs.declared.notes.Notes.{Notes}
-use Rattle.cells.proofs.Rows.{same, same-is}
+use Rattle.cells.proofs.Rows.{sameNumbers, same-numbers}
 
 -- Up to four notes are kept as they are.
 pub noted-packed : (l : List ℕ) → length l ≤ 4 → noted (packedNotes l) ≡ l
@@ -56,11 +56,11 @@ fromList : List ℕ → Notes
 fromList l = (getD l 0 0, getD l 1 0, getD l 2 0, getD l 3 0, getD l 4 0)
 
 unfoldable pub tidy : Cell → Bool
-tidy c = same (asList (packedNotes (noted (cellNotes c)))) (asList (cellNotes c))
+tidy c = sameNumbers (asList (packedNotes (noted (cellNotes c)))) (asList (cellNotes c))
 
 pub tidy-is : (c : Cell) → tidy c ≡ true → packedNotes (noted (cellNotes c)) ≡ cellNotes c
 unfolding fromList tidy
-tidy-is c t = ap fromList (same-is (asList (packedNotes (noted (cellNotes c)))) (asList (cellNotes c)) t)
+tidy-is c t = ap fromList (same-numbers (asList (packedNotes (noted (cellNotes c)))) (asList (cellNotes c)) t)
 
 -- Notes that are in order are at most four; and one more note before them.
 pub few : (n : Notes) → packedNotes (noted n) ≡ n → n .0 ≤ 4
@@ -98,7 +98,7 @@ every-of f g i (x ∷ xs) p =
 
 -- The codes that cells may have: the standard's indications, and none of HEARD, TORN, DONE1, DONE2, DROPPED1, DROPPED2 and REFUSED.
 abbrev pub isIndication : ℕ → Bool
-isIndication code = cond (ltb code PH-ACT) false (leb code MPH-II-d)
+isIndication code = cond (ltb code PH-ACT) false (leb code MPH-II-DISCONNECTED)
 
 unfoldable pub indications : Cell → Bool
 indications c = everyNote isIndication (noted (cellNotes c))

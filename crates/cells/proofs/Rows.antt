@@ -18,20 +18,20 @@ use Rattle.cells.specs.declared.cell.Cell.the-variants.{To, Stay, Imposs
 use Rattle.cells.specs.declared.notes.Notes.{Notes}
 
 -- whether two lists of numbers are the same
-abbrev pub same : List ℕ → List ℕ → Bool
-same [] [] = true
-same [] (y ∷ ys) = false
-same (x ∷ xs) [] = false
-same (x ∷ xs) (y ∷ ys) = cond (eqb x y) (same xs ys) false
+abbrev pub sameNumbers : List ℕ → List ℕ → Bool
+sameNumbers [] [] = true
+sameNumbers [] (y ∷ ys) = false
+sameNumbers (x ∷ xs) [] = false
+sameNumbers (x ∷ xs) (y ∷ ys) = cond (eqb x y) (sameNumbers xs ys) false
 
-pub same-is : (xs ys : List ℕ) → same xs ys ≡ true → xs ≡ ys
-same-is [] [] t = refl
-same-is [] (y ∷ ys) t = cc
-same-is (x ∷ xs) [] t = cc
-same-is (x ∷ xs) (y ∷ ys) t =
-    let h = both (eqb x y) (same xs ys) t in
+pub same-numbers : (xs ys : List ℕ) → sameNumbers xs ys ≡ true → xs ≡ ys
+same-numbers [] [] t = refl
+same-numbers [] (y ∷ ys) t = cc
+same-numbers (x ∷ xs) [] t = cc
+same-numbers (x ∷ xs) (y ∷ ys) t =
+    let h = both (eqb x y) (sameNumbers xs ys) t in
     let e : x ≡ y = eqb-true x y (h .0) in
-    let f : xs ≡ ys = same-is xs ys (h .1) in cc
+    let f : xs ≡ ys = same-numbers xs ys (h .1) in cc
 
 -- a cell as a list of numbers
 abbrev counted : ℕ → Notes → List ℕ
@@ -44,7 +44,7 @@ numbers Impossible = 2 ∷ []
 numbers Absent = 3 ∷ []
 
 abbrev pub sameCell : Cell → Cell → Bool
-sameCell c d = same (numbers c) (numbers d)
+sameCell c d = sameNumbers (numbers c) (numbers d)
 
 abbrev notesFrom : List ℕ → Notes
 notesFrom l = (getD l 3 0, getD l 4 0, getD l 5 0, getD l 6 0, getD l 7 0)
@@ -63,7 +63,7 @@ back Impossible = refl
 back Absent = refl
 
 same-cell : (c d : Cell) → sameCell c d ≡ true → c ≡ d
-same-cell c d t = sym (back c) ∙ ap ofNumbers (same-is (numbers c) (numbers d) t) ∙ back d
+same-cell c d t = sym (back c) ∙ ap ofNumbers (same-numbers (numbers c) (numbers d) t) ∙ back d
 
 -- s is not k, where what stands at k is another
 abbrev Off : Bool → ℕ → ℕ → Type 0

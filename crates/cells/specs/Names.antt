@@ -5,7 +5,7 @@ use Prim.Native.Nat.{ℕ}
 use Prim.Native.Char.{code}
 use Prim.Native.String.{String, [], _∷_}
 use lib.ListN.{getD}
-use Rattle.cells.specs.Notes.{PH-ACT, PH-DEACT, MPH-ACT, MPH-DEACT, MPH-EI, MPH-EI1, MPH-EI2, MPH-II-c, MPH-II-d, HEARD, TORN, DONE1, DONE2, DROPPED1, DROPPED2, REFUSED}
+use Rattle.cells.specs.Notes.{PH-ACT, PH-DEACT, MPH-ACT, MPH-DEACT, MPH-EI, MPH-EI1, MPH-EI2, MPH-II-CONNECTED, MPH-II-DISCONNECTED, HEARD, TORN, DONE1, DONE2, DROPPED1, DROPPED2, REFUSED}
 
 -- The ASCII codes of a text.
 abbrev pub ascii : String → List ℕ
@@ -58,8 +58,8 @@ pub names-of-codes :
     ∷ᴸ MPH-EI
     ∷ᴸ MPH-EI1
     ∷ᴸ MPH-EI2
-    ∷ᴸ MPH-II-c
-    ∷ᴸ MPH-II-d
+    ∷ᴸ MPH-II-CONNECTED
+    ∷ᴸ MPH-II-DISCONNECTED
     ∷ᴸ HEARD
     ∷ᴸ TORN
     ∷ᴸ DONE1

@@ -29,11 +29,11 @@ abbrev pub MPH-EI2 : ℕ
 MPH-EI2 = 7
 
 -- MPH-II with its value connected, MPH-II(c), and with its value disconnected, MPH-II(d).
-abbrev pub MPH-II-c : ℕ
-MPH-II-c = 8
+abbrev pub MPH-II-CONNECTED : ℕ
+MPH-II-CONNECTED = 8
 
-abbrev pub MPH-II-d : ℕ
-MPH-II-d = 9
+abbrev pub MPH-II-DISCONNECTED : ℕ
+MPH-II-DISCONNECTED = 9
 
 -- D notes.
 abbrev pub HEARD : ℕ

@@ -24,4 +24,4 @@ pub enum Cell {
 pub const NO_NOTES: Notes = Notes(0, 0, 0, 0, 0);
 
 // "–" with no notes.
-pub const SAME: Cell = Cell::Stay(NO_NOTES);
+pub const STAY: Cell = Cell::Stay(NO_NOTES);

@@ -1,12 +1,12 @@
 -- Every period leaves alignment in its range; a framed period and one without a pulse give no event of loss.
 use mathlib.Core.Path.{_≡_, refl}
-use mathlib.Core.Bool.{Bool, true, false, cond}
-use Prim.Native.Nat.{ℕ, _+_, _≤_, _<_}
+use mathlib.Core.Bool.{Bool, true, false}
+use Prim.Native.Nat.{ℕ, _+_, _≤_}
 use native.Mathlib.Omega.{arith}
 use lib.Dec.{ltb}
 use borrow.Author.Tests.{ltb-true, lt-ltb}
 use Rattle.cases.proofs.ByCases.{by-test}
-use Rattle.hearing.specs.Alignment.{gained, becomes, fresh, framedPeriod, unframedPeriod, followed, alignmentInRange}
+use Rattle.hearing.specs.Alignment.{gained, framedPeriod, unframedPeriod, followed, alignmentInRange}
 use Rattle.hearing.specs.declared.alignment.Alignment.{Alignment}
 use Rattle.hearing.specs.declared.alignment.Followed.{Followed}
 

@@ -8,15 +8,11 @@ use native.Mathlib.Omega.{arith}
 use types.Run.{OneOf}
 use denote.Enum.Declared.{tagOf}
 use Rattle.symbols.specs.Symbols.{isLine, tested, answer}
-use Rattle.info.specs.Framed.{framedDown, framedUp, hasPulse}
-use Rattle.info.specs.Info.{isInfo1}
-use Rattle.frame_reader.specs.Read.{aLevel}
 use Rattle.symbols.specs.declared.TestAnswer.{TestAnswer}
 use Rattle.symbols.specs.declared.TestAnswer.the-variants.{Refused}
 use Rattle.symbols.proofs.TestAnswer.{the-type}
-use Rattle.hearing.specs.Sensing.{isYes, shownDown, shownUp, sensedDown, sensedUp}
-use Rattle.hearing.specs.declared.sensing.SensedDown.{SensedDown}
-use Rattle.hearing.specs.declared.sensing.SensedUp.{SensedUp}
+use Rattle.info.specs.Framed.{hasPulse}
+use Rattle.hearing.specs.Sensing.{isYes}
 
 -- a test of a line that is refused, and one that is not: its answer's place among the variants is 0 or 1
 refused : (g x : Bool) {k : ℕ} → cond g (answer x) (Refused 2) ≡ Refused k → (g ≡ false) × (k ≡ 2)

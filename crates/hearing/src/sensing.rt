@@ -1,10 +1,5 @@
 // What a lent line of 48 symbols shows: worked out once for a period, and then heard by the network end, or by every powered terminal.
 ghost use mathlib.Core.Path.{_≡_};
-ghost use mathlib.Core.Bool.{true};
-ghost use Rattle.symbols.specs.Symbols.{isLine};
-ghost use Rattle.info.specs.Framed.{framedDown, framedUp};
-ghost use Rattle.info.specs.Info.{isInfo1};
-ghost use Rattle.frame_reader.specs.Read.{aLevel};
 ghost use Rattle.hearing.specs.Sensing as spec;
 use super::heard::Downward;
 use super::heard::Upward;
@@ -35,9 +30,9 @@ pub fn sense_down(line: &[u8]) -> SensedDown
         return SensedDown::Refused(k);
     }
     SensedDown::Line(Downward {
-        pulse: yes(pulse),
-        framed: yes(framed_down(line)),
-        a: yes(a_bit(line)),
+        pulse: is_yes(pulse),
+        framed: is_yes(framed_down(line)),
+        a: is_yes(a_bit(line)),
     })
 }
 
@@ -49,13 +44,13 @@ pub fn sense_up(line: &[u8]) -> SensedUp
         return SensedUp::Refused(k);
     }
     SensedUp::Line(Upward {
-        pulse: yes(pulse),
-        framed: yes(framed_up(line)),
-        info1: yes(is_info1(line)),
+        pulse: is_yes(pulse),
+        framed: is_yes(framed_up(line)),
+        info1: is_yes(is_info1(line)),
     })
 }
 
-fn yes(answer: TestAnswer) -> bool
+fn is_yes(answer: TestAnswer) -> bool
     ensures { λ r. ⌜ r ≡ spec.isYes answer ⌝ }
 {
     match answer {

@@ -1,7 +1,7 @@
 -- What the definitions of the network end come to, for their readers and for the crates above.
 use mathlib.Core.Path.{_≡_, refl}
-use mathlib.Core.Bool.{true, false}
-use mathlib.Core.List.{[], _++_}
+use mathlib.Core.Bool.{true}
+use mathlib.Core.List.{_++_}
 use Prim.Native.Nat.{ℕ, zero, suc, _≤_}
 use native.Mathlib.Omega.{arith}
 use lib.Dec.{eqb}
@@ -15,9 +15,8 @@ use Rattle.cells.specs.declared.cell.Cell.the-variants.{To, Stay, Impossible, A
 use Rattle.cells.proofs.NotesKept.{noted-packed, everyNote, every-append, isIndication}
 use Rattle.table_6_3.specs.Table63.{table63, G3, T1-DUE, T2-DUE, INFO-1, LOSS}
 use Rattle.table_6_3.proofs.Laws.{notes-two, notes-indications, t1-keeps-G3, t2-keeps-G3}
-use Rattle.timing.specs.Counts.{mostPeriods}
+use Rattle.timing.specs.Counts.{mostPeriods, atPeriod}
 use Rattle.timing.specs.Timers.{due, startedBy, timerAfter}
-use Rattle.timing.specs.declared.counts.Periods.{Periods}
 use Rattle.hearing.specs.Alignment.{gained, lost, followed}
 use Rattle.hearing.specs.Heard.{upwardEvent, lossUp}
 use Rattle.hearing.specs.declared.alignment.Alignment.{Alignment}
@@ -28,21 +27,18 @@ use Rattle.network.specs.declared.NetworkStep.{NetworkStep}
 use Rattle.network.proofs.TwoEvents.{happens-notes}
 
 -- ---- the calls, where the record is in range and the period one that a bus runs
-abbrev pub at : ℕ → Periods
-at now = record { 0 = now }
-
-checked-called : (step : ℕ → Network → NetworkStep) (now : ℕ) (n : Network) → now ≤ mostPeriods → networkInRange n ≡ true → checked step (at now) n ≡ step now n
+checked-called : (step : ℕ → Network → NetworkStep) (now : ℕ) (n : Network) → now ≤ mostPeriods → networkInRange n ≡ true → checked step (atPeriod now) n ≡ step now n
 unfolding checked ready
 checked-called step now n l h = rw (h, le-leb now mostPeriods l)
 
 module _ (now : ℕ) (n : Network) (l : now ≤ mostPeriods) (h : networkInRange n ≡ true) where
-  pub requested-called : (event : ℕ) → requested event (at now) n ≡ requests event now n
+  pub requested-called : (event : ℕ) → requested event (atPeriod now) n ≡ requests event now n
   requested-called event = checked-called (requests event) now n l h
 
-  pub timer-due-called : timerDue (at now) n ≡ timers now n
+  pub timer-due-called : timerDue (atPeriod now) n ≡ timers now n
   timer-due-called = checked-called timers now n l h
 
-  pub heard-called : (line : Upward) → heard line (at now) n ≡ hears line now n
+  pub heard-called : (line : Upward) → heard line (atPeriod now) n ≡ hears line now n
   heard-called line = checked-called (hears line) now n l h
 
 -- ---- states

@@ -1,6 +1,6 @@
 -- Every call leaves every field of the network end in its range.
 use mathlib.Core.Path.{_≡_, refl}
-use mathlib.Core.Bool.{true, false, cond}
+use mathlib.Core.Bool.{true}
 use Prim.Native.Nat.{ℕ, _+_, _≤_}
 use native.Mathlib.Omega.{arith}
 use lib.Dec.{ltb}
@@ -17,7 +17,6 @@ use Rattle.timing.specs.Timers.{T1, T2, due}
 use Rattle.timing.specs.declared.counts.Periods.{Periods}
 use Rattle.timing.proofs.RangesKept.{started-at-most, timer-at-most}
 use Rattle.hearing.specs.Alignment.{lost, alignmentInRange}
-use Rattle.hearing.specs.declared.alignment.Alignment.{Alignment}
 use Rattle.hearing.specs.declared.heard.Upward.{Upward}
 use Rattle.hearing.proofs.Alignments.{followed-in-range}
 use Rattle.network.specs.Network.{fresh, acts, moved, happens, andThen, aligned, isRequest, requests, t1Due, t2Due, timers, heardAs, hears, networkInRange, ready, checked, requested, timerDue, heard}

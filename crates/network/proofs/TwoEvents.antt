@@ -17,7 +17,7 @@ use Rattle.hearing.specs.declared.alignment.Alignment.{Alignment}
 use Rattle.hearing.specs.declared.alignment.Followed.{Followed}
 use Rattle.hearing.specs.declared.heard.Upward.{Upward}
 use Rattle.hearing.proofs.Alignments.{framed-kept, pulseless-kept}
-use Rattle.network.specs.Network.{unchanged, acts, happens, andThen, aligned, t1Due, t2Due, timers, heardAs, hears}
+use Rattle.network.specs.Network.{acts, happens, andThen, aligned, t1Due, t2Due, timers, heardAs, hears}
 use Rattle.network.specs.declared.Network.{Network}
 use Rattle.network.specs.declared.NetworkStep.{NetworkStep}
 

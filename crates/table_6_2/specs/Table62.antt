@@ -2,7 +2,7 @@
 -- printed. PH-AI is PH-ACT, PH-DI is PH-DEACT, MPH-AI is MPH-ACT, MPH-DI is MPH-DEACT. "ST,T3" starts T3, "S/R T3" stops it.
 use mathlib.Core.List.{List, [], _∷_}
 use Prim.Native.Nat.{ℕ}
-use Rattle.cells.specs.Notes.{PH-ACT, PH-DEACT, MPH-ACT, MPH-DEACT, MPH-EI1, MPH-EI2, MPH-II-c, MPH-II-d}
+use Rattle.cells.specs.Notes.{PH-ACT, PH-DEACT, MPH-ACT, MPH-DEACT, MPH-EI1, MPH-EI2, MPH-II-CONNECTED, MPH-II-DISCONNECTED}
 use Rattle.cells.specs.Cells.{to, starts-to, stops-to, stay, stay-with, impossible, absent}
 use Rattle.cells.specs.declared.cell.Cell.{Cell}
 
@@ -44,12 +44,12 @@ abbrev pub powerOff : List Cell
 powerOff =
     stay
     ∷ to F1 []
-    ∷ to F1 (MPH-II-d ∷ [])
-    ∷ to F1 (MPH-II-d ∷ MPH-DEACT ∷ PH-DEACT ∷ [])
-    ∷ to F1 (MPH-II-d ∷ MPH-DEACT ∷ PH-DEACT ∷ [])
-    ∷ to F1 (MPH-II-d ∷ MPH-DEACT ∷ PH-DEACT ∷ [])
-    ∷ to F1 (MPH-II-d ∷ MPH-DEACT ∷ PH-DEACT ∷ [])
-    ∷ to F1 (MPH-II-d ∷ MPH-DEACT ∷ PH-DEACT ∷ [])
+    ∷ to F1 (MPH-II-DISCONNECTED ∷ [])
+    ∷ to F1 (MPH-II-DISCONNECTED ∷ MPH-DEACT ∷ PH-DEACT ∷ [])
+    ∷ to F1 (MPH-II-DISCONNECTED ∷ MPH-DEACT ∷ PH-DEACT ∷ [])
+    ∷ to F1 (MPH-II-DISCONNECTED ∷ MPH-DEACT ∷ PH-DEACT ∷ [])
+    ∷ to F1 (MPH-II-DISCONNECTED ∷ MPH-DEACT ∷ PH-DEACT ∷ [])
+    ∷ to F1 (MPH-II-DISCONNECTED ∷ MPH-DEACT ∷ PH-DEACT ∷ [])
     ∷ []
 
 -- PH-AR, the request for activation.
@@ -73,7 +73,7 @@ t3Expiry =
 abbrev pub info0Received : List Cell
 info0Received =
     impossible
-    ∷ to F3 (MPH-II-c ∷ [])
+    ∷ to F3 (MPH-II-CONNECTED ∷ [])
     ∷ stay
     ∷ stay
     ∷ stay
@@ -88,13 +88,13 @@ signalReceived = impossible ∷ stay ∷ stay ∷ to F5 [] ∷ stay ∷ impossib
 
 -- INFO 2 is received.
 abbrev pub info2Received : List Cell
-info2Received = impossible ∷ to F6 (MPH-II-c ∷ []) ∷ to F6 [] ∷ to F6 [] ∷ to F6 [] ∷ stay ∷ to F6 (MPH-EI1 ∷ []) ∷ to F6 (MPH-EI2 ∷ []) ∷ []
+info2Received = impossible ∷ to F6 (MPH-II-CONNECTED ∷ []) ∷ to F6 [] ∷ to F6 [] ∷ to F6 [] ∷ stay ∷ to F6 (MPH-EI1 ∷ []) ∷ to F6 (MPH-EI2 ∷ []) ∷ []
 
 -- INFO 4 is received.
 abbrev pub info4Received : List Cell
 info4Received =
     impossible
-    ∷ to F7 (MPH-II-c ∷ PH-ACT ∷ MPH-ACT ∷ [])
+    ∷ to F7 (MPH-II-CONNECTED ∷ PH-ACT ∷ MPH-ACT ∷ [])
     ∷ stops-to F7 (PH-ACT ∷ MPH-ACT ∷ [])
     ∷ stops-to F7 (PH-ACT ∷ MPH-ACT ∷ [])
     ∷ stops-to F7 (PH-ACT ∷ MPH-ACT ∷ [])

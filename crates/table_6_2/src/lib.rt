@@ -1,12 +1,12 @@
-// Table 6-2 of JT-I430: what a terminal in a state, 1 to 8, does at an event. The cells stand row by row in specs/Table62.antt.
+// Table 6-2 of JT-I430: what a terminal in a state, F1 to F8, does at an event. The cells stand row by row in specs/Table62.antt.
 ghost use mathlib.Core.Path.{_≡_};
 ghost use Rattle.cells.specs.Cells.{cellIn, cellOf, infoIn};
 ghost use Rattle.table_6_2.specs.Table62 as table;
 use cells::cell::Cell;
 use cells::cell::KEEP;
 use cells::cell::NO_NOTES;
-use cells::cell::SAME;
 use cells::cell::START;
+use cells::cell::STAY;
 use cells::cell::STOP;
 use cells::notes::MPH_ACT;
 use cells::notes::MPH_DEACT;
@@ -78,7 +78,7 @@ fn power_on(state: u8) -> Cell
 {
     match state {
         F1 => Cell::To(F2, KEEP, NO_NOTES),
-        F2..=F8 => SAME,
+        F2..=F8 => STAY,
         _ => Cell::Impossible,
     }
 }
@@ -88,7 +88,7 @@ fn power_off(state: u8) -> Cell
     ensures { λ r. ⌜ r ≡ cellIn table.powerOff state ⌝ }
 {
     match state {
-        F1 => SAME,
+        F1 => STAY,
         F2 => Cell::To(F1, KEEP, NO_NOTES),
         F3 => Cell::To(F1, KEEP, Notes(1, MPH_II_DISCONNECTED, 0, 0, 0)),
         F4..=F8 => Cell::To(
@@ -108,9 +108,9 @@ fn activation_request(state: u8) -> Cell
         F2 => Cell::Absent,
         F3 => Cell::To(F4, START, NO_NOTES),
         F4..=F5 => Cell::Absent,
-        F6 => SAME,
+        F6 => STAY,
         F7 => Cell::Absent,
-        F8 => SAME,
+        F8 => STAY,
         _ => Cell::Impossible,
     }
 }
@@ -120,7 +120,7 @@ fn t3_expiry(state: u8) -> Cell
     ensures { λ r. ⌜ r ≡ cellIn table.t3Expiry state ⌝ }
 {
     match state {
-        F3 => SAME,
+        F3 => STAY,
         F4..=F5 => Cell::To(F3, KEEP, Notes(2, MPH_DEACT, PH_DEACT, 0, 0)),
         F6 => Cell::Stay(Notes(2, MPH_DEACT, PH_DEACT, 0, 0)),
         F8 => Cell::To(F3, KEEP, Notes(2, MPH_DEACT, PH_DEACT, 0, 0)),
@@ -134,7 +134,7 @@ fn info_0_received(state: u8) -> Cell
 {
     match state {
         F2 => Cell::To(F3, KEEP, Notes(1, MPH_II_CONNECTED, 0, 0, 0)),
-        F3..=F5 => SAME,
+        F3..=F5 => STAY,
         F6..=F7 => Cell::To(F3, KEEP, Notes(2, MPH_DEACT, PH_DEACT, 0, 0)),
         F8 => Cell::To(F3, KEEP, Notes(3, MPH_DEACT, PH_DEACT, MPH_EI2, 0)),
         _ => Cell::Impossible,
@@ -146,10 +146,10 @@ fn signal_received(state: u8) -> Cell
     ensures { λ r. ⌜ r ≡ cellIn table.signalReceived state ⌝ }
 {
     match state {
-        F2..=F3 => SAME,
+        F2..=F3 => STAY,
         F4 => Cell::To(F5, KEEP, NO_NOTES),
-        F5 => SAME,
-        F8 => SAME,
+        F5 => STAY,
+        F8 => STAY,
         _ => Cell::Impossible,
     }
 }
@@ -161,7 +161,7 @@ fn info_2_received(state: u8) -> Cell
     match state {
         F2 => Cell::To(F6, KEEP, Notes(1, MPH_II_CONNECTED, 0, 0, 0)),
         F3..=F5 => Cell::To(F6, KEEP, NO_NOTES),
-        F6 => SAME,
+        F6 => STAY,
         F7 => Cell::To(F6, KEEP, Notes(1, MPH_EI1, 0, 0, 0)),
         F8 => Cell::To(F6, KEEP, Notes(1, MPH_EI2, 0, 0, 0)),
         _ => Cell::Impossible,
@@ -176,7 +176,7 @@ fn info_4_received(state: u8) -> Cell
         F2 => Cell::To(F7, KEEP, Notes(3, MPH_II_CONNECTED, PH_ACT, MPH_ACT, 0)),
         F3..=F5 => Cell::To(F7, STOP, Notes(2, PH_ACT, MPH_ACT, 0, 0)),
         F6 => Cell::To(F7, STOP, Notes(3, PH_ACT, MPH_ACT, MPH_EI2, 0)),
-        F7 => SAME,
+        F7 => STAY,
         F8 => Cell::To(F7, STOP, Notes(3, PH_ACT, MPH_ACT, MPH_EI2, 0)),
         _ => Cell::Impossible,
     }
@@ -188,7 +188,7 @@ fn alignment_lost(state: u8) -> Cell
 {
     match state {
         F6..=F7 => Cell::To(F8, KEEP, Notes(1, MPH_EI1, 0, 0, 0)),
-        F8 => SAME,
+        F8 => STAY,
         _ => Cell::Impossible,
     }
 }

@@ -1,13 +1,13 @@
-// Table 6-3 of JT-I430: what the network end in a state, 1 to 4, does at an event. The cells stand row by row in specs/Table63.antt.
+// Table 6-3 of JT-I430: what the network end in a state, G1 to G4, does at an event. The cells stand row by row in specs/Table63.antt.
 ghost use mathlib.Core.Path.{_≡_};
 ghost use Rattle.cells.specs.Cells.{cellIn, cellOf, infoIn};
 ghost use Rattle.table_6_3.specs.Table63 as table;
 use cells::cell::Cell;
 use cells::cell::KEEP;
 use cells::cell::NO_NOTES;
-use cells::cell::SAME;
 use cells::cell::START;
 use cells::cell::START_T2;
+use cells::cell::STAY;
 use cells::cell::STOP;
 use cells::notes::MPH_ACT;
 use cells::notes::MPH_DEACT;
@@ -88,9 +88,9 @@ fn t1_expiry(state: u8) -> Cell
     ensures { λ r. ⌜ r ≡ cellIn table.t1Expiry state ⌝ }
 {
     match state {
-        G1 => SAME,
+        G1 => STAY,
         G2 => Cell::To(G4, START_T2, Notes(1, PH_DEACT, 0, 0, 0)),
-        G4 => SAME,
+        G4 => STAY,
         _ => Cell::Impossible,
     }
 }
@@ -100,7 +100,7 @@ fn t2_expiry(state: u8) -> Cell
     ensures { λ r. ⌜ r ≡ cellIn table.t2Expiry state ⌝ }
 {
     match state {
-        G1..=G3 => SAME,
+        G1..=G3 => STAY,
         G4 => Cell::To(G1, KEEP, NO_NOTES),
         _ => Cell::Impossible,
     }
@@ -111,7 +111,7 @@ fn info_0_received(state: u8) -> Cell
     ensures { λ r. ⌜ r ≡ cellIn table.info0Received state ⌝ }
 {
     match state {
-        G1..=G2 => SAME,
+        G1..=G2 => STAY,
         G3 => Cell::To(G2, KEEP, Notes(2, MPH_DEACT, MPH_EI, 0, 0)),
         G4 => Cell::To(G1, KEEP, NO_NOTES),
         _ => Cell::Impossible,
@@ -124,8 +124,8 @@ fn info_1_received(state: u8) -> Cell
 {
     match state {
         G1 => Cell::To(G2, START, NO_NOTES),
-        G2 => SAME,
-        G4 => SAME,
+        G2 => STAY,
+        G4 => STAY,
         _ => Cell::Impossible,
     }
 }
@@ -136,7 +136,7 @@ fn info_3_received(state: u8) -> Cell
 {
     match state {
         G2 => Cell::To(G3, STOP, Notes(2, PH_ACT, MPH_ACT, 0, 0)),
-        G3..=G4 => SAME,
+        G3..=G4 => STAY,
         _ => Cell::Impossible,
     }
 }
@@ -147,7 +147,7 @@ fn alignment_lost(state: u8) -> Cell
 {
     match state {
         G3 => Cell::To(G2, KEEP, Notes(2, MPH_DEACT, MPH_EI, 0, 0)),
-        G4 => SAME,
+        G4 => STAY,
         _ => Cell::Impossible,
     }
 }

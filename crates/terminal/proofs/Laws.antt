@@ -1,7 +1,7 @@
 -- What the definitions of a terminal come to, for their readers and for the crates above.
 use mathlib.Core.Path.{_≡_, refl}
 use mathlib.Core.Bool.{Bool, true, false, cond}
-use mathlib.Core.List.{List, [], _∷_, _++_}
+use mathlib.Core.List.{List, [], _++_}
 use Prim.Native.Nat.{ℕ, _≤_}
 use native.Mathlib.Omega.{arith}
 use lib.Dec.{eqb}
@@ -18,9 +18,8 @@ use Rattle.dchannel.specs.declared.access.Class.{Class}
 use Rattle.table_6_2.specs.Table62.{table62, F1, F7, ON, OFF, AR, T3-DUE}
 use Rattle.table_6_2.specs.States.{nextState}
 use Rattle.table_6_2.proofs.Laws.{notes-three, notes-indications, t3-keeps-F7}
-use Rattle.timing.specs.Counts.{mostPeriods}
+use Rattle.timing.specs.Counts.{mostPeriods, atPeriod}
 use Rattle.timing.specs.Timers.{due}
-use Rattle.timing.specs.declared.counts.Periods.{Periods}
 use Rattle.hearing.specs.Alignment.{gained, lost, followed}
 use Rattle.hearing.specs.Heard.{downwardEvent}
 use Rattle.hearing.specs.declared.alignment.Followed.{Followed}
@@ -30,27 +29,24 @@ use Rattle.terminal.specs.declared.Terminal.{Terminal}
 use Rattle.terminal.specs.declared.TerminalStep.{TerminalStep}
 
 -- ---- the calls, where the record is in range and the period one that a bus runs
-abbrev pub at : ℕ → Periods
-at now = record { 0 = now }
-
-checked-called : (step : ℕ → Terminal → TerminalStep) (now : ℕ) (t : Terminal) → now ≤ mostPeriods → terminalInRange t ≡ true → checked step (at now) t ≡ step now t
+checked-called : (step : ℕ → Terminal → TerminalStep) (now : ℕ) (t : Terminal) → now ≤ mostPeriods → terminalInRange t ≡ true → checked step (atPeriod now) t ≡ step now t
 unfolding checked ready
 checked-called step now t l h = rw (h, le-leb now mostPeriods l)
 
 module _ (now : ℕ) (t : Terminal) (l : now ≤ mostPeriods) (h : terminalInRange t ≡ true) where
-  pub switched-on-called : switchedOn (at now) t ≡ switchesOn now t
+  pub switched-on-called : switchedOn (atPeriod now) t ≡ switchesOn now t
   switched-on-called = checked-called switchesOn now t l h
 
-  pub switched-off-called : switchedOff (at now) t ≡ switchesOff now t
+  pub switched-off-called : switchedOff (atPeriod now) t ≡ switchesOff now t
   switched-off-called = checked-called switchesOff now t l h
 
-  pub requested-called : requested (at now) t ≡ requests now t
+  pub requested-called : requested (atPeriod now) t ≡ requests now t
   requested-called = checked-called requests now t l h
 
-  pub timer-due-called : timerDue (at now) t ≡ timer now t
+  pub timer-due-called : timerDue (atPeriod now) t ≡ timer now t
   timer-due-called = checked-called timer now t l h
 
-  pub heard-called : (line : Downward) → heard line (at now) t ≡ hears line now t
+  pub heard-called : (line : Downward) → heard line (atPeriod now) t ≡ hears line now t
   heard-called line = checked-called (hears line) now t l h
 
 pub handed-over-called : (class : Class) (n : ℕ) (t : Terminal) → terminalInRange t ≡ true → handedOver class n t ≡ handsOver class n t
@@ -86,32 +82,53 @@ stays : (s : ℕ) (a : Access) → accessAfter s s a ≡ record { access = a; dr
 unfolding accessAfter
 stays s a = by-test (eqb s F7) (λ t. rw t) (λ t. rw t)
 
--- The access goes by the state before and after alone.
-pub happens-access : (k e now : ℕ) (t : Terminal) → happens k e now t .terminal .access ≡ accessAfter (t .state) (nextState e (t .state)) (t .access) .access
-unfolding happens
-happens-access k e now t = from (cellOf table62 e (t .state))
-  where
-    from : (c : Cell) → acts k c now t .terminal .access ≡ accessAfter (t .state) (stateAfter c (t .state)) (t .access) .access
-    from (To next action notes) = unfold acts in unfold moved in refl
-    from (Stay notes) = unfold acts in rw (stays (t .state) (t .access))
-    from Impossible = unfold acts in rw (stays (t .state) (t .access))
-    from Absent = unfold acts in rw (stays (t .state) (t .access))
+-- The access goes by the states before and after alone, in every step.
+abbrev pub AccessByState : (Terminal → TerminalStep) → Terminal → Type 0
+AccessByState step t = step t .terminal .access ≡ accessAfter (t .state) (step t .terminal .state) (t .access) .access
+
+acts-access : (k : ℕ) (c : Cell) (now : ℕ) (t : Terminal) → AccessByState (acts k c now) t
+unfolding acts moved
+acts-access k (To next action notes) now t = refl
+acts-access k (Stay notes) now t = rw (stays (t .state) (t .access))
+acts-access k Impossible now t = rw (stays (t .state) (t .access))
+acts-access k Absent now t = rw (stays (t .state) (t .access))
+
+module _ (now : ℕ) (t : Terminal) where
+  pub happens-access : (k e : ℕ) → AccessByState (happens k e now) t
+  unfolding happens
+  happens-access k e = acts-access k (cellOf table62 e (t .state)) now t
+
+  pub switches-on-access : AccessByState (switchesOn now) t
+  unfolding switchesOn happens aligned
+  switches-on-access = by-test (eqb (t .state) F1) (λ e. rw e (acts-access 0 _ now _)) (λ e. rw (e, stays (t .state) (t .access)))
+
+  pub switches-off-access : AccessByState (switchesOff now) t
+  unfolding switchesOff happens noTimer
+  switches-off-access = by-test (eqb (t .state) F1) (λ e. rw (e, stays (t .state) (t .access))) (λ e. rw e (acts-access 0 _ now _))
+
+  pub requests-access : AccessByState (requests now) t
+  unfolding requests
+  requests-access = happens-access 5 AR
+
+  pub timer-access : AccessByState (timer now) t
+  unfolding timer happens noTimer
+  timer-access = by-test (due (t .t3) now) (λ e. rw e (acts-access 0 _ now _)) (λ e. rw (e, stays (t .state) (t .access)))
+
+  pub hears-access : (line : Downward) → AccessByState (hears line now) t
+  unfolding hears heardAs happens aligned
+  hears-access line = by-test (eqb (t .state) F1) (λ e. rw (e, stays (t .state) (t .access))) (λ e. rw e (acts-access 0 _ now _))
 
 -- T3, where it is due, leads neither into F7 nor out of it, and so leaves the access alone.
 pub timer-keeps-F7 : (now : ℕ) (t : Terminal) → eqb (timer now t .terminal .state) F7 ≡ eqb (t .state) F7
 unfolding timer noTimer
 timer-keeps-F7 now t = by-test (due (t .t3) now) (λ e. rw (e, happens-state 0 now _ T3-DUE) (t3-keeps-F7 (t .state))) (λ e. rw e)
 
-kept-access : (from next : ℕ) (a : Access) → eqb next F7 ≡ eqb from F7 → accessAfter from next a .access ≡ a
+kept-access : (from next : ℕ) (a : Access) → eqb next F7 ≡ eqb from F7 → accessAfter from next a ≡ record { access = a; dropped = 0 }
 unfolding accessAfter
 kept-access from next a h = rw h (by-test (eqb from F7) (λ t. rw t) (λ t. rw t))
 
 pub timer-keeps-access : (now : ℕ) (t : Terminal) → timer now t .terminal .access ≡ t .access
-unfolding timer noTimer
-timer-keeps-access now t =
-    by-test (due (t .t3) now)
-    (λ e. rw (e, happens-access 0 T3-DUE now _) (kept-access (t .state) _ (t .access) (t3-keeps-F7 (t .state))))
-    (λ e. rw e)
+timer-keeps-access now t = rw (timer-access now t, kept-access (t .state) (timer now t .terminal .state) (t .access) (timer-keeps-F7 now t))
 
 -- ---- notes
 dropped-length : (class : ℕ) → length (droppedNote class) ≤ 1
@@ -156,22 +173,15 @@ module _ (line : Downward) (now : ℕ) (t : Terminal) (on : eqb (t .state) F1 �
   unfolding hears heardAs aligned
   hears-alignment = rw on (happens-alignment 0 now _ (eventHeard line t))
 
-  pub hears-access : hears line now t .terminal .access ≡ accessAfter (t .state) (nextState (eventHeard line t) (t .state)) (t .access) .access
-  unfolding hears heardAs aligned
-  hears-access = rw on (happens-access 0 (eventHeard line t) now _)
-
   pub hears-notes : noted (hears line now t .notes) ≡ droppedAt (eventHeard line t) t ++ noted (cellNotes (cellOf table62 (eventHeard line t) (t .state)))
   unfolding hears heardAs aligned
   hears-notes = rw on (happens-notes 0 (eventHeard line t) now _)
 
 -- T3, where it is due, drops no frame: its notes are the cell's.
 pub timer-notes : (now : ℕ) (t : Terminal) → due (t .t3) now ≡ true → noted (timer now t .notes) ≡ noted (cellNotes (cellOf table62 T3-DUE (t .state)))
-unfolding timer noTimer
+unfolding timer noTimer droppedNote
 timer-notes now t d =
-    rw (d, happens-notes 0 T3-DUE now (record { t3 = 0; access = t .access; state = t .state; alignment = t .alignment }), no-drop (t .state) (nextState T3-DUE (t .state)) (t .access) (t3-keeps-F7 (t .state)))
-  where
-    no-drop : (from next : ℕ) (a : Access) → eqb next F7 ≡ eqb from F7 → droppedNote (accessAfter from next a .dropped) ≡ []
-    no-drop from next a h = unfold accessAfter in unfold droppedNote in rw h (by-test (eqb from F7) (λ t. rw t) (λ t. rw t))
+    rw (d, happens-notes 0 T3-DUE now (record { t3 = 0; access = t .access; state = t .state; alignment = t .alignment }), kept-access (t .state) (nextState T3-DUE (t .state)) (t .access) (t3-keeps-F7 (t .state)))
 
 -- Every note is an indication of table 6-2, DROPPED1 or DROPPED2.
 abbrev pub isTerminalNote : ℕ → Bool

@@ -9,6 +9,10 @@ use Rattle.timing.specs.declared.counts.Opportunities.{Opportunities}
 abbrev pub mostPeriods : ℕ
 mostPeriods = 4000000
 
+-- So many periods run: the period of that number is next.
+abbrev pub atPeriod : ℕ → Periods
+atPeriod n = record { 0 = n }
+
 abbrev pub periodsInRange : Periods → Bool
 periodsInRange p = leb (p .0) mostPeriods
 
@@ -23,7 +27,7 @@ allRun p = leb mostPeriods (p .0)
 
 -- One period more, where one can be run.
 unfoldable pub nextPeriod : Periods → Periods
-nextPeriod p = cond (allRun p) p (record { 0 = p .0 + 1 })
+nextPeriod p = cond (allRun p) p (atPeriod (p .0 + 1))
 
 -- "four for each period whose lines leave the network end in G3", for every count that a bus can have
 unfoldable pub fourMore : Opportunities → Opportunities

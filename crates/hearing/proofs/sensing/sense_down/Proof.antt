@@ -16,24 +16,24 @@ returns : tie.Need-returns
 unfolding sensedDown
 returns c = let h = refused-line _ (c .before .before .before .has-pulse .ensures) (c .before .pulse .given .1) in rw (h .0, h .1)
 
-yes-requires : tie.Need-yes-requires
-yes-requires c κs = search needs
+is-yes-requires : tie.Need-is-yes-requires
+is-yes-requires c κs = search needs
 
 framed-down-requires : tie.Need-framed-down-requires
 framed-down-requires c κs = search needs
 
-yes-requires-2 : tie.Need-yes-requires-2
-yes-requires-2 c κs = search needs
+is-yes-requires-2 : tie.Need-is-yes-requires-2
+is-yes-requires-2 c κs = search needs
 
 a-bit-requires : tie.Need-a-bit-requires
 a-bit-requires c κs = search needs
 
-yes-requires-3 : tie.Need-yes-requires-3
-yes-requires-3 c κs = search needs
+is-yes-requires-3 : tie.Need-is-yes-requires-3
+is-yes-requires-3 c κs = search needs
 
 returns-2 : tie.Need-returns-2
 unfolding sensedDown shownDown
-returns-2 c = let h = shown _ framedDown aLevel (c .before .before .before .before .before .before .has-pulse .ensures) (c .before .before .before .before .before .match .keys2) (c .before .before .before .before .yes .ensures) (c .before .before .before .framed-down .ensures) (c .before .before .yes2 .ensures) (c .before .a-bit .ensures) (c .yes3 .ensures) in rw (h .0, h .1, h .2, h .3)
+returns-2 c = let h = shown _ framedDown aLevel (c .before .before .before .before .before .before .has-pulse .ensures) (c .before .before .before .before .before .match .keys2) (c .before .before .before .before .is-yes .ensures) (c .before .before .before .framed-down .ensures) (c .before .before .is-yes2 .ensures) (c .before .a-bit .ensures) (c .is-yes3 .ensures) in rw (h .0, h .1, h .2, h .3)
 
 pub sense-down-spec : {M : Type 1} → statement M
 sense-down-spec =
@@ -42,9 +42,9 @@ sense-down-spec =
     has-pulse-requires
     enum-known-pulse
     returns
-    yes-requires
+    is-yes-requires
     framed-down-requires
-    yes-requires-2
+    is-yes-requires-2
     a-bit-requires
-    yes-requires-3
+    is-yes-requires-3
     returns-2)
