@@ -21,7 +21,8 @@ use Rattle.contention.specs.Channel.Action.{hand, enter, leave, clear, o
 use Rattle.contention.specs.Stretch.{station}
 use Rattle.contention.specs.Invariant.{Sound, Invariant}
 use Rattle.contention.proofs.Change.{change-each, length-change}
-use Rattle.contention.proofs.Terminal.{Outcome, outcome, WentOn, Started, StartedAt, completed, went-on, stopped, started, idled, outside, hears-outside, active-after, body-after, count-after, count-most, count-step, count-zero, threshold-least, level-least}
+use Rattle.dchannel.proofs.AccessLaws.{count-most, count-up, count-zero}
+use Rattle.contention.proofs.Terminal.{Outcome, outcome, WentOn, Started, StartedAt, completed, went-on, stopped, started, idled, outside, hears-outside, active-after, body-after, count-after, level-threshold, level-least}
 
 module _ (x1 x2 : ℕ) where
   -- every terminal hears the E of an opportunity
@@ -57,7 +58,7 @@ module _ {x2 : ℕ} (e : Bool) {s s′ : Station} (h : Sound x2 s) (act : s′ .
       → ((n : ℕ) → s′ .access .sent ≡ suc n → s′ .access .last ≡ getD (image (s .body)) n true) → Sound x2 s′
   sound-kept on held len none part last =
       record {
-        counted = rw (cnt on) (count-most x2 e (s .access .count) (h .counted));
+        counted = rw (cnt on) (count-most x2 e (s .access .count));
         outside = λ f. absurd (false≢true (sym f ∙ act ∙ on));
         class-known = omega (arith, h .class-known);
         none-held = λ z. (len ∙ h .none-held (sym held ∙ z) .0, none (sym held ∙ z));
@@ -70,7 +71,7 @@ module _ {x2 : ℕ} (e : Bool) {s s′ : Station} (h : Sound x2 s) (act : s′ .
   unfolding nextBit
   sound-outcome (completed r) =
       record {
-        counted = rw (cnt (r .in-F7)) (count-most x2 e (s .access .count) (h .counted));
+        counted = rw (cnt (r .in-F7)) (count-most x2 e (s .access .count));
         outside = λ f. absurd (false≢true (sym f ∙ act ∙ r .in-F7));
         class-known = omega arith;
         none-held = λ _. (r .length-now, r .sent-now);
@@ -320,9 +321,9 @@ module _ (x1 x2 : ℕ) where
 -- ---- the channel: opportunities
 
 module _ (x1 x2 : ℕ) (e : Bool) where
-  pub count-up : (s : Station) → hears x1 x2 e s .access .count ≤ suc (s .access .count)
-  count-up s =
-      by-test (s .active) (λ act. rw (count-after x1 x2 e s act) (count-step x2 e (s .access .count)))
+  pub hears-count-up : (s : Station) → hears x1 x2 e s .access .count ≤ suc (s .access .count)
+  hears-count-up s =
+      by-test (s .active) (λ act. rw (count-after x1 x2 e s act) (omega (arith, count-up x2 e (s .access .count))))
       (λ out. rw (hears-outside x1 x2 e s out) (omega arith))
 
 -- an E of 0 sets every C to 0
@@ -365,7 +366,7 @@ module _ (x1 x2 : ℕ) (c : Channel) (inv : Invariant x2 c) where
       let more = take-suc (image (station i c .body)) (suc n) true (omega (arith, f .1, inv .sound i .sent-part)) in
       let bit : getD (image (station i c .body)) (suc n) true ≡ true = sym (inv .sound i .last-bit (suc n) q) ∙ sym a in
       rw (more, bit, ending-one (take (suc n) (image (station i c .body))))
-      (omega (arith, count-up x1 x2 true (station j c), inv .held-back i j n q))
+      (omega (arith, hears-count-up x1 x2 true (station j c), inv .held-back i j n q))
 
   -- while one goes on, every C is at most six
   pub going-bound : (e : Bool) (i j : ℕ) → 1 ≤ station i c .access .sent → e ≡ station i c .access .last
@@ -384,7 +385,7 @@ module _ (x1 x2 : ℕ) (c : Channel) (inv : Invariant x2 c) where
         arith,
         going-bound e i j h a,
         r .reached,
-        threshold-least x1 x2 (station j c .access .held) (lowOf (station j c .access .held) (hears x1 x2 e (station j c) .access)),
+        level-threshold x1 x2 (station j c .access .held) (lowOf (station j c .access .held) (hears x1 x2 e (station j c) .access)),
         level-least x1 x2 (station j c .access .held) h2,
       )
 

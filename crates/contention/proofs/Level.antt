@@ -12,7 +12,7 @@ use Rattle.contention.specs.Stretch.{onward, station, Waits, Completes}
 use Rattle.contention.specs.Claims.{NoRivalTwice, InStretches}
 use Rattle.contention.specs.Invariant.{Invariant}
 use Rattle.contention.proofs.Terminal.{outcome, active-after, level, level-least, threshold-low, threshold-of, low-stays, completed-low}
-use Rattle.contention.proofs.InvariantKept.{SenderAt, sender, going, starting, Quiet, count-up}
+use Rattle.contention.proofs.InvariantKept.{SenderAt, sender, going, starting, Quiet, hears-count-up}
 use Rattle.contention.proofs.Trace.{onward-station, echo-first, echo-onward, sender-kept, opp, many, invariant-at, invariant-past, quiet-at}
 use Rattle.contention.proofs.Waiting.{completed-at, completes-zero, zero-counts, waits-class, waits-hears, waits-quiet, sending-count, idle-below, first-stays, low-quiet}
 
@@ -62,7 +62,7 @@ module _ (x1 x2 : ℕ) (h1 : 8 ≤ x1) (h2 : x1 + 2 ≤ x2) (k i j : ℕ) (k1 : 
     count-i =
         by-test (leb 1 (station i c .access .sent))
         (λ l. omega (arith, sending-count x1 x2 c inv i i (leb-true 1 (station i c .access .sent) l) (a .zero-next), level-least x1 x2 k h2))
-        (λ l. omega (arith, count-up x1 x2 (c .heardD) (station i c), a .below (omega (arith, leb-false 1 (station i c .access .sent) l))))
+        (λ l. omega (arith, hears-count-up x1 x2 (c .heardD) (station i c), a .below (omega (arith, leb-false 1 (station i c .access .sent) l))))
 
     first-now : (m : ℕ) → later m .access .count ≤ later i .access .count
     first-now = first-stays x1 x2 c inv i (a .waits .in-F7) (a .first)

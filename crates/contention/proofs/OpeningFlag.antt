@@ -1,15 +1,14 @@
 -- No sending stops inside its opening flag: all that send have sent equally many bits of the same flag, so their echo agrees.
 use mathlib.Core.Bool.{true}
 use mathlib.Core.Path.{_≡_, sym, ap, _∙_}
-use mathlib.Core.List.{List, _++_}
+use mathlib.Core.List.{List}
 use Prim.Native.Nat.{ℕ, zero, suc, _+_, _≤_, _<_}
 use native.Mathlib.Nat.{add-zero, add-suc}
 use native.Mathlib.Omega.{arith}
 use native.Mathlib.Numerals.{add-one}
-use lib.ListN.{length, getD, List·getD-append}
-use Rattle.hdlc.specs.Bits.{bodyBits}
-use Rattle.hdlc.specs.Image.{flag, stuff, image}
-use Rattle.hdlc.proofs.ImageLaws.{length-image}
+use lib.ListN.{length, getD}
+use Rattle.hdlc.specs.Image.{flag}
+use Rattle.hdlc.proofs.ImageLaws.{length-image, image-flag}
 use Rattle.contention.specs.Channel.{Channel, Action}
 use Rattle.contention.specs.Stretch.{Stretch, station}
 use Rattle.contention.specs.Claims.{at, opps, NoStopInFlag, InStretches}
@@ -17,11 +16,6 @@ use Rattle.contention.specs.Invariant.{Invariant}
 use Rattle.contention.proofs.Trace.{Echo, echo-agrees}
 use Rattle.contention.proofs.HeardNext.{Follows, follows}
 use Rattle.contention.proofs.HeardSteps.{echo-next, forth-begins, forth-more}
-
--- an image begins with the flag
-image-flag : (body : List ℕ) (n : ℕ) → n < 8 → getD (image body) n true ≡ getD flag n true
-unfolding image
-image-flag body n h = List·getD-append flag (stuff 0 (bodyBits body) ++ flag) true n h
 
 -- inside the flag the E is the bit that left last
 flag-echoed : {x2 : ℕ} {c : Channel} → Invariant x2 c → Echo c → (j n : ℕ) → station j c .access .sent ≡ suc n → n < 8

@@ -5,9 +5,9 @@ use mathlib.Core.List.{List}
 use Prim.Native.Nat.{ℕ, zero, suc, _+_, _≤_, _<_}
 use native.Mathlib.Omega.{arith}
 use native.Mathlib.Numerals.{add-one}
-use lib.Dec.{eqb, leb, ltb}
+use lib.Dec.{eqb}
 use lib.ListN.{length}
-use borrow.Author.Tests.{ltb-true, ltb-false, leb-true, leb-false, eqb-false, eq-eqb, ne-eqb, lt-ltb, le-ltb}
+use borrow.Author.Tests.{leb-true, leb-false, eqb-false, eq-eqb, ne-eqb}
 use Rattle.dchannel.specs.declared.access.Access.{Access}
 use Rattle.cases.proofs.ByCases.{by-test}
 use Rattle.dchannel.specs.Access.{countAfter, lowAfter, afterE, threshold, lowOf, mayStart, sendsNext, stops, completes, idles, turn}
@@ -172,9 +172,9 @@ pub threshold-of : (x1 x2 held k : ℕ) (a : Access) (low : Bool) → held ≡ k
     → threshold x1 x2 held (lowOf held a) ≡ threshold x1 x2 k low
 threshold-of x1 x2 held k a low h l = rw h (rw l)
 
-pub threshold-least : (x1 x2 k : ℕ) (low : Bool) → level x1 x2 k ≤ threshold x1 x2 k low
-threshold-least x1 x2 k true = omega (arith, threshold-low x1 x2 k)
-threshold-least x1 x2 k false = omega (arith, threshold-normal x1 x2 k)
+pub level-threshold : (x1 x2 k : ℕ) (low : Bool) → level x1 x2 k ≤ threshold x1 x2 k low
+level-threshold x1 x2 k true = omega (arith, threshold-low x1 x2 k)
+level-threshold x1 x2 k false = omega (arith, threshold-normal x1 x2 k)
 
 pub level-least : (x1 x2 k : ℕ) → x1 + 2 ≤ x2 → x1 ≤ level x1 x2 k
 unfolding level
@@ -183,41 +183,6 @@ level-least x1 x2 k h = by-test (eqb k 1) (λ e. rw e (omega arith)) (λ e. rw e
 pub level-most : (x1 x2 k : ℕ) → x1 + 2 ≤ x2 → level x1 x2 k ≤ x2
 unfolding level
 level-most x1 x2 k h = by-test (eqb k 1) (λ e. rw e (omega arith)) (λ e. rw e (omega arith))
-
--- C after an E
-module _ (x2 : ℕ) where
-  pub count-most : (e : Bool) (c : ℕ) → c ≤ x2 + 1 → countAfter x2 e c ≤ x2 + 1
-  unfolding countAfter
-  count-most true c h = by-test (ltb c (x2 + 1)) (λ l. rw l (omega (arith, ltb-true c (x2 + 1) l))) (λ l. rw l (omega arith))
-  count-most false c h = omega arith
-
-  pub count-step : (e : Bool) (c : ℕ) → countAfter x2 e c ≤ suc c
-  unfolding countAfter
-  count-step true c = by-test (ltb c (x2 + 1)) (λ l. rw l (omega arith)) (λ l. rw l (omega (arith, ltb-false c (x2 + 1) l)))
-  count-step false c = omega arith
-
-  pub count-zero : (c : ℕ) → countAfter x2 false c ≡ 0
-  unfolding countAfter
-  count-zero c = refl
-
-  pub count-one : (c : ℕ) → c ≤ x2 → countAfter x2 true c ≡ suc c
-  unfolding countAfter
-  count-one c h = rw (lt-ltb c (x2 + 1) (omega arith)) (add-one c)
-
-  pub count-full : (c : ℕ) → x2 + 1 ≤ c → countAfter x2 true c ≡ x2 + 1
-  unfolding countAfter
-  count-full c h = rw (le-ltb c (x2 + 1) h)
-
-  pub count-some : (c : ℕ) → 1 ≤ countAfter x2 true c
-  unfolding countAfter
-  count-some c = by-test (ltb c (x2 + 1)) (λ l. rw l (omega arith)) (λ l. rw l (omega arith))
-
-  pub count-mono : (e : Bool) (c d : ℕ) → d ≤ x2 + 1 → c ≤ d → countAfter x2 e c ≤ countAfter x2 e d
-  count-mono false c d m h = omega (arith, count-zero c, count-zero d)
-  count-mono true c d m h =
-      by-test (leb d x2)
-      (λ l. omega (arith, count-step true c, count-one d (leb-true d x2 l)))
-      (λ l. omega (arith, count-most true c (omega arith), count-full d (omega (arith, leb-false d x2 l))))
 
 -- the levels after a turn: a completed class goes low, else the level follows C
 turn-low : (x1 x2 k : ℕ) (e next : Bool) (a : Access) → 1 ≤ k → k ≤ 2

@@ -7,6 +7,7 @@ use mathlib.Core.List.{List}
 use mathlib.Core.Logic.{_⊎_, inl, inr}
 use Prim.Native.Nat.{ℕ, zero, suc, _+_, _*_, _≤_, _<_}
 use native.Mathlib.Nat.{add-zero}
+use native.Mathlib.Numerals.{add-one}
 use native.Mathlib.Omega.{arith}
 use lib.Dec.{eqb, leb}
 use lib.ListN.{length}
@@ -17,8 +18,9 @@ use Rattle.contention.specs.Channel.{Station, Channel, Action, turnAt, h
 use Rattle.contention.specs.Stretch.{Stretch, onward, station, Waits, Completes, howMany, activeCount, ImagesAtMost}
 use Rattle.contention.specs.Claims.{at, waitBound, CompletedWithin, WaitEnds, InStretches}
 use Rattle.contention.specs.Invariant.{Invariant}
-use Rattle.contention.proofs.Terminal.{Outcome, outcome, CompletedAt, completed, went-on, stopped, started, idled, outside, active-after, body-after, count-after, count-one, count-full, count-some, level, level-least, level-most, threshold-least, threshold-low, threshold-of, low-stays, normal-stays, completed-low}
-use Rattle.contention.proofs.InvariantKept.{and-true, SenderAt, sender, going, starting, Quiet, count-up, length-hears}
+use Rattle.dchannel.proofs.AccessLaws.{count-one, count-stays, count-some}
+use Rattle.contention.proofs.Terminal.{Outcome, outcome, CompletedAt, completed, went-on, stopped, started, idled, outside, active-after, body-after, count-after, level, level-least, level-most, level-threshold, threshold-low, threshold-of, low-stays, normal-stays, completed-low}
+use Rattle.contention.proofs.InvariantKept.{and-true, SenderAt, sender, going, starting, Quiet, hears-count-up, length-hears}
 use Rattle.contention.proofs.Trace.{howMany-le, howMany-lt, Anyone, anyone, somebody, nobody, onward-station, Echo, echo-idle, echo-first, sender-kept, opp, many, invariant-at, invariant-past, quiet-at, echo-at, active-at}
 use Rattle.contention.proofs.Waiting.{completes-zero, zero-counts, waits-hears, waits-quiet, sending-count, idle-below, first-stays, low-quiet, goes-on, completion-ends}
 
@@ -63,7 +65,7 @@ precede-of x1 x2 k h2 k1 k2 h s q l m reached below =
     (λ two.
     let one : k ≡ 1 = omega (arith, eqb-false k 2 two) in
     let h-two : h ≡ 2 = omega (arith, eqb-false h k e) in
-    absurd (omega (arith, threshold-least x1 x2 h (lowOf h (s .access)), ap (level x1 x2) h-two, ap (level x1 x2) one, level-one x1 x2, level-two x1 x2))))
+    absurd (omega (arith, level-threshold x1 x2 h (lowOf h (s .access)), ap (level x1 x2) h-two, ap (level x1 x2) one, level-one x1 x2, level-two x1 x2))))
 
 -- What is left at most, v, for terminal i that waits in class k with normal level x, with n terminals, f class 1 frames that may still
 -- go before (0 for class 1) and images of at most L bits.
@@ -192,8 +194,8 @@ module _ (x1 x2 k n L i : ℕ) (h1 : 8 ≤ x1) (h2 : x1 + 2 ≤ x2) (k1 : 1 ≤ 
       let short = idle-below x1 x2 c inv k i k1 w w′ q z (outcome x1 x2 (c .heardD) (station i c)) in
       let up = up-one one in
       by-test (leb (station i c .access .count) x2)
-      (λ l. (up ∙ count-one x2 (station i c .access .count) (leb-true (station i c .access .count) x2 l), short))
-      (λ l. absurd (omega (arith, count-full x2 (station i c .access .count) (omega (arith, leb-false (station i c .access .count) x2 l)), level-most x1 x2 k h2)))
+      (λ l. (up ∙ (count-one x2 (station i c .access .count) (leb-true (station i c .access .count) x2 l) ∙ add-one _), short))
+      (λ l. absurd (omega (arith, count-stays x2 (station i c .access .count) (omega (arith, leb-false (station i c .access .count) x2 l)), level-most x1 x2 k h2)))
 
   -- all C at 0 and nobody sending
   cleared-even : (v more : ℕ) → n + f′ ≤ suc more + lows k (onward x1 x2 c) → c .heardD ≡ false → ((j : ℕ) → station j (onward x1 x2 c) .access .sent ≡ 0)
@@ -257,7 +259,7 @@ module _ (x1 x2 k n L i : ℕ) (h1 : 8 ≤ x1) (h2 : x1 + 2 ≤ x2) (k1 : 1 ≤ 
     even-idle-on : (v : ℕ) → EvenIdle x k n f L i (suc v) c → Anyone (onward x1 x2 c) → Next v
     even-idle-on v r a =
         let below : (j : ℕ) → then j .access .count ≤ x =
-        λ j. omega (arith, first-stays x1 x2 c inv i (w .in-F7) (r .first) j, count-up x1 x2 (c .heardD) (station i c), r .below)
+        λ j. omega (arith, first-stays x1 x2 c inv i (w .in-F7) (r .first) j, hears-count-up x1 x2 (c .heardD) (station i c), r .below)
         in
         let low = lows-kept x1 x2 k h1 h2 k1 k2 c inv below in
         go below low a

@@ -12,8 +12,9 @@ use Rattle.dchannel.specs.Access.{lowOf}
 use Rattle.contention.specs.Channel.{Station, Channel, turnAt, hears}
 use Rattle.contention.specs.Stretch.{onward, station, Waits, Completes}
 use Rattle.contention.specs.Invariant.{Sound, Invariant}
-use Rattle.contention.proofs.Terminal.{Outcome, outcome, OutcomeAt, CompletedAt, Completed, completed, went-on, stopped, started, idled, outside, active-after, count-after, count-mono, hears-outside, level, threshold-normal, threshold-of, normal-stays}
-use Rattle.contention.proofs.InvariantKept.{SenderAt, going, starting, nobody-starts, sending-holds, Quietly, Quiet, count-up, zero-clears}
+use Rattle.dchannel.proofs.AccessLaws.{count-mono}
+use Rattle.contention.proofs.Terminal.{Outcome, outcome, OutcomeAt, CompletedAt, Completed, completed, went-on, stopped, started, idled, outside, active-after, count-after, hears-outside, level, threshold-normal, threshold-of, normal-stays}
+use Rattle.contention.proofs.InvariantKept.{SenderAt, going, starting, nobody-starts, sending-holds, Quietly, Quiet, hears-count-up, zero-clears}
 use Rattle.contention.proofs.Trace.{onward-station, Echo, echo-agrees}
 
 -- the last bit of an image is a 0
@@ -85,7 +86,7 @@ module _ (x1 x2 : ℕ) (c : Channel) (inv : Invariant x2 c) where
       go zero q k = absurd (omega arith)
       go (suc zero) q k = omega (arith, zero-counts (first q) j)
       go (suc (suc n)) q k =
-          omega (arith, count-up x1 x2 (c .heardD) (station j c), inv .held-back i j n q, image-endingOnes (station i c .body) (suc n))
+          omega (arith, hears-count-up x1 x2 (c .heardD) (station j c), inv .held-back i j n q, image-endingOnes (station i c .body) (suc n))
 
   -- whoever waits and does not start has its C below the level
   pub idle-below : (k i : ℕ) → 1 ≤ k → Waits k i c → Waits k i (onward x1 x2 c) → station i c .access .sent ≡ 0
@@ -111,7 +112,7 @@ module _ (x1 x2 : ℕ) (c : Channel) (inv : Invariant x2 c) where
   first-stays i act first m =
       by-test (station m c .active)
       (λ on. rw (count-after x1 x2 (c .heardD) (station m c) on, count-after x1 x2 (c .heardD) (station i c) act)
-      (count-mono x2 (c .heardD) (station m c .access .count) (station i c .access .count) (inv .sound i .counted) (first m)))
+      (count-mono x2 (c .heardD) (station m c .access .count) (station i c .access .count) (first m)))
       (λ out. rw (hears-outside x1 x2 (c .heardD) (station m c) out)
       (omega (arith, ap (λ (s : Access). s .count) (inv .sound m .outside out))))
 

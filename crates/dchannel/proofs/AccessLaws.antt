@@ -156,6 +156,10 @@ count-up x2 false c = omega arith
 count-up x2 true c =
     by-test (ltb c (x2 + 1)) (λ t. rw t (omega arith)) (λ t. rw t (omega (arith, ltb-false c (x2 + 1) t)))
 
+pub count-some : (x2 c : ℕ) → 1 ≤ countAfter x2 true c
+unfolding countAfter
+count-some x2 c = by-test (ltb c (x2 + 1)) (λ t. rw t (omega arith)) (λ t. rw t (omega arith))
+
 -- of two terminals that hear the same E, the one that is behind stays behind or draws level
 pub count-mono : (x2 : ℕ) (e : Bool) (b c : ℕ) → b ≤ c → countAfter x2 e b ≤ countAfter x2 e c
 count-mono x2 false b c h = omega (arith, count-zero x2 b)

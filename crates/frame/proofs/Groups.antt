@@ -97,5 +97,5 @@ ones-more : (n : ℕ) → replicate n true ++ (true ∷ []) ≡ replicate (suc n
 ones-more zero = refl
 ones-more (suc n) = rw (ones-more n)
 
-pub ones-silent : (n : ℕ) → groupSymbols (replicate n true) ≡ replicate (suc n) none
-ones-silent n = rw (zeros-ones n, ones-more n) (alternate-ones (suc n))
+pub group-of-ones : (n : ℕ) → groupSymbols (replicate n true) ≡ replicate (suc n) none
+group-of-ones n = rw (zeros-ones n, ones-more n) (alternate-ones (suc n))

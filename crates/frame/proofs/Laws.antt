@@ -53,8 +53,8 @@ groups-up = groups.groups-up
 pub d-symbol-up : Laws.DSymbolUp
 d-symbol-up = groups.d-symbol-up
 
-pub ones-silent : Laws.OnesSilent
-ones-silent = groups.ones-silent
+pub group-of-ones : Laws.GroupOfOnes
+group-of-ones = groups.group-of-ones
 
 -- ---- Four bits by their place.
 pub pick-and : Laws.PickAnd

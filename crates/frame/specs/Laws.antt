@@ -52,8 +52,8 @@ abbrev pub DSymbolUp : Type 0
 DSymbolUp = (k : ℕ) (f : UpFields) → k < 4 → getD (upLine f) (dIndex k) none ≡ cond (pick k (f .d)) none minus
 
 -- A group of 1s, with its L, is nones.
-abbrev pub OnesSilent : Type 0
-OnesSilent = (n : ℕ) → groupSymbols (replicate n true) ≡ replicate (suc n) none
+abbrev pub GroupOfOnes : Type 0
+GroupOfOnes = (n : ℕ) → groupSymbols (replicate n true) ≡ replicate (suc n) none
 
 -- ---- Four bits by their place.
 abbrev pub PickAnd : Type 0

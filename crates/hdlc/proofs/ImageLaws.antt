@@ -5,7 +5,7 @@ use mathlib.Core.List.{List, [], _∷_, _++_, append-assoc}
 use Prim.Native.Nat.{ℕ, zero, suc, _+_, _-_, _*_, _/_, _%_, _^_, _≤_, _<_}
 use native.Mathlib.Omega.{arith}
 use lib.Dec.{eqb, leb, ltb}
-use lib.ListN.{length, getD, take, drop, replicate, length-append, length-replicate}
+use lib.ListN.{length, getD, take, drop, replicate, length-append, length-replicate, List·getD-append}
 use lib.Seq.{getD-at}
 use borrow.Author.Tests.{eqb-true, eqb-false, eq-eqb, ne-eqb, ltb-true, lt-ltb, leb-true, le-leb}
 use Rattle.hdlc.specs.Bits.{lowBits, bodyBits, numberLowFirst, octets}
@@ -84,6 +84,11 @@ cut-last body = simp append-assoc
 pub length-image : (body : List ℕ) → length (image body) ≡ length (stuff 0 (bodyBits body)) + 16
 unfolding image
 length-image body = simp length-append (omega arith)
+
+-- an image begins with the flag
+pub image-flag : (body : List ℕ) (n : ℕ) → n < 8 → getD (image body) n true ≡ getD flag n true
+unfolding image
+image-flag body n h = List·getD-append flag (stuff 0 (bodyBits body) ++ flag) true n h
 
 -- an image starts with 0
 pub image-first : (body : List ℕ) → image body ≡ false ∷ drop 1 (image body)

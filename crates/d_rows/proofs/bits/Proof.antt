@@ -1,7 +1,5 @@
 use Prim.Native.Nat.{_≤_, _-_}
-use native.Mathlib.Omega.{arith}
 use borrow.Author.Needs.{needs}
-use lib.ListN.{length}
 use Rattle.d_rows.proofs.bits.Statement.{statement}
 use Rattle.d_rows.proofs.bits.Tie as tie
 
