@@ -1,10 +1,10 @@
 use Prim.Native.Nat.{_+_}
 use native.Mathlib.Omega.{arith}
 use borrow.Author.Tests.{le-ltb, lt-ltb}
-use Rattle.hearing.specs.Alignment.{lost, unframedPeriod}
+use Rattle.alignment.specs.Alignment.{lost, unframedPeriod}
 use borrow.Author.Needs.{needs}
-use Rattle.hearing.proofs.alignment.Alignment.unframed_period.Statement.{statement}
-use Rattle.hearing.proofs.alignment.Alignment.unframed_period.Tie as tie
+use Rattle.alignment.proofs.Alignment.unframed_period.Statement.{statement}
+use Rattle.alignment.proofs.Alignment.unframed_period.Tie as tie
 
 sub-if2 : tie.Need-sub-if2
 sub-if2 c = search needs

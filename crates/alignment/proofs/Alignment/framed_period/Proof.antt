@@ -1,10 +1,10 @@
 use Prim.Native.Nat.{_+_}
 use native.Mathlib.Omega.{arith}
 use borrow.Author.Tests.{le-ltb, lt-ltb}
-use Rattle.hearing.specs.Alignment.{gained, framedPeriod}
+use Rattle.alignment.specs.Alignment.{gained, framedPeriod}
 use borrow.Author.Needs.{needs}
-use Rattle.hearing.proofs.alignment.Alignment.framed_period.Statement.{statement}
-use Rattle.hearing.proofs.alignment.Alignment.framed_period.Tie as tie
+use Rattle.alignment.proofs.Alignment.framed_period.Statement.{statement}
+use Rattle.alignment.proofs.Alignment.framed_period.Tie as tie
 
 returns : tie.Need-returns
 unfolding framedPeriod

@@ -1,6 +1,6 @@
 // Alignment of one end (document 01, "The line", last paragraph).
 ghost use mathlib.Core.Path.{_≡_};
-ghost use Rattle.hearing.specs.Alignment as spec;
+ghost use Rattle.alignment.specs.Alignment as spec;
 
 // Framed periods running that give alignment, and unframed ones running, each with a pulse, that lose it.
 const GAINED: u8 = 3;

@@ -1,7 +1,7 @@
-use Rattle.hearing.specs.Alignment.{followed}
+use Rattle.alignment.specs.Alignment.{followed}
 use borrow.Author.Needs.{needs}
-use Rattle.hearing.proofs.alignment.Alignment.follow.Statement.{statement}
-use Rattle.hearing.proofs.alignment.Alignment.follow.Tie as tie
+use Rattle.alignment.proofs.Alignment.follow.Statement.{statement}
+use Rattle.alignment.proofs.Alignment.follow.Tie as tie
 
 framed-period-requires : tie.Need-framed-period-requires
 framed-period-requires c κs = search needs
