@@ -36,76 +36,21 @@ impl Alignment {
         self.run < GAINED
     }
 
-    // A period passes, with or without a pulse, framed or not.
+    // A period passes, with or without a pulse, framed or not. A framed one counts while unaligned, an unframed one with a pulse while
+    // aligned; the run stays short of what changes alignment, or alignment changes.
     pub fn follow(self, pulse: bool, framed: bool) -> Followed
         ensures { λ r. ⌜ r ≡ spec.followed spec.gained spec.lost pulse framed self ⌝ }
     {
-        if pulse {
-            if framed {
-                self.framed_period()
-            } else {
-                self.unframed_period()
-            }
-        } else {
-            Followed {
-                alignment: Alignment::fresh(),
-                lost: false,
-            }
-        }
-    }
-
-    fn framed_period(self) -> Followed
-        ensures { λ r. ⌜ r ≡ spec.framedPeriod spec.gained self ⌝ }
-    {
-        if self.aligned {
-            return Followed {
-                alignment: Alignment {
-                    aligned: true,
-                    run: 0,
-                },
-                lost: false,
-            };
-        }
-        if self.run < GAINED - 1 {
-            Followed {
-                alignment: Alignment {
-                    aligned: false,
-                    run: self.run + 1,
-                },
-                lost: false,
-            }
-        } else {
-            Followed {
-                alignment: Alignment {
-                    aligned: true,
-                    run: 0,
-                },
-                lost: false,
-            }
-        }
-    }
-
-    fn unframed_period(self) -> Followed
-        ensures { λ r. ⌜ r ≡ spec.unframedPeriod spec.lost self ⌝ }
-    {
-        if self.aligned {
-            if self.run < LOST - 1 {
-                return Followed {
-                    alignment: Alignment {
-                        aligned: true,
-                        run: self.run + 1,
-                    },
-                    lost: false,
-                };
-            }
-            return Followed {
-                alignment: Alignment::fresh(),
-                lost: true,
-            };
-        }
+        let counts = pulse & (framed != self.aligned);
+        let short = (self.aligned & (self.run < LOST - 1))
+            | (!self.aligned & (self.run < GAINED - 1));
+        let changes = counts & !short;
         Followed {
-            alignment: Alignment::fresh(),
-            lost: false,
+            alignment: Alignment {
+                aligned: pulse & (self.aligned != changes),
+                run: if counts & short { self.run + 1 } else { 0 },
+            },
+            lost: changes & self.aligned,
         }
     }
 }
