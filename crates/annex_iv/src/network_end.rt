@@ -6,7 +6,7 @@ use super::print::number;
 use super::print::outcome;
 use super::print::timer;
 use super::tests;
-use hearing::alignment::Alignment;
+use alignment::Alignment;
 use hearing::heard::Upward;
 use hearing::sensing::SensedUp;
 use hearing::sensing::sense_up;

@@ -19,7 +19,7 @@ use Rattle.cells.specs.Cells.{cellIn}
 use Rattle.table_6_2.specs.Table62.{F6}
 use Rattle.table_6_3.specs.Table63.{G1, G4}
 use Rattle.timing.specs.Timers.{due, startedBy, timerAfter}
-use Rattle.hearing.specs.Alignment.{unaligned, inAlignment, followed}
+use Rattle.alignment.specs.Alignment.{unaligned, inAlignment, followed}
 use Rattle.hearing.specs.Heard.{upwardEvent, lossUp}
 use Rattle.cells.specs.Notes.{noted}
 use Rattle.hearing.specs.Sensing.{shownUp}

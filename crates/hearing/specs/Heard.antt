@@ -3,7 +3,7 @@ use mathlib.Core.Bool.{cond}
 use Prim.Native.Nat.{ℕ}
 use Rattle.table_6_2.specs.Table62 as terminals
 use Rattle.table_6_3.specs.Table63 as network
-use Rattle.hearing.specs.declared.alignment.Followed.{Followed}
+use Rattle.alignment.specs.declared.Followed.{Followed}
 use Rattle.hearing.specs.declared.heard.Downward.{Downward}
 use Rattle.hearing.specs.declared.heard.Upward.{Upward}
 

@@ -1,4 +1,3 @@
--- A heard period: alignment, what a heard line is, what a lent line shows.
-pub mod Alignment
+-- A heard period: what a heard line is, what a lent line shows.
 pub mod Heard
 pub mod Sensing

@@ -1,7 +1,7 @@
 // What a heard line is, for a terminal and for the network end.
 ghost use mathlib.Core.Path.{_≡_};
 ghost use Rattle.hearing.specs.Heard.{downwardEvent, upwardEvent, lossUp};
-use super::alignment::Followed;
+use alignment::Followed;
 
 // What a period's downward line shows: a pulse, a framed period, A at 1.
 pub struct Downward {

@@ -1,4 +1,3 @@
-// A heard period: alignment, what a heard line is, and what a lent line shows.
-pub mod alignment;
+// A heard period: what a heard line is, and what a lent line shows.
 pub mod heard;
 pub mod sensing;

@@ -17,9 +17,9 @@ use Rattle.table_6_3.specs.Table63.{table63, G3, T1-DUE, T2-DUE, INFO-1, LOSS}
 use Rattle.table_6_3.proofs.Laws.{notes-two, notes-indications, t1-keeps-G3, t2-keeps-G3}
 use Rattle.timing.specs.Counts.{mostPeriods, atPeriod}
 use Rattle.timing.specs.Timers.{due, startedBy, timerAfter}
-use Rattle.hearing.specs.Alignment.{gained, lost, followed}
+use Rattle.alignment.specs.Alignment.{gained, lost, followed}
 use Rattle.hearing.specs.Heard.{upwardEvent, lossUp}
-use Rattle.hearing.specs.declared.alignment.Alignment.{Alignment}
+use Rattle.alignment.specs.declared.Alignment.{Alignment}
 use Rattle.hearing.specs.declared.heard.Upward.{Upward}
 use Rattle.network.specs.Network.{unchanged, acts, moved, happens, andThen, aligned, isRequest, requests, t1Due, t2Due, timers, heardAs, hears, networkInRange, ready, checked, requested, timerDue, heard}
 use Rattle.network.specs.declared.Network.{Network}

@@ -16,9 +16,9 @@ use Rattle.timing.specs.Counts.{mostPeriods, periodsInRange}
 use Rattle.timing.specs.Timers.{T1, T2, due}
 use Rattle.timing.specs.declared.counts.Periods.{Periods}
 use Rattle.timing.proofs.RangesKept.{started-at-most, timer-at-most}
-use Rattle.hearing.specs.Alignment.{lost, alignmentInRange}
+use Rattle.alignment.specs.Alignment.{lost, alignmentInRange}
 use Rattle.hearing.specs.declared.heard.Upward.{Upward}
-use Rattle.hearing.proofs.Alignments.{followed-in-range}
+use Rattle.alignment.proofs.Alignments.{followed-in-range}
 use Rattle.network.specs.Network.{fresh, acts, moved, happens, andThen, aligned, isRequest, requests, t1Due, t2Due, timers, heardAs, hears, networkInRange, ready, checked, requested, timerDue, heard}
 use Rattle.network.specs.declared.Network.{Network}
 use Rattle.network.specs.declared.NetworkStep.{NetworkStep}

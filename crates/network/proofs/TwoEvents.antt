@@ -11,12 +11,12 @@ use Rattle.cells.specs.declared.cell.Cell.the-variants.{To, Stay, Impossible, A
 use Rattle.table_6_3.specs.Table63.{table63, T1-DUE, T2-DUE, INFO-0, INFO-1, INFO-3}
 use Rattle.table_6_3.proofs.Laws.{notes-in-order, t2-quiet, info-1-quiet, no-event-quiet}
 use Rattle.timing.specs.Timers.{due}
-use Rattle.hearing.specs.Alignment.{gained, lost, followed}
+use Rattle.alignment.specs.Alignment.{gained, lost, followed}
 use Rattle.hearing.specs.Heard.{upwardEvent, lossUp}
-use Rattle.hearing.specs.declared.alignment.Alignment.{Alignment}
-use Rattle.hearing.specs.declared.alignment.Followed.{Followed}
+use Rattle.alignment.specs.declared.Alignment.{Alignment}
+use Rattle.alignment.specs.declared.Followed.{Followed}
 use Rattle.hearing.specs.declared.heard.Upward.{Upward}
-use Rattle.hearing.proofs.Alignments.{framed-kept, pulseless-kept}
+use Rattle.alignment.proofs.Alignments.{framed-kept, pulseless-kept}
 use Rattle.network.specs.Network.{acts, happens, andThen, aligned, t1Due, t2Due, timers, heardAs, hears}
 use Rattle.network.specs.declared.Network.{Network}
 use Rattle.network.specs.declared.NetworkStep.{NetworkStep}

@@ -12,11 +12,11 @@ use Rattle.table_6_3.specs.Table63.{table63, G1, G4, AR, DR, T1-DUE, T2-DUE}
 use Rattle.timing.specs.Counts.{mostPeriods, periodsInRange}
 use Rattle.timing.specs.Timers.{T1, T2, due, startedBy, timerAfter}
 use Rattle.timing.specs.declared.counts.Periods.{Periods}
-use Rattle.hearing.specs.Alignment.{gained, lost, followed, alignmentInRange}
-use Rattle.hearing.specs.Alignment as alignment
+use Rattle.alignment.specs.Alignment.{gained, lost, followed, alignmentInRange}
+use Rattle.alignment.specs.Alignment as alignment
 use Rattle.hearing.specs.Heard.{upwardEvent, lossUp}
-use Rattle.hearing.specs.declared.alignment.Alignment.{Alignment}
-use Rattle.hearing.specs.declared.alignment.Followed.{Followed}
+use Rattle.alignment.specs.declared.Alignment.{Alignment}
+use Rattle.alignment.specs.declared.Followed.{Followed}
 use Rattle.hearing.specs.declared.heard.Upward.{Upward}
 use Rattle.network.specs.declared.Network.{Network}
 use Rattle.network.specs.declared.NetworkStep.{NetworkStep}

@@ -1,11 +1,11 @@
 // The network end: states G1 to G4, alignment, T1 and T2.
 ghost use mathlib.Core.Path.{_≡_};
 ghost use Rattle.network.specs.Network as spec;
+use alignment::Alignment;
 use cells::cell::Cell;
 use cells::cell::NO_NOTES;
 use cells::cell::START_T2;
 use cells::notes::Notes;
-use hearing::alignment::Alignment;
 use hearing::heard::Upward;
 use hearing::heard::loss_up;
 use table_6_3::AR;

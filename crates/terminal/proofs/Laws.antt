@@ -20,9 +20,9 @@ use Rattle.table_6_2.specs.States.{nextState}
 use Rattle.table_6_2.proofs.Laws.{notes-three, notes-indications, t3-keeps-F7}
 use Rattle.timing.specs.Counts.{mostPeriods, atPeriod}
 use Rattle.timing.specs.Timers.{due}
-use Rattle.hearing.specs.Alignment.{gained, lost, followed}
+use Rattle.alignment.specs.Alignment.{gained, lost, followed}
 use Rattle.hearing.specs.Heard.{downwardEvent}
-use Rattle.hearing.specs.declared.alignment.Followed.{Followed}
+use Rattle.alignment.specs.declared.Followed.{Followed}
 use Rattle.hearing.specs.declared.heard.Downward.{Downward}
 use Rattle.terminal.specs.Terminal.{accessAfter, droppedNote, moved, acts, happens, aligned, noTimer, switchesOn, switchesOff, requests, handsOver, holding, timer, heardAs, hears, terminalInRange, ready, checked, switchedOn, switchedOff, requested, timerDue, heard, handedOver}
 use Rattle.terminal.specs.declared.Terminal.{Terminal}

@@ -16,11 +16,11 @@ use Rattle.timing.specs.Counts.{mostPeriods, periodsInRange}
 use Rattle.timing.specs.Timers.{T3, due}
 use Rattle.timing.specs.declared.counts.Periods.{Periods}
 use Rattle.timing.proofs.RangesKept.{timer-at-most}
-use Rattle.hearing.specs.Alignment.{lost, alignmentInRange}
-use Rattle.hearing.specs.Alignment as alignment
-use Rattle.hearing.specs.declared.alignment.Alignment.{Alignment}
+use Rattle.alignment.specs.Alignment.{lost, alignmentInRange}
+use Rattle.alignment.specs.Alignment as alignment
+use Rattle.alignment.specs.declared.Alignment.{Alignment}
 use Rattle.hearing.specs.declared.heard.Downward.{Downward}
-use Rattle.hearing.proofs.Alignments.{followed-in-range}
+use Rattle.alignment.proofs.Alignments.{followed-in-range}
 use Rattle.dchannel.specs.Access.{normal2}
 use Rattle.dchannel.specs.Handing.{handed}
 use Rattle.dchannel.specs.Ranges.{accessInRange}

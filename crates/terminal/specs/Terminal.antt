@@ -20,11 +20,11 @@ use Rattle.table_6_2.specs.Table62.{table62, F1, F7, F8, ON, OFF, AR, T3-DUE}
 use Rattle.timing.specs.Counts.{mostPeriods, periodsInRange}
 use Rattle.timing.specs.Timers.{T3, due, timerAfter}
 use Rattle.timing.specs.declared.counts.Periods.{Periods}
-use Rattle.hearing.specs.Alignment.{gained, lost, followed, alignmentInRange}
-use Rattle.hearing.specs.Alignment as alignment
+use Rattle.alignment.specs.Alignment.{gained, lost, followed, alignmentInRange}
+use Rattle.alignment.specs.Alignment as alignment
 use Rattle.hearing.specs.Heard.{downwardEvent}
-use Rattle.hearing.specs.declared.alignment.Alignment.{Alignment}
-use Rattle.hearing.specs.declared.alignment.Followed.{Followed}
+use Rattle.alignment.specs.declared.Alignment.{Alignment}
+use Rattle.alignment.specs.declared.Followed.{Followed}
 use Rattle.hearing.specs.declared.heard.Downward.{Downward}
 use Rattle.terminal.specs.declared.Terminal.{Terminal}
 use Rattle.terminal.specs.declared.TerminalStep.{TerminalStep}

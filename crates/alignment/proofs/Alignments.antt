@@ -6,9 +6,9 @@ use native.Mathlib.Omega.{arith}
 use lib.Dec.{ltb}
 use borrow.Author.Tests.{ltb-true, lt-ltb}
 use Rattle.cases.proofs.ByCases.{by-test}
-use Rattle.hearing.specs.Alignment.{gained, framedPeriod, unframedPeriod, followed, alignmentInRange}
-use Rattle.hearing.specs.declared.alignment.Alignment.{Alignment}
-use Rattle.hearing.specs.declared.alignment.Followed.{Followed}
+use Rattle.alignment.specs.Alignment.{gained, framedPeriod, unframedPeriod, followed, alignmentInRange}
+use Rattle.alignment.specs.declared.Alignment.{Alignment}
+use Rattle.alignment.specs.declared.Followed.{Followed}
 
 abbrev Kept : Followed → Type 0
 Kept f = alignmentInRange (f .alignment) ≡ true

@@ -3,8 +3,8 @@
 use mathlib.Core.Bool.{Bool, true, false, cond}
 use Prim.Native.Nat.{ℕ, _+_}
 use lib.Dec.{ltb}
-use Rattle.hearing.specs.declared.alignment.Alignment.{Alignment}
-use Rattle.hearing.specs.declared.alignment.Followed.{Followed}
+use Rattle.alignment.specs.declared.Alignment.{Alignment}
+use Rattle.alignment.specs.declared.Followed.{Followed}
 
 -- "Three framed periods running give alignment. Two unframed periods running, each with a pulse, lose it, at both ends."
 abbrev pub gained : ℕ

@@ -1,0 +1,2 @@
+-- Alignment of one end.
+pub mod Alignment
