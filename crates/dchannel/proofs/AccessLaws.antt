@@ -106,7 +106,20 @@ turn-leaves x1 x2 e next a =
     (λ s m h. refl)
     (λ s m h. absurd (true≢false (sym h ∙ rw (le-ltb 0 (a .sent) (omega arith), m))))
 
--- .. and elsewhere it takes no notice of the next bit
+-- .. elsewhere a sending under way ends, and a terminal that was not sending stays so ..
+module _ (x1 x2 : ℕ) (e next : Bool) (a : Access) (h : leavesAt x1 x2 e a ≡ false) where
+  pub turn-ends : 0 < a .sent → turn x1 x2 e next a ≡ cond (sameBit e (a .last)) (completes (afterE x1 x2 e a)) (stops (afterE x1 x2 e a))
+  unfolding leavesAt
+  turn-ends s =
+      by-test (sameBit e (a .last))
+      (λ q. rw q (completes-it x1 x2 e next a s (same-equal e (a .last) q) (ltb-false (a .sent) (a .length) (rw (lt-ltb 0 (a .sent) s, q) at h))))
+      (λ q. rw q (stops-it x1 x2 e next a s (same-differ e (a .last) q)))
+
+  pub turn-idles : a .sent ≡ 0 → turn x1 x2 e next a ≡ idles (afterE x1 x2 e a)
+  unfolding leavesAt
+  turn-idles s = idles-it x1 x2 e next a s (rw (le-ltb 0 (a .sent) (omega arith)) at h)
+
+-- .. and takes no notice of the next bit
 pub turn-silent : (x1 x2 : ℕ) (e n m : Bool) (a : Access) → leavesAt x1 x2 e a ≡ false → turn x1 x2 e n a ≡ turn x1 x2 e m a
 unfolding leavesAt
 turn-silent x1 x2 e n m a =

@@ -12,6 +12,10 @@ or-cond true b = refl
 or-cond false b = refl
 
 -- `a & b`
+pub and-cond : (a b : Bool) → (a && b) ≡ cond a b false
+and-cond true b = refl
+and-cond false b = refl
+
 pub and-both : (a b : Bool) → (a && b) ≡ true → (a ≡ true) × (b ≡ true)
 and-both true b h = (refl, h)
 and-both false b h = (h, cc)

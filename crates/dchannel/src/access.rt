@@ -1,7 +1,7 @@
 // One terminal's access to the D channel (document 01, "D access (6.1)").
 ghost use mathlib.Core.Path.{_≡_};
-ghost use Prim.Native.Nat.{_<_};
-ghost use Rattle.dchannel.specs.Access.{normal1, normal2, fresh, entered, afterE, mayStart, sendsNext, goesOn, tries, turn};
+ghost use mathlib.Core.Bool.{cond};
+ghost use Rattle.dchannel.specs.Access.{normal1, normal2, fresh, entered, afterE, mayStart, completes, stops, turn};
 ghost use Rattle.dchannel.specs.Handing.{handed, left};
 ghost use Rattle.dchannel.specs.Ranges.{accessInRange};
 
@@ -79,34 +79,33 @@ impl Access {
     pub fn hand(self, class: Class, length: u16) -> Handed
         ensures { λ r. ⌜ r ≡ handed class length self ⌝ }
     {
-        if (SHORTEST_IMAGE <= length) & (length <= LONGEST_IMAGE) {
-            if self.held == 0 {
-                let held: u8 = match class {
-                    Class::One => 1,
-                    Class::Two => 2,
-                };
-                Handed {
-                    access: Access {
-                        length,
-                        sent: 0,
-                        count: self.count,
-                        held,
-                        low1: self.low1,
-                        low2: self.low2,
-                        last: true,
-                    },
-                    reply: 0,
-                }
-            } else {
-                Handed {
-                    access: self,
-                    reply: 8,
-                }
+        let held: u8 = match class {
+            Class::One => 1,
+            Class::Two => 2,
+        };
+        let fits = (SHORTEST_IMAGE <= length) & (length <= LONGEST_IMAGE);
+        let reply: u8 = if fits {
+            if self.held == 0 { 0 } else { 8 }
+        } else {
+            7
+        };
+        if reply == 0 {
+            Handed {
+                access: Access {
+                    length,
+                    sent: 0,
+                    count: self.count,
+                    held,
+                    low1: self.low1,
+                    low2: self.low2,
+                    last: true,
+                },
+                reply,
             }
         } else {
             Handed {
                 access: self,
-                reply: 7,
+                reply,
             }
         }
     }
@@ -141,10 +140,34 @@ impl Access {
         ensures { λ r. ⌜ r ≡ turn normal1 normal2 e next self ⌝ }
     {
         let heard = self.after_e(e);
-        if 0 < self.sent {
-            heard.goes_on(e, next)
+        let leaves = if 0 < self.sent {
+            (e == self.last) & (self.sent < self.length)
         } else {
-            heard.tries(next)
+            heard.may_start()
+        };
+        if leaves {
+            return Turn {
+                access: Access {
+                    length: self.length,
+                    sent: self.sent + 1,
+                    count: heard.count,
+                    held: self.held,
+                    low1: heard.low1,
+                    low2: heard.low2,
+                    last: next,
+                },
+                d: next,
+                done: 0,
+            };
+        }
+        if 0 < self.sent {
+            heard.ends(e == self.last)
+        } else {
+            Turn {
+                access: heard,
+                d: true,
+                done: 0,
+            }
         }
     }
 
@@ -172,27 +195,23 @@ impl Access {
         }
     }
 
-    // A sending under way, after its E: it stops, is completed or goes on.
-    fn goes_on(self, e: bool, next: bool) -> Turn
-        ensures { λ r. ⌜ r ≡ goesOn e next self ⌝ }
+    // A sending under way ends: the frame is completed, or it is held and starts over.
+    fn ends(self, completed: bool) -> Turn
+        ensures { λ r. ⌜ r ≡ cond completed (completes self) (stops self) ⌝ }
     {
-        if e == self.last {
-            if self.length <= self.sent {
-                Turn {
-                    access: Access {
-                        length: 0,
-                        sent: 0,
-                        count: self.count,
-                        held: 0,
-                        low1: (self.held == 1) | self.low1,
-                        low2: (self.held == 2) | self.low2,
-                        last: true,
-                    },
-                    d: true,
-                    done: self.held,
-                }
-            } else {
-                self.sends_next(next)
+        if completed {
+            Turn {
+                access: Access {
+                    length: 0,
+                    sent: 0,
+                    count: self.count,
+                    held: 0,
+                    low1: (self.held == 1) | self.low1,
+                    low2: (self.held == 2) | self.low2,
+                    last: true,
+                },
+                d: true,
+                done: self.held,
             }
         } else {
             Turn {
@@ -211,22 +230,6 @@ impl Access {
         }
     }
 
-    // No sending under way, after the E: a held frame starts if it may.
-    fn tries(self, next: bool) -> Turn
-        requires { ⌜ self .sent ≡ 0 ⌝ }
-        ensures { λ r. ⌜ r ≡ tries normal1 normal2 next self ⌝ }
-    {
-        if self.may_start() {
-            self.sends_next(next)
-        } else {
-            Turn {
-                access: self,
-                d: true,
-                done: 0,
-            }
-        }
-    }
-
     // Whether a held frame starts: C has reached the threshold of its class at its level.
     fn may_start(self) -> bool
         ensures { λ r. ⌜ r ≡ mayStart normal1 normal2 self ⌝ }
@@ -235,26 +238,6 @@ impl Access {
             return NORMAL_1 + self.low1 as u8 <= self.count;
         }
         (self.held != 0) & (NORMAL_2 + self.low2 as u8 <= self.count)
-    }
-
-    // The next bit leaves.
-    fn sends_next(self, next: bool) -> Turn
-        requires { ⌜ self .sent < 65535 ⌝ }
-        ensures { λ r. ⌜ r ≡ sendsNext next self ⌝ }
-    {
-        Turn {
-            access: Access {
-                length: self.length,
-                sent: self.sent + 1,
-                count: self.count,
-                held: self.held,
-                low1: self.low1,
-                low2: self.low2,
-                last: next,
-            },
-            d: next,
-            done: 0,
-        }
     }
 
     // Whether every field is in its range.

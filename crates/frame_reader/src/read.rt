@@ -2,10 +2,10 @@
 ghost use mathlib.Core.Path.{_≡_};
 ghost use Prim.Native.Nat.{_+_, _<_, _≤_};
 ghost use lib.ListN.{length, take, drop};
-ghost use Rattle.symbols.specs.Symbols.{lineLength, levels, sameSymbols, tested};
+ghost use Rattle.symbols.specs.Symbols.{lineLength, levels, tested};
 ghost use Rattle.frame.specs.Bits.{numberHighFirst, fourAt, dBits};
-ghost use Rattle.frame.specs.Down.{downLine, downFieldsOf, eBits};
-ghost use Rattle.frame.specs.Up.{upLine, upFieldsOf};
+ghost use Rattle.frame.specs.Down.{downFieldsOf, eBits};
+ghost use Rattle.frame.specs.Up.{upFieldsOf};
 ghost use Rattle.frame_reader.specs.Read.{downRead, upRead, fourRead, aLevel};
 use super::answers::ReadDown;
 use super::answers::ReadFour;
@@ -23,6 +23,23 @@ use symbols::answer;
 use symbols::fits;
 use symbols::same_symbols;
 
+// The indices of the four D bits, of either direction.
+const D1: usize = 11;
+
+const D2: usize = 24;
+
+const D3: usize = 35;
+
+const D4: usize = 46;
+// The indices of the four echo bits.
+const E1: usize = 10;
+
+const E2: usize = 23;
+
+const E3: usize = 34;
+
+const E4: usize = 45;
+
 // The octet whose bits are the eight symbols from index at on.
 fn octet_at(line: &[u8], at: usize) -> u8
     requires { ⌜ at + 8 ≤ length (now line) ⌝ }
@@ -39,36 +56,15 @@ fn octet_at(line: &[u8], at: usize) -> u8
 
 // The bits at four indices.
 fn four_at(line: &[u8], i: usize, j: usize, k: usize, l: usize) -> Four
-    requires { ⌜ i < length (now line) ⌝ }
-    requires { ⌜ j < length (now line) ⌝ }
-    requires { ⌜ k < length (now line) ⌝ }
-    requires { ⌜ l < length (now line) ⌝ }
+    requires { ⌜ (i < length (now line)) × (j < length (now line)) × (k < length (now line)) × (l < length (now line)) ⌝ }
     ensures { λ r. ⌜ r ≡ fourAt (i + 1) (j + 1) (k + 1) (l + 1) (levels (now (line .entry))) ⌝ }
 {
-    let first = line[i] == NONE;
-    let second = line[j] == NONE;
-    let third = line[k] == NONE;
-    let fourth = line[l] == NONE;
     Four {
-        first: first,
-        second: second,
-        third: third,
-        fourth: fourth,
+        first: line[i] == NONE,
+        second: line[j] == NONE,
+        third: line[k] == NONE,
+        fourth: line[l] == NONE,
     }
-}
-
-fn d_of(line: &[u8]) -> Four
-    requires { ⌜ length (now line) ≡ lineLength ⌝ }
-    ensures { λ r. ⌜ r ≡ dBits (levels (now (line .entry))) ⌝ }
-{
-    four_at(line, 11, 24, 35, 46)
-}
-
-fn e_of(line: &[u8]) -> Four
-    requires { ⌜ length (now line) ≡ lineLength ⌝ }
-    ensures { λ r. ⌜ r ≡ eBits (levels (now (line .entry))) ⌝ }
-{
-    four_at(line, 10, 23, 34, 45)
 }
 
 // The fields of a downward line at symbol level.
@@ -85,8 +81,8 @@ fn down_fields(line: &[u8]) -> DownFields
         b2first: octet_at(line, 15),
         b1second: octet_at(line, 26),
         b2second: octet_at(line, 37),
-        e: e_of(line),
-        d: d_of(line),
+        e: four_at(line, E1, E2, E3, E4),
+        d: four_at(line, D1, D2, D3, D4),
         a: a,
         fa: fa,
         m: m,
@@ -104,17 +100,8 @@ fn up_fields(line: &[u8]) -> UpFields
         b2first: octet_at(line, 15),
         b1second: octet_at(line, 26),
         b2second: octet_at(line, 37),
-        d: d_of(line),
+        d: four_at(line, D1, D2, D3, D4),
     }
-}
-
-// Whether f is written as this line.
-fn is_down(line: &[u8], f: DownFields) -> bool
-    ensures { λ r. ⌜ r ≡ sameSymbols (now (line .entry)) (downLine f) ⌝ }
-{
-    let mut back = [NONE; LINE_LENGTH];
-    write_down(f, &mut back);
-    same_symbols(line, &back)
 }
 
 // Reads a downward frame: its fields, 2 for what is no line, 10 for a line that no fields are written as.
@@ -123,7 +110,9 @@ pub fn read_down(line: &[u8]) -> ReadDown
 {
     if fits(line, LINE_LENGTH, MINUS) {
         let f = down_fields(line);
-        if is_down(line, f) {
+        let mut back = [NONE; LINE_LENGTH];
+        write_down(f, &mut back);
+        if same_symbols(line, &back) {
             ReadDown::Fields(f)
         } else {
             ReadDown::Refused(10)
@@ -133,22 +122,15 @@ pub fn read_down(line: &[u8]) -> ReadDown
     }
 }
 
-// Whether f is written as this line.
-fn is_up(line: &[u8], f: UpFields) -> bool
-    ensures { λ r. ⌜ r ≡ sameSymbols (now (line .entry)) (upLine f) ⌝ }
-{
-    let mut back = [NONE; LINE_LENGTH];
-    write_up(f, &mut back);
-    same_symbols(line, &back)
-}
-
 // Reads an upward frame.
 pub fn read_up(line: &[u8]) -> ReadUp
     ensures { λ r. ⌜ r ≡ upRead (now (line .entry)) ⌝ }
 {
     if fits(line, LINE_LENGTH, MINUS) {
         let f = up_fields(line);
-        if is_up(line, f) {
+        let mut back = [NONE; LINE_LENGTH];
+        write_up(f, &mut back);
+        if same_symbols(line, &back) {
             ReadUp::Fields(f)
         } else {
             ReadUp::Refused(10)
@@ -163,7 +145,7 @@ pub fn d_bits(line: &[u8]) -> ReadFour
     ensures { λ r. ⌜ r ≡ fourRead dBits (now (line .entry)) ⌝ }
 {
     if fits(line, LINE_LENGTH, MINUS) {
-        ReadFour::Bits(d_of(line))
+        ReadFour::Bits(four_at(line, D1, D2, D3, D4))
     } else {
         ReadFour::Refused(2)
     }
@@ -174,7 +156,7 @@ pub fn e_bits(line: &[u8]) -> ReadFour
     ensures { λ r. ⌜ r ≡ fourRead eBits (now (line .entry)) ⌝ }
 {
     if fits(line, LINE_LENGTH, MINUS) {
-        ReadFour::Bits(e_of(line))
+        ReadFour::Bits(four_at(line, E1, E2, E3, E4))
     } else {
         ReadFour::Refused(2)
     }

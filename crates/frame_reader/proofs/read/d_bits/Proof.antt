@@ -1,4 +1,5 @@
 -- `frame_reader::read::d_bits` meets its contract.
+use native.Mathlib.Omega.{arith}
 use Rattle.frame.specs.Bits.{dBits}
 use Rattle.symbols.proofs.Lines.{is-line}
 use Rattle.frame_reader.proofs.Answered.{four-is, four-refused}
@@ -9,14 +10,14 @@ use Rattle.frame_reader.proofs.read.d_bits.Tie as tie
 fits-requires : tie.Need-fits-requires
 fits-requires c κs = search needs
 
-d-of-requires : tie.Need-d-of-requires
-d-of-requires c κs = is-line _ (c .before .fits2 .ensures) (c .if1 .taken)
+four-at-requires : tie.Need-four-at-requires
+four-at-requires c κs = let long = is-line _ (c .before .fits2 .ensures) (c .if1 .taken) in (omega (arith, long), omega (arith, long), omega (arith, long), omega (arith, long))
 
 returns : tie.Need-returns
-returns c = four-is _ (c .before .before .fits2 .ensures) (c .before .if1 .taken) dBits _ (c .d-of .ensures)
+returns c = four-is _ (c .before .before .fits2 .ensures) (c .before .if1 .taken) dBits _ (c .four-at .ensures)
 
 returns-2 : tie.Need-returns-2
 returns-2 c = four-refused _ (c .before .fits2 .ensures) (c .if1 .left) dBits
 
 pub d-bits-spec : {M : Type 1} → statement M
-d-bits-spec = tie.close (tie.spec fits-requires d-of-requires returns returns-2)
+d-bits-spec = tie.close (tie.spec fits-requires four-at-requires returns returns-2)

@@ -29,11 +29,11 @@ octet-at-requires-3 c κs = search needs
 octet-at-requires-4 : tie.Need-octet-at-requires-4
 octet-at-requires-4 c κs = search needs
 
-e-of-requires : tie.Need-e-of-requires
-e-of-requires c κs = search needs
+four-at-requires : tie.Need-four-at-requires
+four-at-requires c κs = search needs
 
-d-of-requires : tie.Need-d-of-requires
-d-of-requires c κs = search needs
+four-at-requires-2 : tie.Need-four-at-requires-2
+four-at-requires-2 c κs = search needs
 
 returns : tie.Need-returns
 unfolding downFields
@@ -45,8 +45,8 @@ returns c =
       at .before .before .octet-at2 .ensures,
       at .before .octet-at3 .ensures,
       at .octet-at4 .ensures,
-      c .before .e-of .ensures,
-      c .d-of .ensures,
+      c .before .four-at .ensures,
+      c .four-at2 .ensures,
       level-at line 12,
       level-at line 13,
       level-at line 25,
@@ -65,6 +65,6 @@ down-fields-spec =
     octet-at-requires-2
     octet-at-requires-3
     octet-at-requires-4
-    e-of-requires
-    d-of-requires
+    four-at-requires
+    four-at-requires-2
     returns)

@@ -4,17 +4,17 @@ use borrow.Author.Needs.{needs}
 use Rattle.frame_reader.proofs.read.four_at.Statement.{statement}
 use Rattle.frame_reader.proofs.read.four_at.Tie as tie
 
-shared-slice-read-first : tie.Need-shared-slice-read-first
-shared-slice-read-first c = search needs
+shared-slice-read-t7 : tie.Need-shared-slice-read-t7
+shared-slice-read-t7 c = search needs
 
-shared-slice-read-second : tie.Need-shared-slice-read-second
-shared-slice-read-second c = search needs
+shared-slice-read-t10 : tie.Need-shared-slice-read-t10
+shared-slice-read-t10 c = search needs
 
-shared-slice-read-third : tie.Need-shared-slice-read-third
-shared-slice-read-third c = search needs
+shared-slice-read-t13 : tie.Need-shared-slice-read-t13
+shared-slice-read-t13 c = search needs
 
-shared-slice-read-fourth : tie.Need-shared-slice-read-fourth
-shared-slice-read-fourth c = search needs
+shared-slice-read-t16 : tie.Need-shared-slice-read-t16
+shared-slice-read-t16 c = search needs
 
 returns : tie.Need-returns
 returns c =
@@ -25,8 +25,8 @@ pub four-at-spec : {M : Type 1} → statement M
 four-at-spec =
     tie.close
     (tie.spec
-    shared-slice-read-first
-    shared-slice-read-second
-    shared-slice-read-third
-    shared-slice-read-fourth
+    shared-slice-read-t7
+    shared-slice-read-t10
+    shared-slice-read-t13
+    shared-slice-read-t16
     returns)

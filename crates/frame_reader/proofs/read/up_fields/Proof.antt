@@ -16,14 +16,14 @@ octet-at-requires-3 c κs = search needs
 octet-at-requires-4 : tie.Need-octet-at-requires-4
 octet-at-requires-4 c κs = search needs
 
-d-of-requires : tie.Need-d-of-requires
-d-of-requires c κs = search needs
+four-at-requires : tie.Need-four-at-requires
+four-at-requires c κs = search needs
 
 returns : tie.Need-returns
 unfolding upFields
 returns c =
     let at = c .before in
-    rw (at .before .before .before .octet-at .ensures, at .before .before .octet-at2 .ensures, at .before .octet-at3 .ensures, at .octet-at4 .ensures, c .d-of .ensures)
+    rw (at .before .before .before .octet-at .ensures, at .before .before .octet-at2 .ensures, at .before .octet-at3 .ensures, at .octet-at4 .ensures, c .four-at .ensures)
 
 pub up-fields-spec : {M : Type 1} → statement M
 up-fields-spec =
@@ -33,5 +33,5 @@ up-fields-spec =
     octet-at-requires-2
     octet-at-requires-3
     octet-at-requires-4
-    d-of-requires
+    four-at-requires
     returns)

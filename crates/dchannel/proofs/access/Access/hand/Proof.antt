@@ -1,6 +1,8 @@
-use mathlib.Core.Path.{_≡_, refl, sym, ap, _∙_}
+use mathlib.Core.Path.{_≡_, _∙_}
+use mathlib.Core.Logic.{⊎-elim}
+use native.Mathlib.Omega.{arith}
 use borrow.Author.Tests.{eq-eqb, ne-eqb}
-use Rattle.dchannel.specs.Handing.{isImageLength, takenUp, handed}
+use Rattle.dchannel.specs.Handing.{classNumber, isImageLength, takenUp, handed}
 use borrow.Author.Needs.{needs}
 use Rattle.dchannel.proofs.access.Access.hand.Statement.{statement}
 use Rattle.dchannel.proofs.access.Access.hand.Tie as tie
@@ -13,19 +15,17 @@ enum-told-2 c = search needs
 
 returns : tie.Need-returns
 unfolding handed isImageLength takenUp
-returns c = simp (c .before .before .before .before .if1 .taken, eq-eqb _ _ (c .before .before .if2 .taken), c .enum-told .given .1)
+returns c =
+    let held : c .before .before .match .held ≡ classNumber (c .before .before .before .args .class) =
+    ⊎-elim (λ w. w .2 ∙ simp (w .1 .given .1)) (λ w. w .2 ∙ simp (w .1 .given .1)) (c .before .before .match .came) in
+    ⊎-elim (λ w. simp (w .0 .taken, eq-eqb _ _ (w .2 .taken), held, w .3))
+    (⊎-elim (λ w. absurd (omega (arith, w .3, c .if3 .taken))) (λ w. absurd (omega (arith, w .1, c .if3 .taken)))) (c .before .if1 .came)
 
 returns-2 : tie.Need-returns-2
-unfolding handed isImageLength takenUp
-returns-2 c = simp (c .before .before .before .before .if1 .taken, eq-eqb _ _ (c .before .before .if2 .taken), c .enum-told2 .given .1)
-
-returns-3 : tie.Need-returns-3
 unfolding handed isImageLength
-returns-3 c = simp (c .before .before .if1 .taken, ne-eqb _ _ (c .if2 .left))
-
-returns-4 : tie.Need-returns-4
-unfolding handed isImageLength
-returns-4 c = simp (c .if1 .left)
+returns-2 c =
+    ⊎-elim (λ w. absurd (c .if3 .left (w .3)))
+    (⊎-elim (λ w. simp (w .0 .taken, ne-eqb _ _ (w .2 .left), w .3)) (λ w. simp (w .0 .left, w .1))) (c .before .if1 .came)
 
 pub hand-spec : {M : Type 1} → statement M
-hand-spec = tie.close (tie.spec enum-told enum-told-2 returns returns-2 returns-3 returns-4)
+hand-spec = tie.close (tie.spec enum-told enum-told-2 returns returns-2)

@@ -1,28 +1,75 @@
-use mathlib.Core.Path.{_≡_, refl, sym, ap, _∙_}
+use mathlib.Core.Bool.{Bool·beq}
+use mathlib.Core.Path.{_≡_, sym, _∙_}
+use mathlib.Core.Logic.{⊎-elim}
+use Prim.Native.Nat.{_<_}
 use native.Mathlib.Omega.{arith}
-use borrow.Author.Tests.{lt-ltb, le-ltb}
-use Rattle.dchannel.specs.Access.{afterE, turn}
+use borrow.Author.Tests.{lt-ltb, le-ltb, ltb-true}
+use Rattle.dchannel.specs.Access.{normal1, normal2, afterE, sendsNext, idles, leavesAt}
+use Rattle.dchannel.proofs.Operators.{and-both, and-cond, same-beq}
+use Rattle.dchannel.proofs.AccessLaws.{turn-leaves, turn-ends, turn-idles}
 use borrow.Author.Needs.{needs}
 use Rattle.dchannel.proofs.access.Access.turn.Statement.{statement}
 use Rattle.dchannel.proofs.access.Access.turn.Tie as tie
+use Rattle.dchannel.proofs.access.Access.turn.Reads as reads
+use Rattle.dchannel.proofs.access.Access.turn.Lts as lts
+use Rattle.dchannel.proofs.access.Access.after_e.Reads as after-e-reads
+use Rattle.dchannel.proofs.access.Access.ends.Reads as ends-reads
+use Rattle.dchannel.proofs.access.Access.may_start.Reads as may-start-reads
 
 after-e-requires : tie.Need-after-e-requires
 after-e-requires c κs = search needs
 
-goes-on-requires : tie.Need-goes-on-requires
-goes-on-requires c κs = search needs
+may-start-requires : tie.Need-may-start-requires
+may-start-requires c κs = search needs
 
-tries-requires : tie.Need-tries-requires
-unfolding afterE
-tries-requires c κs = rw (c .before .before .after-e .ensures) (omega arith)
+-- whether a bit leaves
+leaves-is : (c : lts.Joined1 (after-e-reads.Asked, after-e-reads.Learnt, may-start-reads.Asked, may-start-reads.Learnt, ends-reads.Asked, ends-reads.Learnt) reads.Pre reads.Post)
+    → c .if1 .leaves ≡ leavesAt normal1 normal2 (c .before .before .before .args .e) (c .before .before .before .args .self)
+unfolding leavesAt
+leaves-is c =
+    ⊎-elim (λ w. w .3 ∙ simp (and-cond, same-beq, lt-ltb _ _ (w .0 .taken)))
+    (λ w. w .2 ∙ (w .1 .ensures ∙ simp (le-ltb _ _ (w .0 .left), c .before .before .after-e .ensures))) (c .if1 .came)
+
+add-t10 : tie.Need-add-t10
+add-t10 c =
+    let args = c .before .before .before .before .before .args in
+    let self = args .self in
+    ⊎-elim (λ w. let more : self .sent < self .length = ltb-true _ _ (and-both (Bool·beq (args .e) (self .last)) _ (sym (w .3) ∙ c .before .if2 .taken) .1) in record { fits = omega (arith, more) })
+    (λ w. record { fits = omega (arith, w .0 .left) }) (c .before .before .if1 .came)
 
 returns : tie.Need-returns
-unfolding turn
-returns c = simp (lt-ltb _ _ (c .before .if1 .taken), c .goes-on .ensures, c .before .before .before .after-e .ensures)
+unfolding sendsNext afterE
+returns c =
+    let args = c .before .before .before .before .before .args in
+    let leaves = turn-leaves normal1 normal2 (args .e) (args .next) (args .self) (sym (leaves-is (c .before .before)) ∙ c .before .if2 .taken) in
+    rw (leaves, c .before .before .before .before .after-e .ensures)
+
+ends-requires : tie.Need-ends-requires
+ends-requires c κs = search needs
 
 returns-2 : tie.Need-returns-2
-unfolding turn
-returns-2 c = simp (le-ltb _ _ (c .before .if1 .left), c .tries .ensures, c .before .before .before .after-e .ensures)
+returns-2 c =
+    let joined = c .before .before .before .before .before in
+    let args = joined .before .before .before .args in
+    let ends = turn-ends normal1 normal2 (args .e) (args .next) (args .self) (sym (leaves-is joined) ∙ c .before .before .before .before .if2 .left) (c .before .before .if3 .taken) in
+    c .ends .ensures ∙ rw (ends, joined .before .before .after-e .ensures, same-beq (args .e) (args .self .last))
+
+returns-3 : tie.Need-returns-3
+unfolding idles
+returns-3 c =
+    let joined = c .before .before .before in
+    let args = joined .before .before .before .args in
+    let idles = turn-idles normal1 normal2 (args .e) (args .next) (args .self) (sym (leaves-is joined) ∙ c .before .before .if2 .left) (omega (arith, c .if3 .left)) in
+    rw (idles, joined .before .before .after-e .ensures)
 
 pub turn-spec : {M : Type 1} → statement M
-turn-spec = tie.close (tie.spec after-e-requires goes-on-requires tries-requires returns returns-2)
+turn-spec =
+    tie.close
+    (tie.spec
+    after-e-requires
+    may-start-requires
+    add-t10
+    returns
+    ends-requires
+    returns-2
+    returns-3)
