@@ -6,7 +6,7 @@ use Prim.Native.Nat.{ℕ, zero, suc, _+_}
 use lib.Dec.{eqb}
 use lib.ListN.{length, getD, replicate}
 use Rattle.symbols.specs.Symbols.{none, plus, minus, sameSymbols}
-use Rattle.info.specs.Framed.{firstPulse, framedIn, framedUp, hasPulse}
+use Rattle.framed.specs.Framed.{firstPulse, framedIn, framedUp, hasPulse}
 use Rattle.info.specs.Info.{info0, info1}
 use Rattle.hdlc.specs.Bits.{lowBits, bodyBits}
 use Rattle.hdlc.specs.Image.{flag, stuff, image}

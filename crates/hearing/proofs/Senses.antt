@@ -11,7 +11,7 @@ use Rattle.symbols.specs.Symbols.{isLine, tested, answer}
 use Rattle.symbols.specs.declared.TestAnswer.{TestAnswer}
 use Rattle.symbols.specs.declared.TestAnswer.the-variants.{Refused}
 use Rattle.symbols.proofs.TestAnswer.{the-type}
-use Rattle.info.specs.Framed.{hasPulse}
+use Rattle.framed.specs.Framed.{hasPulse}
 use Rattle.hearing.specs.Sensing.{isYes}
 
 -- a test of a line that is refused, and one that is not: its answer's place among the variants is 0 or 1

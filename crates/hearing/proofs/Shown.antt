@@ -4,7 +4,7 @@ use mathlib.Core.Bool.{true, false}
 use Rattle.symbols.specs.Symbols.{sameSymbols}
 use Rattle.frame.specs.declared.fields.Four.{Four}
 use Rattle.frame.proofs.Laws.{a-down}
-use Rattle.info.specs.Framed.{firstPulse, framedIn, hasPulse}
+use Rattle.framed.specs.Framed.{firstPulse, framedIn, hasPulse}
 use Rattle.info.specs.Info.{info0, info1, info2, info3, info4, info2Fields, info3Fields, info4Fields}
 use Rattle.info.proofs.Laws.{pulse-info2, pulse-info3, pulse-info4, framed-info2, framed-info3, framed-info4, up-not-info1}
 use Rattle.hearing.specs.Sensing.{shownUp, shownDown}

@@ -3,7 +3,7 @@ use mathlib.Core.Bool.{Bool, true, false, cond}
 use mathlib.Core.List.{List}
 use Prim.Native.Nat.{ℕ}
 use Rattle.symbols.specs.Symbols.{isLine}
-use Rattle.info.specs.Framed.{framedDown, framedUp, hasPulse}
+use Rattle.framed.specs.Framed.{framedDown, framedUp, hasPulse}
 use Rattle.info.specs.Info.{isInfo1}
 use Rattle.frame_reader.specs.Read.{aLevel}
 use Rattle.symbols.specs.declared.TestAnswer.{TestAnswer}

@@ -4,9 +4,9 @@ ghost use Rattle.hearing.specs.Sensing as spec;
 use super::heard::Downward;
 use super::heard::Upward;
 use frame_reader::read::a_bit;
-use info::framed::framed_down;
-use info::framed::framed_up;
-use info::framed::has_pulse;
+use framed::framed_down;
+use framed::framed_up;
+use framed::has_pulse;
 use info::info::is_info1;
 use symbols::TestAnswer;
 

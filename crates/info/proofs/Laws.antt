@@ -9,28 +9,21 @@ use lib.ListN.{length, replicate}
 use Rattle.cases.proofs.ByCases.{by-test}
 use Rattle.symbols.specs.Symbols.{none, within, fits}
 use Rattle.symbols.proofs.Lines.{same-symbols-true, same-symbols-self}
-use Rattle.frame.specs.Down.{downBits, downLine}
-use Rattle.frame.specs.Up.{upBits, upLine}
+use Rattle.frame.specs.Up.{upLine}
 use Rattle.frame.proofs.Laws.{line-down, line-up, d-up, e-down, a-down}
+use Rattle.framed.specs.Framed.{firstPulse, framedIn, hasPulse}
+use Rattle.framed.proofs.Laws.{framed-down, framed-up, pulse-down, pulse-up}
 use Rattle.info.specs.Info.{info1, info2Fields, info3Fields, info4Fields, isInfo1}
-use Rattle.info.specs.Framed.{firstPulse, framedIn, hasPulse}
 use Rattle.info.specs.Laws
-use Rattle.info.proofs.FirstPulse.{pulse-symbols, down-framed, up-framed}
-
-pub framed-down : Laws.FramedDown
-framed-down = down-framed
-
-pub framed-up : Laws.FramedUp
-framed-up = up-framed
 
 pub framed-info2 : Laws.FramedInfo2
-framed-info2 = down-framed info2Fields
+framed-info2 = framed-down info2Fields
 
 pub framed-info3 : Laws.FramedInfo3
-framed-info3 d = up-framed (info3Fields d)
+framed-info3 d = framed-up (info3Fields d)
 
 pub framed-info4 : Laws.FramedInfo4
-framed-info4 e = down-framed (info4Fields e)
+framed-info4 e = framed-down (info4Fields e)
 
 pub unframed-info0 : Laws.UnframedInfo0
 unfolding framedIn firstPulse
@@ -49,7 +42,7 @@ only-info1 l e = same-symbols-true l info1 e
 pub up-not-info1 : Laws.UpNotInfo1
 up-not-info1 f =
     by-test (isInfo1 (upLine f))
-    (λ t. absurd (true≢false (sym (up-framed f) ∙ rw (same-symbols-true (upLine f) info1 t) (unframed-info1 .1)))) (λ t. t)
+    (λ t. absurd (true≢false (sym (framed-up f) ∙ rw (same-symbols-true (upLine f) info1 t) (unframed-info1 .1)))) (λ t. t)
 
 pulseless : (l : List ℕ) → firstPulse l ≡ none → l ≡ replicate (length l) none
 unfolding firstPulse
@@ -62,14 +55,6 @@ pub pulseless-info0 : Laws.PulselessInfo0
 unfolding hasPulse firstPulse
 pulseless-info0 l h =
     (λ e. rw h at (pulseless l (eqb-true (firstPulse l) none (not-false (eqb (firstPulse l) none) e))), λ e. rw e)
-
-pub pulse-down : Laws.PulseDown
-unfolding downLine
-pulse-down f = pulse-symbols (downBits f)
-
-pub pulse-up : Laws.PulseUp
-unfolding upLine
-pulse-up f = pulse-symbols (upBits f)
 
 pub pulse-info1 : Laws.PulseInfo1
 unfolding hasPulse firstPulse

@@ -1,3 +1,2 @@
--- What is shown of the INFO signals and of framed periods.
-pub mod FirstPulse
+-- What is shown of the INFO signals.
 pub mod Laws

@@ -8,21 +8,14 @@ use lib.ListN.{length}
 use Rattle.symbols.specs.Symbols.{lineLength, levels, isLine}
 use Rattle.frame.specs.Four.{allFour}
 use Rattle.frame.specs.Bits.{dBits}
-use Rattle.frame.specs.Down.{downLine, eBits, aBit}
+use Rattle.frame.specs.Down.{eBits, aBit}
 use Rattle.frame.specs.Up.{upLine}
 use Rattle.frame.specs.declared.fields.Four.{Four}
-use Rattle.frame.specs.declared.fields.DownFields.{DownFields}
 use Rattle.frame.specs.declared.fields.UpFields.{UpFields}
+use Rattle.framed.specs.Framed.{framedDown, framedUp, hasPulse}
 use Rattle.info.specs.Info.{info0, info1, info2, info3, info4, isInfo1}
-use Rattle.info.specs.Framed.{framedDown, framedUp, hasPulse}
 
--- Framed periods: every frame is framed, so INFO 2, 3 and 4 are, for all their bits; INFO 0 and INFO 1 are not.
-abbrev pub FramedDown : Type 0
-FramedDown = (f : DownFields) → framedDown (downLine f) ≡ true
-
-abbrev pub FramedUp : Type 0
-FramedUp = (f : UpFields) → framedUp (upLine f) ≡ true
-
+-- Framed periods: INFO 2, 3 and 4 are framed, for all their bits; INFO 0 and INFO 1 are not.
 abbrev pub FramedInfo2 : Type 0
 FramedInfo2 = framedDown info2 ≡ true
 
@@ -51,13 +44,7 @@ UpNotInfo1 = (f : UpFields) → isInfo1 (upLine f) ≡ false
 abbrev pub PulselessInfo0 : Type 0
 PulselessInfo0 = (l : List ℕ) → length l ≡ lineLength → (hasPulse l ≡ false) ↔ (l ≡ info0)
 
--- Every frame has a pulse, so INFO 2, 3 and 4 have, for all their bits, and so has INFO 1.
-abbrev pub PulseDown : Type 0
-PulseDown = (f : DownFields) → hasPulse (downLine f) ≡ true
-
-abbrev pub PulseUp : Type 0
-PulseUp = (f : UpFields) → hasPulse (upLine f) ≡ true
-
+-- INFO 1 has a pulse, and so have INFO 2, 3 and 4, for all their bits.
 abbrev pub PulseInfo1 : Type 0
 PulseInfo1 = hasPulse info1 ≡ true
 

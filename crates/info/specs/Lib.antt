@@ -1,4 +1,3 @@
--- The INFO signals, framed periods and pulses.
+-- The INFO signals.
 pub mod Info
-pub mod Framed
 pub mod Laws

@@ -1,3 +1,2 @@
-// The INFO signals as lines, framed periods and pulses (document 01, "The line").
-pub mod framed;
+// The INFO signals as lines (document 01, "The line").
 pub mod info;

@@ -1,4 +1,4 @@
-use Rattle.info.specs.Framed.{framedDown}
+use Rattle.framed.specs.Framed.{framedDown}
 use Rattle.frame_reader.specs.Read.{aLevel}
 use Rattle.hearing.specs.Sensing.{shownDown, sensedDown}
 use Rattle.hearing.proofs.Senses.{refused-line, shown}

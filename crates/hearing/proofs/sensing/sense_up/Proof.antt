@@ -1,4 +1,4 @@
-use Rattle.info.specs.Framed.{framedUp}
+use Rattle.framed.specs.Framed.{framedUp}
 use Rattle.info.specs.Info.{isInfo1}
 use Rattle.hearing.specs.Sensing.{shownUp, sensedUp}
 use Rattle.hearing.proofs.Senses.{refused-line, shown}

@@ -1,10 +1,10 @@
--- `info::framed::framed_up` meets its contract.
+-- `framed::framed_up` meets its contract.
 use native.Mathlib.Omega.{arith}
-use Rattle.info.specs.Framed.{framedUp}
+use Rattle.framed.specs.Framed.{framedUp}
 use Rattle.symbols.proofs.Lines.{is-line, tested-is, tested-refused}
 use borrow.Author.Needs.{needs}
-use Rattle.info.proofs.framed.framed_up.Statement.{statement}
-use Rattle.info.proofs.framed.framed_up.Tie as tie
+use Rattle.framed.proofs.framed_up.Statement.{statement}
+use Rattle.framed.proofs.framed_up.Tie as tie
 
 fits-requires : tie.Need-fits-requires
 fits-requires c κs = search needs

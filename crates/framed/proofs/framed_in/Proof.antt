@@ -1,12 +1,12 @@
--- `info::framed::framed_in` meets its contract.
+-- `framed::framed_in` meets its contract.
 use mathlib.Core.Path.{_≡_}
 use Prim.Native.Nat.{_+_, _-_}
 use native.Mathlib.Omega.{arith}
 use borrow.Author.Tests.{eq-eqb, ne-eqb}
-use Rattle.info.specs.Framed.{framedIn}
+use Rattle.framed.specs.Framed.{framedIn}
 use borrow.Author.Needs.{needs}
-use Rattle.info.proofs.framed.framed_in.Statement.{statement}
-use Rattle.info.proofs.framed.framed_in.Tie as tie
+use Rattle.framed.proofs.framed_in.Statement.{statement}
+use Rattle.framed.proofs.framed_in.Tie as tie
 
 shared-slice-read-if1 : tie.Need-shared-slice-read-if1
 shared-slice-read-if1 c = search needs

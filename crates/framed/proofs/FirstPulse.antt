@@ -11,7 +11,7 @@ use Rattle.frame.specs.Down.{downBody, downBits, downLine}
 use Rattle.frame.specs.Up.{single, upBits, upLine}
 use Rattle.frame.specs.declared.fields.DownFields.{DownFields}
 use Rattle.frame.specs.declared.fields.UpFields.{UpFields}
-use Rattle.info.specs.Framed.{firstPulse, framedIn, hasPulse}
+use Rattle.framed.specs.Framed.{firstPulse, framedIn, hasPulse}
 
 -- Every frame begins with a pulse.
 pub pulse-symbols : (bits : List Bool) → hasPulse (symbols bits) ≡ true

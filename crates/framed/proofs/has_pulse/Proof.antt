@@ -1,11 +1,11 @@
--- `info::framed::has_pulse` meets its contract.
+-- `framed::has_pulse` meets its contract.
 use mathlib.Core.Bool.{not}
 use lib.Dec.{eqb}
-use Rattle.info.specs.Framed.{hasPulse}
+use Rattle.framed.specs.Framed.{hasPulse}
 use Rattle.symbols.proofs.Lines.{tested-is, tested-refused}
 use borrow.Author.Needs.{needs}
-use Rattle.info.proofs.framed.has_pulse.Statement.{statement}
-use Rattle.info.proofs.framed.has_pulse.Tie as tie
+use Rattle.framed.proofs.has_pulse.Statement.{statement}
+use Rattle.framed.proofs.has_pulse.Tie as tie
 
 fits-requires : tie.Need-fits-requires
 fits-requires c κs = search needs

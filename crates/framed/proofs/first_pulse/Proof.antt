@@ -1,13 +1,13 @@
--- `info::framed::first_pulse` meets its contract: the first pulse is that of the symbols from i on.
+-- `framed::first_pulse` meets its contract: the first pulse is that of the symbols from i on.
 use mathlib.Core.Path.{sym, _∙_}
 use Prim.Native.Nat.{_-_}
 use native.Mathlib.Omega.{arith}
 use borrow.Author.Tests.{eq-eqb, ne-eqb}
 use lib.ListN.{length}
-use Rattle.info.specs.Framed.{firstPulse}
+use Rattle.framed.specs.Framed.{firstPulse}
 use Rattle.symbols.proofs.Scan.{Rest, rest-start, rest-here, rest-next, rest-done}
-use Rattle.info.proofs.framed.first_pulse.Statement.{statement}
-use Rattle.info.proofs.framed.first_pulse.Tie as tie
+use Rattle.framed.proofs.first_pulse.Statement.{statement}
+use Rattle.framed.proofs.first_pulse.Tie as tie
 
 abbrev Inv-loop : tie.InvT-loop
 Inv-loop s i₀ i = Rest firstPulse s i

@@ -1,9 +1,9 @@
-// Framed periods and pulses.
+// Framed periods and pulses (document 01, "The line").
 ghost use mathlib.Core.Path.{_≡_};
 ghost use Prim.Native.Nat.{_+_, _≤_};
 ghost use lib.ListN.{length};
 ghost use Rattle.symbols.specs.Symbols.{lineLength, tested};
-ghost use Rattle.info.specs.Framed.{firstPulse, framedIn, framedDown, framedUp, hasPulse};
+ghost use Rattle.framed.specs.Framed.{firstPulse, framedIn, framedDown, framedUp, hasPulse};
 use symbols::LINE_LENGTH;
 use symbols::MINUS;
 use symbols::NONE;

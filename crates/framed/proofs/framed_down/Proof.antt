@@ -1,10 +1,10 @@
--- `info::framed::framed_down` meets its contract.
+-- `framed::framed_down` meets its contract.
 use native.Mathlib.Omega.{arith}
-use Rattle.info.specs.Framed.{framedDown}
+use Rattle.framed.specs.Framed.{framedDown}
 use Rattle.symbols.proofs.Lines.{is-line, tested-is, tested-refused}
 use borrow.Author.Needs.{needs}
-use Rattle.info.proofs.framed.framed_down.Statement.{statement}
-use Rattle.info.proofs.framed.framed_down.Tie as tie
+use Rattle.framed.proofs.framed_down.Statement.{statement}
+use Rattle.framed.proofs.framed_down.Tie as tie
 
 fits-requires : tie.Need-fits-requires
 fits-requires c κs = search needs

@@ -1,0 +1,22 @@
+-- What holds of framed periods and pulses: the statements, each a type. `proofs/Laws.antt` proves each under the same name in small letters.
+use mathlib.Core.Path.{_≡_}
+use mathlib.Core.Bool.{true}
+use Rattle.frame.specs.Down.{downLine}
+use Rattle.frame.specs.Up.{upLine}
+use Rattle.frame.specs.declared.fields.DownFields.{DownFields}
+use Rattle.frame.specs.declared.fields.UpFields.{UpFields}
+use Rattle.framed.specs.Framed.{framedDown, framedUp, hasPulse}
+
+-- Every frame is framed.
+abbrev pub FramedDown : Type 0
+FramedDown = (f : DownFields) → framedDown (downLine f) ≡ true
+
+abbrev pub FramedUp : Type 0
+FramedUp = (f : UpFields) → framedUp (upLine f) ≡ true
+
+-- Every frame has a pulse.
+abbrev pub PulseDown : Type 0
+PulseDown = (f : DownFields) → hasPulse (downLine f) ≡ true
+
+abbrev pub PulseUp : Type 0
+PulseUp = (f : UpFields) → hasPulse (upLine f) ≡ true

@@ -1,0 +1,3 @@
+-- Framed periods and pulses.
+pub mod Framed
+pub mod Laws
