@@ -6,7 +6,7 @@ ghost use lib.ListN.{length, take};
 ghost use Rattle.hdlc.specs.Bits.{bodyBits};
 ghost use Rattle.hdlc.specs.Image.{stuff, image, longestBody};
 ghost use Rattle.packing.specs.Packing.{filledOctets, onto, packedBit, imageRoom, imaged, imagedOctets, imageMeaning, imageOr};
-ghost use Rattle.packing.specs.Packer.{putBit, putBitOctets, storeOctet, putBits, putBitsOctets};
+ghost use Rattle.packing.specs.Packer.{putBit, putBitOctets, putBits, putBitsOctets};
 
 // The most octets of a body.
 const LONGEST_BODY: usize = 266;
@@ -68,30 +68,21 @@ pub fn packed_bit(octets: &[u8], i: u16) -> bool
 }
 
 impl Packer {
-    // One bit is put.
+    // One bit is put; an octet goes to its place with its eighth bit.
     fn put_bit(self, bit: bool, out: &mut [u8]) -> Self
         requires { ⌜ (self .at < 8 * imageRoom) × (self .ones < 255) × (imageRoom ≤ length (now out)) ⌝ }
         ensures { λ r. ⌜ (r ≡ putBit bit self) × (now (out .exit) ≡ putBitOctets bit self (now (out .entry))) ⌝ }
     {
         let octet = bits::shifted(self.octet, bit);
-        let at = self.at + 1;
-        self.store_octet(octet, out);
-        if bit {
-            let ones = self.ones + 1;
-            Packer { at, ones, octet }
-        } else {
-            Packer { at, ones: 0, octet }
-        }
-    }
-
-    // An octet whose eighth bit this is goes to its place.
-    fn store_octet(self, octet: u8, out: &mut [u8])
-        requires { ⌜ (self .at < 8 * imageRoom) × (imageRoom ≤ length (now out)) ⌝ }
-        ensures { λ r. ⌜ now (out .exit) ≡ storeOctet octet self (now (out .entry)) ⌝ }
-    {
         if self.at % 8 == 7 {
             let at = (self.at / 8) as usize;
             out[at] = octet;
+        }
+        let ones: u8 = if bit { self.ones + 1 } else { 0 };
+        Packer {
+            at: self.at + 1,
+            ones,
+            octet,
         }
     }
 

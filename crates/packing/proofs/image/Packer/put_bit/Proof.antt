@@ -1,4 +1,10 @@
-use Rattle.packing.specs.Packer.{putBit, putBitOctets}
+use mathlib.Core.Bool.{cond}
+use mathlib.Core.Logic.{⊎-elim}
+use mathlib.Core.Path.{_≡_, _∙_}
+use Prim.Native.Nat.{_+_}
+use lib.ListN.{length-set}
+use borrow.Author.Tests.{eq-eqb, ne-eqb}
+use Rattle.packing.specs.Packer.{putBit, storeOctet, putBitOctets}
 use borrow.Author.Needs.{needs}
 use Rattle.packing.proofs.image.Packer.put_bit.Statement.{statement}
 use Rattle.packing.proofs.image.Packer.put_bit.Tie as tie
@@ -6,44 +12,34 @@ use Rattle.packing.proofs.image.Packer.put_bit.Tie as tie
 shifted-requires : tie.Need-shifted-requires
 shifted-requires c κs = search needs
 
-add-at : tie.Need-add-at
-add-at c = search needs
+cast-at : tie.Need-cast-at
+cast-at c = search needs
 
-store-octet-requires : tie.Need-store-octet-requires
-store-octet-requires c κs = search needs
+slice-write-out : tie.Need-slice-write-out
+slice-write-out c = search needs
 
 add-ones : tie.Need-add-ones
 add-ones c = search needs
 
+add-t7 : tie.Need-add-t7
+add-t7 c = search needs
+
 same-length : tie.Need-same-length
-same-length c = search needs
+same-length c = ⊎-elim (λ w. simp (w .2, length-set)) (λ w. simp (w .1)) (c .before .before .if1 .came)
 
 returns : tie.Need-returns
-unfolding putBit putBitOctets
+unfolding putBit putBitOctets storeOctet
 returns c =
-    let shifted = c .before .before .before .before .before .before .before .shifted in
-    let store-octet = c .before .before .before .before .store-octet in
-    (simp (c .before .if1 .taken, shifted .ensures), rw (shifted .ensures) at (store-octet .ensures))
-
-same-length-2 : tie.Need-same-length-2
-same-length-2 c = search needs
-
-returns-2 : tie.Need-returns-2
-unfolding putBit putBitOctets
-returns-2 c =
-    let shifted = c .before .before .before .before .before .before .shifted in
-    let store-octet = c .before .before .before .store-octet in
-    (simp (c .if1 .left, shifted .ensures), rw (shifted .ensures) at (store-octet .ensures))
+    let args = c .before .before .before .before .before .before .args in
+    let shifted = c .before .before .before .before .shifted in
+    let ones : c .before .if2 .ones ≡ cond (args .bit) (args .self .ones + 1) 0 =
+    ⊎-elim (λ w. w .2 ∙ simp (w .0 .taken)) (λ w. w .1 ∙ simp (w .0 .left)) (c .before .if2 .came) in (
+      simp (ones, shifted .ensures),
+      ⊎-elim (λ w. w .2 ∙ simp (eq-eqb _ _ (w .0 .taken), shifted .ensures)) (λ w. w .1 ∙ simp (ne-eqb _ _ (w .0 .left)))
+          (c .before .before .if1 .came),
+    )
 
 pub put-bit-spec : {M : Type 1} → statement M
 put-bit-spec =
     tie.close
-    (tie.spec
-    shifted-requires
-    add-at
-    store-octet-requires
-    add-ones
-    same-length
-    returns
-    same-length-2
-    returns-2)
+    (tie.spec shifted-requires cast-at slice-write-out add-ones add-t7 same-length returns)
