@@ -85,10 +85,10 @@ impl Network {
             if (event == AR) | (event == DR) {
                 self.happens(5, event, now)
             } else {
-                self.stays(NO_NOTES, 4)
+                self.unchanged(4)
             }
         } else {
-            self.stays(NO_NOTES, 1)
+            self.unchanged(1)
         }
     }
 
@@ -103,7 +103,7 @@ impl Network {
             // The row of T2 has no notes.
             second.network.stays(first.notes, 0)
         } else {
-            self.stays(NO_NOTES, 1)
+            self.unchanged(1)
         }
     }
 
@@ -129,7 +129,7 @@ impl Network {
                 second
             }
         } else {
-            self.stays(NO_NOTES, 1)
+            self.unchanged(1)
         }
     }
 
@@ -138,6 +138,16 @@ impl Network {
         ensures { λ r. ⌜ r ≡ spec.ready now self ⌝ }
     {
         self.in_range() && now.in_range()
+    }
+
+    fn unchanged(self, reply: u8) -> NetworkStep
+        ensures { λ r. ⌜ r ≡ spec.unchanged reply self ⌝ }
+    {
+        NetworkStep {
+            network: self,
+            notes: NO_NOTES,
+            reply,
+        }
     }
 
     // The record as it is, with notes and a reply.
@@ -168,8 +178,8 @@ impl Network {
                 moved.stays(notes, 0)
             }
             Cell::Stay(notes) => self.stays(notes, 0),
-            Cell::Impossible => self.stays(NO_NOTES, barred),
-            Cell::Absent => self.stays(NO_NOTES, barred),
+            Cell::Impossible => self.unchanged(barred),
+            Cell::Absent => self.unchanged(barred),
         }
     }
 
@@ -187,7 +197,7 @@ impl Network {
             };
             spent.happens(0, event, now)
         } else {
-            self.stays(NO_NOTES, 0)
+            self.unchanged(0)
         }
     }
 }

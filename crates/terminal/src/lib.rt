@@ -106,12 +106,12 @@ impl Terminal {
             if self.state == F7 {
                 let handed = self.access.hand(class, length);
                 self.with(self.t3, handed.access, self.state)
-                    .stays(NO_NOTES, handed.reply)
+                    .unchanged(handed.reply)
             } else {
-                self.stays(NO_NOTES, 6)
+                self.unchanged(6)
             }
         } else {
-            self.stays(NO_NOTES, 1)
+            self.unchanged(1)
         }
     }
 
@@ -162,10 +162,20 @@ impl Terminal {
                 };
                 changed.happens(barred, event, now)
             } else {
-                self.stays(NO_NOTES, reply)
+                self.unchanged(reply)
             }
         } else {
-            self.stays(NO_NOTES, 1)
+            self.unchanged(1)
+        }
+    }
+
+    fn unchanged(self, reply: u8) -> TerminalStep
+        ensures { λ r. ⌜ r ≡ spec.unchanged reply self ⌝ }
+    {
+        TerminalStep {
+            terminal: self,
+            notes: NO_NOTES,
+            reply,
         }
     }
 
@@ -212,8 +222,8 @@ impl Terminal {
         match found {
             Cell::To(next, action, notes) => self.moves(next, action, notes, now),
             Cell::Stay(notes) => self.stays(notes, 0),
-            Cell::Impossible => self.stays(NO_NOTES, barred),
-            Cell::Absent => self.stays(NO_NOTES, barred),
+            Cell::Impossible => self.unchanged(barred),
+            Cell::Absent => self.unchanged(barred),
         }
     }
 }

@@ -27,14 +27,14 @@ stays-requires-2 c κs = search needs
 enum-told : tie.Need-enum-told
 enum-told c = search needs
 
-stays-requires-3 : tie.Need-stays-requires-3
-stays-requires-3 c κs = search needs
+unchanged-requires : tie.Need-unchanged-requires
+unchanged-requires c κs = search needs
 
 enum-told-2 : tie.Need-enum-told-2
 enum-told-2 c = search needs
 
-stays-requires-4 : tie.Need-stays-requires-4
-stays-requires-4 c κs = search needs
+unchanged-requires-2 : tie.Need-unchanged-requires-2
+unchanged-requires-2 c κs = search needs
 
 returns : tie.Need-returns
 unfolding happens acts moved
@@ -46,11 +46,11 @@ returns-2 c = simp (c .stays2 .ensures, ← c .before .before .before .before .c
 
 returns-3 : tie.Need-returns-3
 unfolding happens acts moved
-returns-3 c = simp (c .stays3 .ensures, ← c .before .before .before .cell .ensures, c .before .enum-told .given .1)
+returns-3 c = simp (c .unchanged .ensures, ← c .before .before .before .cell .ensures, c .before .enum-told .given .1)
 
 returns-4 : tie.Need-returns-4
 unfolding happens acts moved
-returns-4 c = simp (c .stays4 .ensures, ← c .before .before .before .cell .ensures, c .before .enum-told2 .given .1)
+returns-4 c = simp (c .unchanged2 .ensures, ← c .before .before .before .cell .ensures, c .before .enum-told2 .given .1)
 
 pub happens-spec : {M : Type 1} → statement M
-happens-spec = tie.close (tie.spec cell-requires enum-known-found timer-after-requires started-by-requires stays-requires enum-known-found-2 stays-requires-2 enum-told stays-requires-3 enum-told-2 stays-requires-4 returns returns-2 returns-3 returns-4)
+happens-spec = tie.close (tie.spec cell-requires enum-known-found timer-after-requires started-by-requires stays-requires enum-known-found-2 stays-requires-2 enum-told unchanged-requires enum-told-2 unchanged-requires-2 returns returns-2 returns-3 returns-4)

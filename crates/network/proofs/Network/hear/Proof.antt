@@ -25,8 +25,8 @@ happens-requires-2 c κs = search needs
 stays-requires : tie.Need-stays-requires
 stays-requires c κs = search needs
 
-stays-requires-2 : tie.Need-stays-requires-2
-stays-requires-2 c κs = search needs
+unchanged-requires : tie.Need-unchanged-requires
+unchanged-requires c κs = search needs
 
 returns : tie.Need-returns
 unfolding checked aligned
@@ -38,7 +38,7 @@ returns-2 c = simp (c .before .before .before .before .before .before .before .i
 
 returns-3 : tie.Need-returns-3
 unfolding checked aligned
-returns-3 c = simp (c .stays2 .ensures, c .before .if1 .left, ← c .before .before .ready .ensures)
+returns-3 c = simp (c .unchanged .ensures, c .before .if1 .left, ← c .before .before .ready .ensures)
 
 pub hear-spec : {M : Type 1} → statement M
-hear-spec = tie.close (tie.spec ready-requires follow-requires loss-up-requires happens-requires event-requires happens-requires-2 stays-requires stays-requires-2 returns returns-2 returns-3)
+hear-spec = tie.close (tie.spec ready-requires follow-requires loss-up-requires happens-requires event-requires happens-requires-2 stays-requires unchanged-requires returns returns-2 returns-3)

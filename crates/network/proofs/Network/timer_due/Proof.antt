@@ -22,8 +22,8 @@ expires-requires-2 c κs = search needs
 stays-requires : tie.Need-stays-requires
 stays-requires c κs = search needs
 
-stays-requires-2 : tie.Need-stays-requires-2
-stays-requires-2 c κs = search needs
+unchanged-requires : tie.Need-unchanged-requires
+unchanged-requires c κs = search needs
 
 returns : tie.Need-returns
 unfolding checked
@@ -31,7 +31,7 @@ returns c = simp (c .stays .ensures, c .before .before .before .before .before .
 
 returns-2 : tie.Need-returns-2
 unfolding checked
-returns-2 c = simp (c .stays2 .ensures, c .before .if1 .left, ← c .before .before .ready .ensures)
+returns-2 c = simp (c .unchanged .ensures, c .before .if1 .left, ← c .before .before .ready .ensures)
 
 pub timer-due-spec : {M : Type 1} → statement M
-timer-due-spec = tie.close (tie.spec ready-requires due-requires expires-requires due-requires-2 expires-requires-2 stays-requires stays-requires-2 returns returns-2)
+timer-due-spec = tie.close (tie.spec ready-requires due-requires expires-requires due-requires-2 expires-requires-2 stays-requires unchanged-requires returns returns-2)

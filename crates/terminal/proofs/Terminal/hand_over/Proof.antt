@@ -13,26 +13,26 @@ hand-requires c κs = search needs
 with-requires : tie.Need-with-requires
 with-requires c κs = search needs
 
-stays-requires : tie.Need-stays-requires
-stays-requires c κs = search needs
+unchanged-requires : tie.Need-unchanged-requires
+unchanged-requires c κs = search needs
 
-stays-requires-2 : tie.Need-stays-requires-2
-stays-requires-2 c κs = search needs
+unchanged-requires-2 : tie.Need-unchanged-requires-2
+unchanged-requires-2 c κs = search needs
 
-stays-requires-3 : tie.Need-stays-requires-3
-stays-requires-3 c κs = search needs
+unchanged-requires-3 : tie.Need-unchanged-requires-3
+unchanged-requires-3 c κs = search needs
 
 returns : tie.Need-returns
 unfolding handedOver handsOver holding
-returns c = simp (c .stays .ensures, c .before .with .ensures, c .before .before .hand .ensures, eq-eqb _ _ (c .before .before .before .if2 .taken), c .before .before .before .before .before .if1 .taken, ← c .before .before .before .before .before .before .in-range .ensures)
+returns c = simp (c .unchanged .ensures, c .before .with .ensures, c .before .before .hand .ensures, eq-eqb _ _ (c .before .before .before .if2 .taken), c .before .before .before .before .before .if1 .taken, ← c .before .before .before .before .before .before .in-range .ensures)
 
 returns-2 : tie.Need-returns-2
 unfolding handedOver handsOver holding
-returns-2 c = simp (c .stays2 .ensures, ne-eqb _ _ (c .before .if2 .left), c .before .before .before .if1 .taken, ← c .before .before .before .before .in-range .ensures)
+returns-2 c = simp (c .unchanged2 .ensures, ne-eqb _ _ (c .before .if2 .left), c .before .before .before .if1 .taken, ← c .before .before .before .before .in-range .ensures)
 
 returns-3 : tie.Need-returns-3
 unfolding handedOver handsOver holding
-returns-3 c = simp (c .stays3 .ensures, c .before .if1 .left, ← c .before .before .in-range .ensures)
+returns-3 c = simp (c .unchanged3 .ensures, c .before .if1 .left, ← c .before .before .in-range .ensures)
 
 pub hand-over-spec : {M : Type 1} → statement M
 hand-over-spec =
@@ -41,9 +41,9 @@ hand-over-spec =
     in-range-requires
     hand-requires
     with-requires
-    stays-requires
-    stays-requires-2
-    stays-requires-3
+    unchanged-requires
+    unchanged-requires-2
+    unchanged-requires-3
     returns
     returns-2
     returns-3)

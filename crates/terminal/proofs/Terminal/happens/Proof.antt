@@ -22,14 +22,14 @@ stays-requires c κs = search needs
 enum-told : tie.Need-enum-told
 enum-told c = search needs
 
-stays-requires-2 : tie.Need-stays-requires-2
-stays-requires-2 c κs = search needs
+unchanged-requires : tie.Need-unchanged-requires
+unchanged-requires c κs = search needs
 
 enum-told-2 : tie.Need-enum-told-2
 enum-told-2 c = search needs
 
-stays-requires-3 : tie.Need-stays-requires-3
-stays-requires-3 c κs = search needs
+unchanged-requires-2 : tie.Need-unchanged-requires-2
+unchanged-requires-2 c κs = search needs
 
 returns : tie.Need-returns
 unfolding happens acts
@@ -41,11 +41,11 @@ returns-2 c = simp (c .stays .ensures, ← c .before .before .before .before .ce
 
 returns-3 : tie.Need-returns-3
 unfolding happens acts
-returns-3 c = simp (← c .before .before .before .cell .ensures, c .before .enum-told .given .1, c .stays2 .ensures)
+returns-3 c = simp (← c .before .before .before .cell .ensures, c .before .enum-told .given .1, c .unchanged .ensures)
 
 returns-4 : tie.Need-returns-4
 unfolding happens acts
-returns-4 c = simp (← c .before .before .before .cell .ensures, c .before .enum-told2 .given .1, c .stays3 .ensures)
+returns-4 c = simp (← c .before .before .before .cell .ensures, c .before .enum-told2 .given .1, c .unchanged2 .ensures)
 
 pub happens-spec : {M : Type 1} → statement M
 happens-spec =
@@ -57,9 +57,9 @@ happens-spec =
     enum-known-found-2
     stays-requires
     enum-told
-    stays-requires-2
+    unchanged-requires
     enum-told-2
-    stays-requires-3
+    unchanged-requires-2
     returns
     returns-2
     returns-3

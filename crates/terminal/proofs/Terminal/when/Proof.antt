@@ -13,11 +13,11 @@ in-range-requires-2 c κs = search needs
 happens-requires : tie.Need-happens-requires
 happens-requires c κs = search needs
 
-stays-requires : tie.Need-stays-requires
-stays-requires c κs = search needs
+unchanged-requires : tie.Need-unchanged-requires
+unchanged-requires c κs = search needs
 
-stays-requires-2 : tie.Need-stays-requires-2
-stays-requires-2 c κs = search needs
+unchanged-requires-2 : tie.Need-unchanged-requires-2
+unchanged-requires-2 c κs = search needs
 
 returns : tie.Need-returns
 unfolding checked
@@ -25,11 +25,11 @@ returns c = simp (c .happens .ensures, c .before .before .if2 .taken, ready-both
 
 returns-2 : tie.Need-returns-2
 unfolding checked
-returns-2 c = simp (c .stays .ensures, c .before .if2 .left, ready-both (c .before .before .before .before .before .args .now) (c .before .before .before .before .before .args .self) (c .before .before .before .before .in-range .ensures) (c .before .before .before .in-range2 .ensures), c .before .before .if1 .taken)
+returns-2 c = simp (c .unchanged .ensures, c .before .if2 .left, ready-both (c .before .before .before .before .before .args .now) (c .before .before .before .before .before .args .self) (c .before .before .before .before .in-range .ensures) (c .before .before .before .in-range2 .ensures), c .before .before .if1 .taken)
 
 returns-3 : tie.Need-returns-3
 unfolding checked
-returns-3 c = simp (c .stays2 .ensures, ready-both (c .before .before .before .before .args .now) (c .before .before .before .before .args .self) (c .before .before .before .in-range .ensures) (c .before .before .in-range2 .ensures), c .before .if1 .left)
+returns-3 c = simp (c .unchanged2 .ensures, ready-both (c .before .before .before .before .args .now) (c .before .before .before .before .args .self) (c .before .before .before .in-range .ensures) (c .before .before .in-range2 .ensures), c .before .if1 .left)
 
 pub when-spec : {M : Type 1} → statement M
 when-spec =
@@ -38,8 +38,8 @@ when-spec =
     in-range-requires
     in-range-requires-2
     happens-requires
-    stays-requires
-    stays-requires-2
+    unchanged-requires
+    unchanged-requires-2
     returns
     returns-2
     returns-3)
