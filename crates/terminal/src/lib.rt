@@ -105,8 +105,9 @@ impl Terminal {
         if self.in_range() {
             if self.state == F7 {
                 let handed = self.access.hand(class, length);
-                self.with(self.t3, handed.access, self.state)
-                    .unchanged(handed.reply)
+                Terminal::of(self.t3, handed.access, self.state, self.alignment).unchanged(
+                    handed.reply,
+                )
             } else {
                 self.unchanged(6)
             }
@@ -153,14 +154,7 @@ impl Terminal {
     {
         if self.in_range() & now.in_range() {
             if holds {
-                let access = self.access;
-                let changed = Terminal {
-                    t3,
-                    access,
-                    state: self.state,
-                    alignment,
-                };
-                changed.happens(barred, event, now)
+                Terminal::of(t3, self.access, self.state, alignment).happens(barred, event, now)
             } else {
                 self.unchanged(reply)
             }
@@ -190,11 +184,9 @@ impl Terminal {
         }
     }
 
-    // With another T3, another D access and in another state.
-    fn with(self, t3: u64, access: Access, state: u8) -> Self
-        ensures { λ r. ⌜ r ≡ record { t3 = t3; access = access; state = state; alignment = self .alignment } ⌝ }
+    fn of(t3: u64, access: Access, state: u8, alignment: Alignment) -> Self
+        ensures { λ r. ⌜ r ≡ record { t3 = t3; access = access; state = state; alignment = alignment } ⌝ }
     {
-        let alignment = self.alignment;
         Terminal {
             t3,
             access,
@@ -210,8 +202,10 @@ impl Terminal {
     {
         let way = access_after(self.state, next, self.access);
         let t3 = timer_after(T3, action, now, self.t3);
-        self.with(t3, way.access, next)
-            .stays(after_dropped(way.dropped, notes), 0)
+        Terminal::of(t3, way.access, next, self.alignment).stays(
+            after_dropped(way.dropped, notes),
+            0,
+        )
     }
 
     // An event of table 6-2; the reply at a cell that is impossible or empty is barred.
