@@ -1,14 +1,15 @@
 -- Two events of the network end, one after the other, of which one has no notes: the notes are the other's.
 use mathlib.Core.Path.{_≡_, refl, ap, _∙_}
-use mathlib.Core.Bool.{Bool, true, false, cond}
+use mathlib.Core.Bool.{Bool, true, false, cond, _||_}
 use mathlib.Core.List.{[], append-nil}
 use Prim.Native.Nat.{ℕ}
+use lib.Dec.{eqb}
 use Rattle.cases.proofs.ByCases.{by-test, clash}
 use Rattle.cells.specs.Notes.{packedNotes, noted}
 use Rattle.cells.specs.Cells.{cellOf, cellNotes}
 use Rattle.cells.specs.declared.cell.Cell.{Cell}
 use Rattle.cells.specs.declared.cell.Cell.the-variants.{To, Stay, Impossible, Absent}
-use Rattle.table_6_3.specs.Table63.{table63, T1-DUE, T2-DUE, INFO-0, INFO-1, INFO-3}
+use Rattle.table_6_3.specs.Table63.{table63, AR, DR, T1-DUE, T2-DUE, INFO-0, INFO-1, INFO-3}
 use Rattle.table_6_3.proofs.Laws.{notes-in-order, t2-quiet, info-1-quiet, no-event-quiet}
 use Rattle.timing.specs.Timers.{due}
 use Rattle.alignment.specs.Alignment.{gained, lost, followed}
@@ -17,7 +18,7 @@ use Rattle.alignment.specs.declared.Alignment.{Alignment}
 use Rattle.alignment.specs.declared.Followed.{Followed}
 use Rattle.hearing.specs.declared.heard.Upward.{Upward}
 use Rattle.alignment.proofs.Alignments.{framed-kept, pulseless-kept}
-use Rattle.network.specs.Network.{acts, happens, andThen, aligned, t1Due, t2Due, timers, heardAs, hears}
+use Rattle.network.specs.Network.{unchanged, isRequest, acts, happens, andThen, aligned, t1Due, t2Due, timers, heardAs, hears}
 use Rattle.network.specs.declared.Network.{Network}
 use Rattle.network.specs.declared.NetworkStep.{NetworkStep}
 
@@ -32,6 +33,18 @@ acts-notes k Absent now n = refl
 pub happens-notes : (k e now : ℕ) (n : Network) → happens k e now n .notes ≡ cellNotes (cellOf table63 e (n .state))
 unfolding happens
 happens-notes k e now n = acts-notes k (cellOf table63 e (n .state)) now n
+
+acts-reply : (c : Cell) (now : ℕ) (n : Network) → acts 0 c now n .reply ≡ 0
+unfolding acts
+acts-reply (To next action notes) now n = refl
+acts-reply (Stay notes) now n = refl
+acts-reply Impossible now n = refl
+acts-reply Absent now n = refl
+
+-- No event but a request is refused.
+happens-reply : (e now : ℕ) (n : Network) → happens 0 e now n .reply ≡ 0
+unfolding happens
+happens-reply e now n = acts-reply (cellOf table63 e (n .state)) now n
 
 happens-tidy : (k e now : ℕ) (n : Network) → packedNotes (noted (happens k e now n .notes)) ≡ happens k e now n .notes
 happens-tidy k e now n = rw (happens-notes k e now n) (notes-in-order e (n .state))
@@ -49,7 +62,21 @@ second-only : (s : NetworkStep) (f : Network → NetworkStep) → noted (s .note
 unfolding andThen
 second-only s f q t = rw (q, t)
 
+-- A request, as the code asks for it.
+pub is-request : (e : ℕ) → isRequest e ≡ (eqb e AR || eqb e DR)
+is-request e = by-test (eqb e AR) (λ t. rw t) (λ t. rw t)
+
 -- T1, then T2.
+pub t1-is : (now : ℕ) (n : Network) {b : Bool} {a : NetworkStep} → b ≡ due (n .t1) now →
+    a ≡ cond b (happens 0 T1-DUE now (record { t1 = 0; t2 = n .t2; state = n .state; alignment = n .alignment })) (unchanged 0 n) → a ≡ t1Due now n
+unfolding t1Due
+t1-is now n p q = rw (q, p)
+
+pub t2-is : (now : ℕ) (n : Network) {b : Bool} {a : NetworkStep} → b ≡ due (n .t2) now →
+    a ≡ cond b (happens 0 T2-DUE now (record { t1 = n .t1; t2 = 0; state = n .state; alignment = n .alignment })) (unchanged 0 n) → a ≡ t2Due now n
+unfolding t2Due
+t2-is now n p q = rw (q, p)
+
 t1-tidy : (now : ℕ) (n : Network) → packedNotes (noted (t1Due now n .notes)) ≡ t1Due now n .notes
 unfolding t1Due noted
 t1-tidy now n = by-test (due (n .t1) now) (λ t. rw t (happens-tidy 0 T1-DUE now _)) (λ t. rw t)
@@ -115,6 +142,9 @@ module _
   unfolding hears
   heard-with-loss l = rw (← ef) (heard-lost line now n f a b loss-is line-is ef l)
 
-  pub heard-without : f .lost ≡ false → record { network = b .network; notes = b .notes; reply = 0 } ≡ hears line now n
+  no-refusal : b .reply ≡ 0
+  no-refusal = ap (λ s. s .reply) eb ∙ happens-reply e now (a .network)
+
+  pub heard-without : f .lost ≡ false → b ≡ hears line now n
   unfolding hears
-  heard-without l = rw (← ef) (heard-kept line now n f a b loss-is line-is l)
+  heard-without l = ap (λ k. record { network = b .network; notes = b .notes; reply = k }) no-refusal ∙ rw (← ef) (heard-kept line now n f a b loss-is line-is l)

@@ -1,4 +1,5 @@
 // The network end: states G1 to G4, alignment, T1 and T2.
+ghost use mathlib.Core.Bool.{cond};
 ghost use mathlib.Core.Path.{_≡_};
 ghost use Rattle.network.specs.Network as spec;
 use alignment::Alignment;
@@ -81,10 +82,10 @@ impl Network {
         ensures { λ r. ⌜ r ≡ spec.requested event now self ⌝ }
     {
         if self.ready(now) {
-            match event {
-                AR => self.happens(5, AR, now),
-                DR => self.happens(5, DR, now),
-                _ => self.unchanged(4),
+            if (event == AR) | (event == DR) {
+                self.happens(5, event, now)
+            } else {
+                self.unchanged(4)
             }
         } else {
             self.unchanged(1)
@@ -96,17 +97,11 @@ impl Network {
         ensures { λ r. ⌜ r ≡ spec.timerDue now self ⌝ }
     {
         if self.ready(now) {
-            let first = self.t1_due(now);
+            let first = self.expires(due(self.t1, now), 0, self.t2, T1_DUE, now);
             let between = first.network;
-            let second = between.t2_due(now);
-            let network = second.network;
+            let second = between.expires(due(between.t2, now), between.t1, 0, T2_DUE, now);
             // The row of T2 has no notes.
-            let notes = first.notes;
-            NetworkStep {
-                network,
-                notes,
-                reply: 0,
-            }
+            second.network.stays(first.notes, 0)
         } else {
             self.unchanged(1)
         }
@@ -117,30 +112,21 @@ impl Network {
         ensures { λ r. ⌜ r ≡ spec.heard line now self ⌝ }
     {
         if self.ready(now) {
-            let before = self.alignment;
-            let f = before.follow(line.pulse, line.framed);
-            let mut n = self;
+            let f = self.alignment.follow(line.pulse, line.framed);
             let alignment = f.alignment;
-            n.alignment = alignment;
+            let n = Network {
+                t1: self.t1,
+                t2: self.t2,
+                state: self.state,
+                alignment,
+            };
             let first = n.happens(0, loss_up(f), now);
-            let between = first.network;
-            let second = between.happens(0, line.event(f), now);
-            let network = second.network;
+            let second = first.network.happens(0, line.event(f), now);
             // Where alignment is lost, the line is INFO 1, whose row has no notes, or a signal.
             if f.lost {
-                let notes = first.notes;
-                NetworkStep {
-                    network,
-                    notes,
-                    reply: 0,
-                }
+                second.network.stays(first.notes, 0)
             } else {
-                let notes = second.notes;
-                NetworkStep {
-                    network,
-                    notes,
-                    reply: 0,
-                }
+                second
             }
         } else {
             self.unchanged(1)
@@ -164,6 +150,17 @@ impl Network {
         }
     }
 
+    // The record as it is, with notes and a reply.
+    fn stays(self, notes: Notes, reply: u8) -> NetworkStep
+        ensures { λ r. ⌜ r ≡ record { network = self; notes = notes; reply = reply } ⌝ }
+    {
+        NetworkStep {
+            network: self,
+            notes,
+            reply,
+        }
+    }
+
     // An event of table 6-3; the reply at a cell that is impossible or empty is barred.
     fn happens(self, barred: u8, event: u8, now: Periods) -> NetworkStep
         ensures { λ r. ⌜ r ≡ spec.happens barred event (now .0) self ⌝ }
@@ -172,47 +169,33 @@ impl Network {
         match found {
             Cell::To(next, action, notes) => {
                 let alignment = self.alignment;
-                let network = Network {
+                let moved = Network {
                     t1: timer_after(T1, action, now, self.t1),
                     t2: started_by(START_T2, T2, action, now, self.t2),
                     state: next,
                     alignment,
                 };
-                NetworkStep {
-                    network,
-                    notes,
-                    reply: 0,
-                }
+                moved.stays(notes, 0)
             }
-            Cell::Stay(notes) => NetworkStep {
-                network: self,
-                notes,
-                reply: 0,
-            },
+            Cell::Stay(notes) => self.stays(notes, 0),
             Cell::Impossible => self.unchanged(barred),
             Cell::Absent => self.unchanged(barred),
         }
     }
 
-    fn t1_due(self, now: Periods) -> NetworkStep
-        ensures { λ r. ⌜ r ≡ spec.t1Due (now .0) self ⌝ }
+    // The event of a timer at the record with other timers, where it is due.
+    fn expires(self, expired: bool, t1: u64, t2: u64, event: u8, now: Periods) -> NetworkStep
+        ensures { λ r. ⌜ r ≡ cond expired (spec.happens 0 event (now .0) (record { t1 = t1; t2 = t2; state = self .state; alignment = self .alignment })) (spec.unchanged 0 self) ⌝ }
     {
-        if due(self.t1, now) {
-            let mut spent = self;
-            spent.t1 = 0;
-            spent.happens(0, T1_DUE, now)
-        } else {
-            self.unchanged(0)
-        }
-    }
-
-    fn t2_due(self, now: Periods) -> NetworkStep
-        ensures { λ r. ⌜ r ≡ spec.t2Due (now .0) self ⌝ }
-    {
-        if due(self.t2, now) {
-            let mut spent = self;
-            spent.t2 = 0;
-            spent.happens(0, T2_DUE, now)
+        if expired {
+            let alignment = self.alignment;
+            let spent = Network {
+                t1,
+                t2,
+                state: self.state,
+                alignment,
+            };
+            spent.happens(0, event, now)
         } else {
             self.unchanged(0)
         }

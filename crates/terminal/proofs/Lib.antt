@@ -1,3 +1,4 @@
 -- Every call leaves the record in its range (RangesKept); the calls against the steps that they check, notes and states (Laws).
+pub mod Operators
 pub mod RangesKept
 pub mod Laws

@@ -1,6 +1,8 @@
 // A terminal: states F1 to F8, alignment, T3 and its D access.
 ghost use mathlib.Core.Path.{_≡_};
+ghost use mathlib.Core.Bool.{cond};
 ghost use mathlib.Core.List.{_++_};
+ghost use Rattle.cells.specs.declared.cell.Cell.the-variants.{To};
 ghost use Rattle.cells.specs.Notes.{packedNotes, noted};
 ghost use Rattle.terminal.specs.Terminal as spec;
 use alignment::Alignment;
@@ -79,45 +81,21 @@ impl Terminal {
     pub fn switch_on(self, now: Periods) -> TerminalStep
         ensures { λ r. ⌜ r ≡ spec.switchedOn now self ⌝ }
     {
-        if self.ready(now) {
-            if self.state == F1 {
-                let mut t = self;
-                t.alignment = Alignment::fresh();
-                t.happens(0, ON, now)
-            } else {
-                self.unchanged(5)
-            }
-        } else {
-            self.unchanged(1)
-        }
+        self.when(self.state == F1, 5, self.t3, Alignment::fresh(), 0, ON, now)
     }
 
     // Power off.
     pub fn switch_off(self, now: Periods) -> TerminalStep
         ensures { λ r. ⌜ r ≡ spec.switchedOff now self ⌝ }
     {
-        if self.ready(now) {
-            if self.state == F1 {
-                self.unchanged(5)
-            } else {
-                let mut t = self;
-                t.t3 = 0;
-                t.happens(0, OFF, now)
-            }
-        } else {
-            self.unchanged(1)
-        }
+        self.when(self.state != F1, 5, 0, self.alignment, 0, OFF, now)
     }
 
     // `ar`, the request for activation.
     pub fn request(self, now: Periods) -> TerminalStep
         ensures { λ r. ⌜ r ≡ spec.requested now self ⌝ }
     {
-        if self.ready(now) {
-            self.happens(5, AR, now)
-        } else {
-            self.unchanged(1)
-        }
+        self.when(true, 0, self.t3, self.alignment, 5, AR, now)
     }
 
     // A frame of a class is handed over; its image has so many bits.
@@ -127,14 +105,9 @@ impl Terminal {
         if self.in_range() {
             if self.state == F7 {
                 let handed = self.access.hand(class, length);
-                let access = handed.access;
-                let mut terminal = self;
-                terminal.access = access;
-                TerminalStep {
-                    terminal,
-                    notes: NO_NOTES,
-                    reply: handed.reply,
-                }
+                Terminal::of(self.t3, handed.access, self.state, self.alignment).unchanged(
+                    handed.reply,
+                )
             } else {
                 self.unchanged(6)
             }
@@ -147,44 +120,47 @@ impl Terminal {
     pub fn timer_due(self, now: Periods) -> TerminalStep
         ensures { λ r. ⌜ r ≡ spec.timerDue now self ⌝ }
     {
-        if self.ready(now) {
-            if due(self.t3, now) {
-                let mut spent = self;
-                spent.t3 = 0;
-                spent.happens(0, T3_DUE, now)
-            } else {
-                self.unchanged(0)
-            }
-        } else {
-            self.unchanged(1)
-        }
+        self.when(due(self.t3, now), 0, 0, self.alignment, 0, T3_DUE, now)
     }
 
     // A period's downward line is heard.
     pub fn hear(self, line: Downward, now: Periods) -> TerminalStep
         ensures { λ r. ⌜ r ≡ spec.heard line now self ⌝ }
     {
-        if self.ready(now) {
-            if self.state == F1 {
-                self.unchanged(0)
+        let f = self.alignment.follow(line.pulse, line.framed);
+        self.when(
+            self.state != F1,
+            0,
+            self.t3,
+            f.alignment,
+            0,
+            line.event(f),
+            now,
+        )
+    }
+
+    // Where record and period are in range: an event at the record with another T3 and another alignment, if a test holds; else a reply.
+    fn when(
+        self,
+        holds: bool,
+        reply: u8,
+        t3: u64,
+        alignment: Alignment,
+        barred: u8,
+        event: u8,
+        now: Periods,
+    ) -> TerminalStep
+        ensures { λ r. ⌜ r ≡ spec.checked (λ p t. cond holds (spec.happens barred event p (record { t3 = t3; access = t .access; state = t .state; alignment = alignment })) (spec.unchanged reply t)) now self ⌝ }
+    {
+        if self.in_range() & now.in_range() {
+            if holds {
+                Terminal::of(t3, self.access, self.state, alignment).happens(barred, event, now)
             } else {
-                let before = self.alignment;
-                let f = before.follow(line.pulse, line.framed);
-                let alignment = f.alignment;
-                let mut t = self;
-                t.alignment = alignment;
-                t.happens(0, line.event(f), now)
+                self.unchanged(reply)
             }
         } else {
             self.unchanged(1)
         }
-    }
-
-    // Whether record and period are in range.
-    fn ready(self, now: Periods) -> bool
-        ensures { λ r. ⌜ r ≡ spec.ready now self ⌝ }
-    {
-        self.in_range() && now.in_range()
     }
 
     fn unchanged(self, reply: u8) -> TerminalStep
@@ -197,33 +173,49 @@ impl Terminal {
         }
     }
 
+    // The record as it is, with notes and a reply.
+    fn stays(self, notes: Notes, reply: u8) -> TerminalStep
+        ensures { λ r. ⌜ r ≡ record { terminal = self; notes = notes; reply = reply } ⌝ }
+    {
+        TerminalStep {
+            terminal: self,
+            notes,
+            reply,
+        }
+    }
+
+    fn of(t3: u64, access: Access, state: u8, alignment: Alignment) -> Self
+        ensures { λ r. ⌜ r ≡ record { t3 = t3; access = access; state = state; alignment = alignment } ⌝ }
+    {
+        Terminal {
+            t3,
+            access,
+            state,
+            alignment,
+        }
+    }
+
+    // A cell's next state, timer action and notes, after the note of a dropped frame.
+    fn moves(self, next: u8, action: u8, notes: Notes, now: Periods) -> TerminalStep
+        requires { ⌜ packedNotes (noted notes) ≡ notes ⌝ }
+        ensures { λ r. ⌜ r ≡ spec.acts 0 (To next action notes) (now .0) self ⌝ }
+    {
+        let way = access_after(self.state, next, self.access);
+        let t3 = timer_after(T3, action, now, self.t3);
+        Terminal::of(t3, way.access, next, self.alignment).stays(
+            after_dropped(way.dropped, notes),
+            0,
+        )
+    }
+
     // An event of table 6-2; the reply at a cell that is impossible or empty is barred.
     fn happens(self, barred: u8, event: u8, now: Periods) -> TerminalStep
         ensures { λ r. ⌜ r ≡ spec.happens barred event (now .0) self ⌝ }
     {
         let found = cell(event, self.state);
         match found {
-            Cell::To(next, action, notes) => {
-                let way = access_after(self.state, next, self.access);
-                let access = way.access;
-                let alignment = self.alignment;
-                let terminal = Terminal {
-                    t3: timer_after(T3, action, now, self.t3),
-                    access,
-                    state: next,
-                    alignment,
-                };
-                TerminalStep {
-                    terminal,
-                    notes: after_dropped(way.dropped, notes),
-                    reply: 0,
-                }
-            }
-            Cell::Stay(notes) => TerminalStep {
-                terminal: self,
-                notes,
-                reply: 0,
-            },
+            Cell::To(next, action, notes) => self.moves(next, action, notes, now),
+            Cell::Stay(notes) => self.stays(notes, 0),
             Cell::Impossible => self.unchanged(barred),
             Cell::Absent => self.unchanged(barred),
         }

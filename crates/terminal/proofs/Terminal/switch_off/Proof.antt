@@ -1,41 +1,15 @@
-use borrow.Author.Tests.{eq-eqb, ne-eqb}
 use Rattle.terminal.specs.Terminal.{noTimer, switchesOff, checked}
+use Rattle.terminal.proofs.Operators.{cond-not}
 use borrow.Author.Needs.{needs}
 use Rattle.terminal.proofs.Terminal.switch_off.Statement.{statement}
 use Rattle.terminal.proofs.Terminal.switch_off.Tie as tie
 
-ready-requires : tie.Need-ready-requires
-ready-requires c κs = search needs
-
-unchanged-requires : tie.Need-unchanged-requires
-unchanged-requires c κs = search needs
-
-happens-requires : tie.Need-happens-requires
-happens-requires c κs = search needs
-
-unchanged-requires-2 : tie.Need-unchanged-requires-2
-unchanged-requires-2 c κs = search needs
+when-requires : tie.Need-when-requires
+when-requires c κs = search needs
 
 returns : tie.Need-returns
 unfolding checked switchesOff noTimer
-returns c = simp (c .unchanged .ensures, eq-eqb _ _ (c .before .if2 .taken), c .before .before .before .if1 .taken, ← c .before .before .before .before .ready .ensures)
-
-returns-2 : tie.Need-returns-2
-unfolding checked switchesOff noTimer
-returns-2 c = simp (c .happens .ensures, ne-eqb _ _ (c .before .if2 .left), c .before .before .before .if1 .taken, ← c .before .before .before .before .ready .ensures)
-
-returns-3 : tie.Need-returns-3
-unfolding checked switchesOff noTimer
-returns-3 c = simp (c .unchanged2 .ensures, c .before .if1 .left, ← c .before .before .ready .ensures)
+returns c = simp (cond-not, c .when .ensures)
 
 pub switch-off-spec : {M : Type 1} → statement M
-switch-off-spec =
-    tie.close
-    (tie.spec
-    ready-requires
-    unchanged-requires
-    happens-requires
-    unchanged-requires-2
-    returns
-    returns-2
-    returns-3)
+switch-off-spec = tie.close (tie.spec when-requires returns)
