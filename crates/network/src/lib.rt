@@ -98,8 +98,10 @@ impl Network {
     {
         if self.ready(now) {
             let first = self.expires(due(self.t1, now), 0, self.t2, T1_DUE, now);
-            let between = first.network;
-            let second = between.expires(due(between.t2, now), between.t1, 0, T2_DUE, now);
+            let t2_due = due(first.network.t2, now);
+            let second = first
+                .network
+                .expires(t2_due, first.network.t1, 0, T2_DUE, now);
             // The row of T2 has no notes.
             second.network.stays(first.notes, 0)
         } else {

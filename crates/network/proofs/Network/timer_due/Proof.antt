@@ -27,7 +27,7 @@ unchanged-requires c κs = search needs
 
 returns : tie.Need-returns
 unfolding checked
-returns c = simp (c .stays .ensures, c .before .before .before .before .before .before .if1 .taken, ← c .before .before .before .before .before .before .before .ready .ensures) (timers-are _ _ (t1-is _ _ (c .before .before .before .before .before .due .ensures) (c .before .before .before .before .expires .ensures)) (t2-is _ _ (c .before .before .due2 .ensures) (c .before .expires2 .ensures)))
+returns c = simp (c .stays .ensures, c .before .before .before .before .before .if1 .taken, ← c .before .before .before .before .before .before .ready .ensures) (timers-are _ _ (t1-is _ _ (c .before .before .before .before .due .ensures) (c .before .before .before .expires .ensures)) (t2-is _ _ (c .before .before .due2 .ensures) (c .before .expires2 .ensures)))
 
 returns-2 : tie.Need-returns-2
 unfolding checked
