@@ -1,11 +1,11 @@
 // The network end's reader of D (document 01, "D access (6.1)").
 ghost use mathlib.Core.Path.{_≡_};
 ghost use mathlib.Core.List.{List};
-ghost use Prim.Native.Nat.{ℕ, _-_, _≤_};
+ghost use Prim.Native.Nat.{ℕ, _≤_};
 ghost use lib.ListN.{length};
 ghost use Rattle.hdlc.specs.Image.{longestBody};
 ghost use Rattle.hdlc.specs.Reading.{cleared};
-ghost use Rattle.reader.specs.Counters.{freshReader, takeUp, afterBit, isData, storeWhole, betweenFlags, answerTo, readBit, readOctets};
+ghost use Rattle.reader.specs.Counters.{freshReader, takeUp, afterBit, storeWhole, answerTo, readBit, readOctets};
 ghost use Rattle.reader.specs.ReaderRange.{readerInRange};
 ghost use Rattle.reader.specs.StandsFor.{StandsFor, ReadsOn};
 
@@ -45,33 +45,6 @@ pub enum ReaderAnswer {
 pub struct Read {
     pub reader: Reader,
     pub answer: ReaderAnswer,
-}
-
-// Whether a bit that is read after so many 1s is a data bit, as far as can be known.
-fn is_data(bit: bool, ones: u8) -> bool
-    ensures { λ r. ⌜ r ≡ isData bit ones ⌝ }
-{
-    if bit {
-        return ones < 6;
-    }
-    if ones == 5 { false } else { ones != 6 }
-}
-
-// What bits between two flags are, the flag's own being among them.
-fn between_flags(bits: u16, own: u16) -> ReaderAnswer
-    requires { ⌜ own ≤ 7 ⌝ }
-    ensures { λ r. ⌜ r ≡ betweenFlags (bits - own) ⌝ }
-{
-    if bits < own + 8 {
-        return ReaderAnswer::Nothing;
-    }
-    let n = bits - own;
-    if n % 8 == 0 {
-        if n <= BODY_BITS {
-            return ReaderAnswer::Heard(n / 8);
-        }
-    }
-    ReaderAnswer::Torn
 }
 
 impl Reader {
@@ -121,8 +94,17 @@ impl Reader {
         requires { ⌜ longestBody ≤ length (now octets) ⌝ }
         ensures { λ r. ⌜ now (octets .exit) ≡ storeWhole bit self (now (octets .entry)) ⌝ }
     {
+        let is_data = if bit {
+            self.ones < 6
+        } else {
+            if self.ones == 5 {
+                false
+            } else {
+                self.ones != 6
+            }
+        };
         if self.opened {
-            if is_data(bit, self.ones) {
+            if is_data {
                 if self.bits % 8 == 7 {
                     if self.bits < BODY_BITS {
                         let at = (self.bits / 8) as usize;
@@ -194,20 +176,29 @@ impl Reader {
     fn answer_to(self, bit: bool) -> ReaderAnswer
         ensures { λ r. ⌜ r ≡ answerTo bit self ⌝ }
     {
-        if self.opened {
-            if self.ones == 6 {
-                if bit {
-                    if self.bits < 6 + 8 {
-                        return ReaderAnswer::Nothing;
-                    }
-                    return ReaderAnswer::Torn;
-                }
-                if self.zero {
-                    return between_flags(self.bits, 7);
-                }
-                return between_flags(self.bits, 6);
+        if !self.opened {
+            return ReaderAnswer::Nothing;
+        }
+        if self.ones != 6 {
+            return ReaderAnswer::Nothing;
+        }
+        let own: u16 = if bit {
+            6
+        } else {
+            if self.zero { 7 } else { 6 }
+        };
+        if self.bits < own + 8 {
+            return ReaderAnswer::Nothing;
+        }
+        let n = self.bits - own;
+        if bit {
+            return ReaderAnswer::Torn;
+        }
+        if n % 8 == 0 {
+            if n <= BODY_BITS {
+                return ReaderAnswer::Heard(n / 8);
             }
         }
-        ReaderAnswer::Nothing
+        ReaderAnswer::Torn
     }
 }

@@ -1,11 +1,21 @@
+use mathlib.Core.Logic.{⊎-elim}
+use mathlib.Core.Path.{_≡_, _∙_}
 use borrow.Author.Tests.{lt-ltb, le-ltb, eq-eqb, ne-eqb}
-use Rattle.reader.specs.Counters.{fills, storeWhole}
+use Rattle.reader.specs.Counters.{isData, fills, storeWhole}
 use borrow.Author.Needs.{needs}
 use Rattle.reader.proofs.Reader.store_whole.Statement.{statement}
 use Rattle.reader.proofs.Reader.store_whole.Tie as tie
+use Rattle.reader.proofs.Reader.store_whole.Reads as reads
+use Rattle.reader.proofs.Reader.store_whole.Lts as lts
+use Rattle.packing.proofs.bits.shifted.Reads as shifted-reads
 
-is-data-requires : tie.Need-is-data-requires
-is-data-requires c κs = search needs
+-- whether the bit is a data bit
+data-is : (c : lts.Joined1 (shifted-reads.Asked, shifted-reads.Learnt) reads.Pre reads.Post)
+    → c .if1 .is-data ≡ isData (c .before .before .args .bit) (c .before .before .args .self .ones)
+unfolding isData
+data-is c =
+    ⊎-elim (λ w. w .2 ∙ simp (w .0 .taken))
+    (⊎-elim (λ w. w .3 ∙ simp (w .0 .left, eq-eqb _ _ (w .2 .taken))) (λ w. w .4 ∙ simp (w .0 .left, ne-eqb _ _ (w .2 .left)))) (c .if1 .came)
 
 cast-at : tie.Need-cast-at
 cast-at c = search needs
@@ -22,31 +32,33 @@ same-length c = search needs
 returns : tie.Need-returns
 unfolding storeWhole fills
 returns c =
-    simp ((c .before .before .before .before .before .before .before .before .if1 .taken), ← (c .before .before .before .before .before .before .before .is-data .ensures), (c .before .before .before .before .before .before .if2 .taken), eq-eqb _ _ (c .before .before .before .before .if3 .taken), lt-ltb _ _ (c .before .before .if4 .taken), c .shifted .ensures)
+    let opened = c .before .before .before .before .before .before .before in
+    simp (opened .if3 .taken, ← data-is (opened .before), c .before .before .before .before .before .before .if4 .taken, eq-eqb _ _ (c .before .before .before .before .if5 .taken), lt-ltb _ _ (c .before .before .if6 .taken), c .shifted .ensures)
 
 returns-2 : tie.Need-returns-2
 unfolding storeWhole fills
 returns-2 c =
-    simp ((c .before .before .before .before .before .before .if1 .taken), ← (c .before .before .before .before .before .is-data .ensures), (c .before .before .before .before .if2 .taken), eq-eqb _ _ (c .before .before .if3 .taken), le-ltb _ _ (c .if4 .left))
+    let opened = c .before .before .before .before .before in
+    simp (opened .if3 .taken, ← data-is (opened .before), c .before .before .before .before .if4 .taken, eq-eqb _ _ (c .before .before .if5 .taken), le-ltb _ _ (c .if6 .left))
 
 returns-3 : tie.Need-returns-3
 unfolding storeWhole fills
 returns-3 c =
-    simp ((c .before .before .before .before .if1 .taken), ← (c .before .before .before .is-data .ensures), (c .before .before .if2 .taken), ne-eqb _ _ (c .if3 .left))
+    let opened = c .before .before .before in
+    simp (opened .if3 .taken, ← data-is (opened .before), c .before .before .if4 .taken, ne-eqb _ _ (c .if5 .left))
 
 returns-4 : tie.Need-returns-4
 unfolding storeWhole fills
-returns-4 c = simp ((c .before .before .if1 .taken), ← (c .before .is-data .ensures), (c .if2 .left))
+returns-4 c = simp (c .before .if3 .taken, ← data-is (c .before .before), c .if4 .left)
 
 returns-5 : tie.Need-returns-5
 unfolding storeWhole fills
-returns-5 c = simp (c .if1 .left)
+returns-5 c = simp (c .if3 .left)
 
 pub store-whole-spec : {M : Type 1} → statement M
 store-whole-spec =
     tie.close
     (tie.spec
-    is-data-requires
     cast-at
     shifted-requires
     slice-write-octets
