@@ -77,28 +77,28 @@ impl Terminal {
         self.alignment.in_range() && self.access.in_range()
     }
 
-    // Power on.
+    // Power on, barred with 5 outside F1; it finds the terminal unaligned.
     pub fn switch_on(self, now: Periods) -> TerminalStep
         ensures { λ r. ⌜ r ≡ spec.switchedOn now self ⌝ }
     {
         self.when(self.state == F1, 5, self.t3, Alignment::fresh(), 0, ON, now)
     }
 
-    // Power off.
+    // Power off, barred with 5 in F1; T3 is stopped.
     pub fn switch_off(self, now: Periods) -> TerminalStep
         ensures { λ r. ⌜ r ≡ spec.switchedOff now self ⌝ }
     {
         self.when(self.state != F1, 5, 0, self.alignment, 0, OFF, now)
     }
 
-    // `ar`, the request for activation.
+    // `ar`, the request for activation, barred with 5 where its cell is impossible or empty.
     pub fn request(self, now: Periods) -> TerminalStep
         ensures { λ r. ⌜ r ≡ spec.requested now self ⌝ }
     {
         self.when(true, 0, self.t3, self.alignment, 5, AR, now)
     }
 
-    // A frame of a class is handed over; its image has so many bits.
+    // A frame of a class is handed over, in F7 (else 6); its image has so many bits.
     pub fn hand_over(self, class: Class, length: u16) -> TerminalStep
         ensures { λ r. ⌜ r ≡ spec.handedOver class length self ⌝ }
     {
@@ -116,14 +116,14 @@ impl Terminal {
         }
     }
 
-    // The start of a period: T3, where it is due.
+    // The start of a period: T3, where it is due, is spent.
     pub fn timer_due(self, now: Periods) -> TerminalStep
         ensures { λ r. ⌜ r ≡ spec.timerDue now self ⌝ }
     {
         self.when(due(self.t3, now), 0, 0, self.alignment, 0, T3_DUE, now)
     }
 
-    // A period's downward line is heard.
+    // A period's downward line is heard; one in F1 hears nothing.
     pub fn hear(self, line: Downward, now: Periods) -> TerminalStep
         ensures { λ r. ⌜ r ≡ spec.heard line now self ⌝ }
     {

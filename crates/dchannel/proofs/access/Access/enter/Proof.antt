@@ -1,4 +1,4 @@
-use mathlib.Core.Path.{_≡_, refl}
+use mathlib.Core.Path.{refl}
 use Rattle.dchannel.specs.Access.{entered}
 use Rattle.dchannel.proofs.access.Access.enter.Statement.{statement}
 use Rattle.dchannel.proofs.access.Access.enter.Tie as tie

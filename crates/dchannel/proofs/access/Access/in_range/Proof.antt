@@ -1,4 +1,4 @@
-use mathlib.Core.Path.{_≡_, refl}
+use mathlib.Core.Path.{refl}
 use Rattle.dchannel.specs.Ranges.{accessInRange}
 use borrow.Author.Needs.{needs}
 use Rattle.dchannel.proofs.access.Access.in_range.Statement.{statement}

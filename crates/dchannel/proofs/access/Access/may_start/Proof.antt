@@ -1,5 +1,5 @@
 use native.Mathlib.Omega.{arith}
-use borrow.Author.Tests.{eq-eqb, ne-eqb}
+use borrow.Author.Tests.{ne-eqb}
 use Rattle.dchannel.proofs.Operators.{without-cond, byte-cond, byte-most}
 use Rattle.dchannel.specs.Access.{mayStart, threshold, lowOf}
 use borrow.Author.Needs.{needs}
