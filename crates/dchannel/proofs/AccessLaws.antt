@@ -1,6 +1,6 @@
 -- The sentences of document 01, "D access (6.1)", about one terminal's access, each a lemma over every record, for normal levels x1
 -- of class 1 and x2 of class 2.
-use mathlib.Core.Bool.{Bool, true, false, cond, true≢false}
+use mathlib.Core.Bool.{Bool, true, false, cond, true≢false, Bool·beq}
 use mathlib.Core.Path.{_≡_, refl, sym, ap, _∙_, subst}
 use mathlib.Core.Logic.{_↔_, _⊎_, inl, inr}
 use mathlib.Core.List.{List, [], _∷_, _++_}
@@ -26,6 +26,13 @@ use Rattle.dchannel.specs.declared.access.Turn.{Turn}
 pub same-refl : (b : Bool) → sameBit b b ≡ true
 same-refl true = refl
 same-refl false = refl
+
+-- Rattle's `a == b`
+pub same-beq : (a b : Bool) → sameBit a b ≡ Bool·beq a b
+same-beq true true = refl
+same-beq true false = refl
+same-beq false true = refl
+same-beq false false = refl
 
 pub same-equal : (b c : Bool) → sameBit b c ≡ true → b ≡ c
 same-equal true c e = sym e

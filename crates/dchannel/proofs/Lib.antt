@@ -1,4 +1,3 @@
 -- Theorems about a terminal's access: AccessLaws, RangesKept.
-pub mod Operators
 pub mod AccessLaws
 pub mod RangesKept

@@ -14,7 +14,7 @@ use Rattle.dchannel.specs.declared.access.Access.{Access}
 use Rattle.dchannel.specs.declared.access.Class.{Class}
 use Rattle.dchannel.specs.declared.access.Class.the-variants.{One, Two}
 use Rattle.dchannel.proofs.AccessLaws.{by-ways, count-most}
-use Rattle.dchannel.proofs.Operators.{and-both}
+use Rattle.cases.proofs.Operators.{and-both}
 
 -- what the range of an access record says
 pub record AccessFits (x2 : ℕ) (a : Access) : Type 0 where

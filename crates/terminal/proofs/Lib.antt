@@ -1,5 +1,3 @@
--- Every call leaves the record in its range (RangesKept); the calls against the steps that they check, notes and states (Laws);
--- tests as the code writes them (Operators).
-pub mod Operators
+-- Every call leaves the record in its range (RangesKept); the calls against the steps that they check, notes and states (Laws).
 pub mod RangesKept
 pub mod Laws

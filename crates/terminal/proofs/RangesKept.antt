@@ -1,11 +1,12 @@
 -- Every call leaves every field of a terminal in its range.
-use mathlib.Core.Path.{_≡_, refl}
-use mathlib.Core.Bool.{true}
+use mathlib.Core.Path.{_≡_, refl, sym}
+use mathlib.Core.Bool.{Bool, true, _&&_}
 use Prim.Native.Nat.{ℕ, _+_, _≤_}
 use native.Mathlib.Omega.{arith}
 use lib.Dec.{ltb, eqb}
 use borrow.Author.Tests.{le-ltb, ltb-false, leb-true}
 use Rattle.cases.proofs.ByCases.{by-test, both, neither}
+use Rattle.cases.proofs.Operators.{and-cond}
 use Rattle.cells.specs.Cells.{cellOf}
 use Rattle.cells.specs.declared.cell.Cell.{Cell}
 use Rattle.cells.specs.declared.cell.Cell.the-variants.{To, Stay, Impossible, Absent}
@@ -143,6 +144,11 @@ module _ (now : ℕ) (l : now ≤ mostPeriods) where
 pub ready-now : (now : Periods) (t : Terminal) → ready now t ≡ true → now .0 ≤ mostPeriods
 unfolding ready
 ready-now now t h = leb-true (now .0) mostPeriods (both (terminalInRange t) (periodsInRange now) h .1)
+
+-- Ready, as the code tests it.
+pub ready-both : (now : Periods) (t : Terminal) {a b : Bool} → a ≡ terminalInRange t → b ≡ periodsInRange now → ready now t ≡ (a && b)
+unfolding ready
+ready-both now t {a} {b} p q = rw (← p, ← q) (sym (and-cond a b))
 
 -- Every call.
 checked-in-range : (step : ℕ → Terminal → TerminalStep) → ((now : ℕ) → now ≤ mostPeriods → (t : Terminal) → TerminalFits t → StepFits (step now t)) →

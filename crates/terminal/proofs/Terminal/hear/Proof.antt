@@ -1,5 +1,5 @@
 use Rattle.terminal.specs.Terminal.{aligned, heardAs, hears, checked}
-use Rattle.terminal.proofs.Operators.{cond-not}
+use Rattle.cases.proofs.Operators.{cond-not}
 use borrow.Author.Needs.{needs}
 use Rattle.terminal.proofs.Terminal.hear.Statement.{statement}
 use Rattle.terminal.proofs.Terminal.hear.Tie as tie

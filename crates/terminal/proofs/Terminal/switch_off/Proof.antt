@@ -1,5 +1,5 @@
 use Rattle.terminal.specs.Terminal.{noTimer, switchesOff, checked}
-use Rattle.terminal.proofs.Operators.{cond-not}
+use Rattle.cases.proofs.Operators.{cond-not}
 use borrow.Author.Needs.{needs}
 use Rattle.terminal.proofs.Terminal.switch_off.Statement.{statement}
 use Rattle.terminal.proofs.Terminal.switch_off.Tie as tie

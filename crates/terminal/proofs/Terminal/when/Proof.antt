@@ -1,5 +1,5 @@
 use Rattle.terminal.specs.Terminal.{checked}
-use Rattle.terminal.proofs.Operators.{ready-both}
+use Rattle.terminal.proofs.RangesKept.{ready-both}
 use borrow.Author.Needs.{needs}
 use Rattle.terminal.proofs.Terminal.when.Statement.{statement}
 use Rattle.terminal.proofs.Terminal.when.Tie as tie

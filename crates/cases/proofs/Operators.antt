@@ -1,10 +1,9 @@
 -- Rattle's operators on bools, as the definitions write them.
-use mathlib.Core.Bool.{Bool, true, false, cond, not, _&&_, _||_, Bool·beq}
+use mathlib.Core.Bool.{Bool, true, false, cond, not, _&&_, _||_}
 use mathlib.Core.Path.{_≡_, refl}
 use Prim.Native.Nat.{ℕ, _≤_}
 use native.Mathlib.Omega.{arith}
 use mir.Val.{boolByte}
-use Rattle.hdlc.specs.Bits.{sameBit}
 
 -- `a | b`
 pub or-cond : (a b : Bool) → (a || b) ≡ cond a true b
@@ -25,13 +24,6 @@ pub without-cond : (a b : Bool) → (not a && b) ≡ cond a false b
 without-cond true b = refl
 without-cond false b = refl
 
--- `a == b`
-pub same-beq : (a b : Bool) → sameBit a b ≡ Bool·beq a b
-same-beq true true = refl
-same-beq true false = refl
-same-beq false true = refl
-same-beq false false = refl
-
 -- `a as u8`
 pub byte-cond : (a : Bool) → boolByte a ≡ cond {A = ℕ} a 1 0
 byte-cond true = refl
@@ -40,3 +32,8 @@ byte-cond false = refl
 pub byte-most : (a : Bool) → boolByte a ≤ 1
 byte-most true = omega arith
 byte-most false = omega arith
+
+-- `!a` in a choice
+pub cond-not : {X : Type 0} (b : Bool) (x y : X) → cond (not b) x y ≡ cond b y x
+cond-not true x y = refl
+cond-not false x y = refl
