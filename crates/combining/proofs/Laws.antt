@@ -25,6 +25,7 @@ use Rattle.combining.specs.Laws
 use Rattle.combining.proofs.Columns as columns
 use Rattle.combining.proofs.ByGroup as by-group
 use Rattle.combining.proofs.Senders as senders
+use Rattle.combining.proofs.Beside as beside
 
 only-small : (p q : Bool) → only p q ≤ minus
 only-small true true = omega arith
@@ -78,6 +79,9 @@ combined-d d ds = rw (by-group.combined-info3 d ds) (d-up (info3Fields (andAll (
 
 pub combined-sent : Laws.CombinedSent
 combined-sent = senders.combined-sent
+
+pub combined-calling : Laws.CombinedCalling
+combined-calling = beside.combined-calling
 
 pub combined-sent-d : Laws.CombinedSentD
 combined-sent-d = senders.combined-sent-d

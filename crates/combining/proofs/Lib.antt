@@ -3,4 +3,5 @@ pub mod Gather
 pub mod Columns
 pub mod ByGroup
 pub mod Senders
+pub mod Beside
 pub mod Laws

@@ -34,7 +34,7 @@ only-frames ds (frame d ∷ xs) h =
     ap combined (simp (map-append, append-assoc))
     ∙ (only-frames (ds ++ (d ∷ [])) xs h ∙ ap (λ (l : List Four). combined (map info3 l)) (append-assoc ds (d ∷ []) (frames xs)))
 
-of-frames : (ds : List Four) → combined (map info3 ds) ≡ framesLine ds
+pub of-frames : (ds : List Four) → combined (map info3 ds) ≡ framesLine ds
 unfolding combined isSent tabulate
 of-frames [] = refl
 of-frames (d ∷ ds) = combined-info3 d ds

@@ -14,7 +14,7 @@ use Rattle.frame.specs.Up.{upLine, groupSymbols, upGroups}
 use Rattle.frame.specs.declared.fields.Four.{Four}
 use Rattle.frame.specs.declared.fields.DownFields.{DownFields}
 use Rattle.frame.specs.declared.fields.UpFields.{UpFields}
-use Rattle.info.specs.Info.{info0, info3}
+use Rattle.info.specs.Info.{info0, info1, info3}
 use Rattle.combining.specs.Combine.{terminals, linesLength, combinedOver, combined, rows, laid, eight}
 use Rattle.combining.specs.Groups.{Combines, allOf, ofSender}
 use Rattle.combining.specs.Sent.{Sent, sentLine, sentD, anyCalling, frames, framesLine, heardWithInfo1}
@@ -66,6 +66,10 @@ CombinedD = (d : Four) (ds : List Four) → dBits (levels (combined (map info3 (
 -- Terminals that send INFO 0 or INFO 3: INFO 3 with the ANDs of those that send it, or INFO 0.
 abbrev pub CombinedSent : Type 0
 CombinedSent = (xs : List Sent) → anyCalling xs ≡ false → combined (map sentLine xs) ≡ framesLine (frames xs)
+
+-- Where any sends INFO 1: INFO 1 beside that line.
+abbrev pub CombinedCalling : Type 0
+CombinedCalling = (xs : List Sent) → anyCalling xs ≡ true → combined (map sentLine xs) ≡ combined (info1 ∷ framesLine (frames xs) ∷ [])
 
 -- The D bits at symbol level, whatever is sent: the ANDs, at position 25 inverted where INFO 1 is sent.
 abbrev pub CombinedSentD : Type 0

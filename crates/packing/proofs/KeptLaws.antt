@@ -18,7 +18,8 @@ use Rattle.packing.specs.Octets.{shifted, lastEight, WholeOctets, BitsKe
 unfoldable pub eighth : ℕ → ℕ → Bool
 eighth m n = cond (eqb (n % 8) 7) (ltb n (8 * m)) false
 
-shift-in : (x : Bool) (t : List Bool) (b : Bool) → length t ≡ 7 → numberLowFirst (t ++ (b ∷ [])) ≡ shifted (numberLowFirst (x ∷ t)) b
+-- one bit more: the oldest of eight falls out
+pub shift-in : (x : Bool) (t : List Bool) (b : Bool) → length t ≡ 7 → numberLowFirst (t ++ (b ∷ [])) ≡ shifted (numberLowFirst (x ∷ t)) b
 unfolding numberLowFirst shifted
 shift-in true t true h = rw (number-snoc t true, h) (omega arith)
 shift-in true t false h = rw (number-snoc t false) (omega arith)

@@ -9,11 +9,11 @@ ghost use Rattle.packing.specs.Packing.{filledOctets, onto, packedBit, i
 ghost use Rattle.packing.specs.Packer.{putBit, putBitOctets, putBits, putBitsOctets};
 
 // The most octets of a body.
-const LONGEST_BODY: usize = 266;
+pub const LONGEST_BODY: usize = 266;
 // Its bits.
 const BODY_BITS: usize = 8 * LONGEST_BODY;
 // The octets that the longest image takes: two flags, the body's bits, and a 0 for every five of them.
-const IMAGE_ROOM: usize = (16 + BODY_BITS + BODY_BITS / 5 + 7) / 8;
+pub const IMAGE_ROOM: usize = (16 + BODY_BITS + BODY_BITS / 5 + 7) / 8;
 // A flag's bits as an octet.
 const FLAG: u8 = 126;
 // The weights of an octet's bits, low-order bit first.
