@@ -1,0 +1,172 @@
+-- Refusals 5 to 8 of an event are the replies of the calls of `network` and `terminal`, which go by the tables' cells and by the access record.
+use mathlib.Core.Path.{_≡_, refl, sym, _∙_}
+use mathlib.Core.Bool.{true, false, cond, not, _&&_, _||_}
+use mathlib.Core.List.{List, [], _∷_}
+use Prim.Native.Nat.{ℕ, _-_, _≤_}
+use lib.Dec.{eqb, ltb}
+use lib.ListN.{length}
+use borrow.Author.Tests.{eqb-true}
+use Rattle.cases.proofs.ByCases.{by-test, clash}
+use Rattle.cases.proofs.Operators.{cond-not}
+use Rattle.symbols.specs.Symbols.{lineLength, fits}
+use Rattle.combining.specs.Hit.{noneLetter}
+use Rattle.cells.specs.Cells.{rowOf, cellOf, barsRequest}
+use Rattle.cells.specs.declared.cell.Cell.{Cell}
+use Rattle.cells.specs.declared.cell.Cell.the-variants.{To, Stay, Impossible, Absent}
+use Rattle.cells.proofs.Everywhere.{at-state}
+use Rattle.cells.proofs.NextState.{alike, alike-is}
+use Rattle.hdlc.specs.Image.{image, isBody}
+use Rattle.hdlc.proofs.ImageLaws.{is-body}
+use Rattle.dchannel.specs.Handing.{handed}
+use Rattle.dchannel.specs.declared.access.Class.{Class}
+use Rattle.dchannel.proofs.AccessLaws.{image-fits}
+use Rattle.table_6_2.specs.Table62.{table62, F1, F2, F4, F5, F7, F8}
+use Rattle.table_6_2.specs.Table62 as table62
+use Rattle.table_6_3.specs.Table63.{table63, G1, G2, G3, G4}
+use Rattle.table_6_3.specs.Table63 as table63
+use Rattle.network.specs.Network as network
+use Rattle.network.specs.declared.Network.{Network}
+use Rattle.network.proofs.RangesKept.{network-fits}
+use Rattle.terminal.specs.Terminal as terminal
+use Rattle.terminal.specs.declared.Terminal.{Terminal}
+use Rattle.terminal.proofs.Laws.{handed-over-called}
+use Rattle.terminal.proofs.RangesKept.{terminal-fits}
+use Rattle.bus.specs.Bus.{Bus, terminals}
+use Rattle.bus.specs.Event.{ON, OFF, AR, DR, D1, D2, HIT, among, seatOf, classOf, eventFor, barsNetwork, barsTerminal, bars, givesFrame, reasons, firstOf, refusal, networkDoes, terminalDoes}
+use Rattle.bus.specs.Ranges.{InRange}
+use Rattle.bus.proofs.Ranges.{either-zero}
+
+-- ---- requests: the reply is 5 at an impossible or an empty cell
+network-reply : (k : ℕ) (c : Cell) (now : ℕ) (n : Network) → network.acts k c now n .reply ≡ cond (barsRequest c) k 0
+unfolding network.acts
+network-reply k (To next action notes) now n = refl
+network-reply k (Stay notes) now n = refl
+network-reply k Impossible now n = refl
+network-reply k Absent now n = refl
+
+terminal-reply : (k : ℕ) (c : Cell) (now : ℕ) (t : Terminal) → terminal.acts k c now t .reply ≡ cond (barsRequest c) k 0
+unfolding terminal.acts
+terminal-reply k (To next action notes) now t = refl
+terminal-reply k (Stay notes) now t = refl
+terminal-reply k Impossible now t = refl
+terminal-reply k Absent now t = refl
+
+-- which cells those are, state by state
+terminal-ar : (s : ℕ) → F1 ≤ s → s ≤ F8 → barsRequest (cellOf table62 table62.AR s) ≡ among s (F1 ∷ F2 ∷ F4 ∷ F5 ∷ F7 ∷ [])
+terminal-ar s low high =
+    alike-is _ _ (at-state (λ s c. alike (barsRequest c) (among s (F1 ∷ F2 ∷ F4 ∷ F5 ∷ F7 ∷ []))) (rowOf table62 table62.AR) refl s low high)
+
+network-ar : (s : ℕ) → G1 ≤ s → s ≤ G4 → barsRequest (cellOf table63 table63.AR s) ≡ among s (G2 ∷ G3 ∷ [])
+network-ar s low high = alike-is _ _ (at-state (λ s c. alike (barsRequest c) (among s (G2 ∷ G3 ∷ []))) (rowOf table63 table63.AR) refl s low high)
+
+network-dr : (s : ℕ) → G1 ≤ s → s ≤ G4 → barsRequest (cellOf table63 table63.DR s) ≡ among s (G1 ∷ G4 ∷ [])
+network-dr s low high = alike-is _ _ (at-state (λ s c. alike (barsRequest c) (among s (G1 ∷ G4 ∷ []))) (rowOf table63 table63.DR) refl s low high)
+
+pub network-bars : (number now : ℕ) (n : Network) → network.networkInRange n ≡ true → (eqb number AR || eqb number DR) ≡ true →
+    networkDoes number now n .reply ≡ cond (barsNetwork number (n .state)) 5 0
+unfolding networkDoes network.requests network.happens barsNetwork
+network-bars number now n h k =
+    let f = network-fits n h in
+    by-test (eqb number AR)
+    (λ t. rw (t, network-reply 5 (cellOf table63 table63.AR (n .state)) now n, network-ar (n .state) (f .from-G1) (f .to-G4)))
+    (λ t.
+    let d : eqb number DR ≡ true = rw t at k in
+    rw (t, d, network-reply 5 (cellOf table63 table63.DR (n .state)) now n, network-dr (n .state) (f .from-G1) (f .to-G4)))
+
+-- power: the reply is 0 at every cell
+terminal-happens : (e now : ℕ) (t : Terminal) → terminal.happens 0 e now t .reply ≡ 0
+unfolding terminal.happens
+terminal-happens e now t = terminal-reply 0 (cellOf table62 e (t .state)) now t ∙ either-zero (barsRequest (cellOf table62 e (t .state)))
+
+pub terminal-bars : (number now : ℕ) (t : Terminal) → terminal.terminalInRange t ≡ true → (eqb number ON || eqb number OFF || eqb number AR) ≡ true →
+    terminalDoes number now t .reply ≡ cond (barsTerminal number (t .state)) 5 0
+unfolding terminalDoes terminal.switchesOn terminal.switchesOff terminal.requests barsTerminal
+terminal-bars number now t h k =
+    by-test (eqb number ON)
+    (λ u. rw u (by-test (eqb (t .state) F1) (λ s. rw s (terminal-happens table62.ON now _)) (λ s. rw s)))
+    (λ u.
+    by-test (eqb number OFF)
+    (λ v. rw (u, v) (by-test (eqb (t .state) F1) (λ s. rw s) (λ s. rw s (terminal-happens table62.OFF now _))))
+    (λ v. let a : eqb number AR ≡ true = rw (u, v) at k in rw (u, v, a) (requests-bars now t h)))
+  where
+    requests-bars : (now : ℕ) (t : Terminal) → terminal.terminalInRange t ≡ true →
+        terminal.happens 5 table62.AR now t .reply ≡ cond (among (t .state) (F1 ∷ F2 ∷ F4 ∷ F5 ∷ F7 ∷ [])) 5 0
+    requests-bars now t h =
+        let f = terminal-fits t h in
+        unfold terminal.happens in
+        rw (terminal-reply 5 (cellOf table62 table62.AR (t .state)) now t, terminal-ar (t .state) (f .from-F1) (f .to-F8))
+
+-- ---- a frame with a body: 6 outside F7, 8 where one is held
+pub frame-reply : (class : Class) (body : List ℕ) (t : Terminal) → terminal.terminalInRange t ≡ true → isBody body ≡ true →
+    terminal.handedOver class (length (image body)) t .reply ≡ cond (eqb (t .state) F7) (cond (eqb (t .access .held) 0) 0 8) 6
+unfolding terminal.handsOver terminal.holding handed
+frame-reply class body t h k =
+    rw (handed-over-called class (length (image body)) t h)
+    (by-test (eqb (t .state) F7)
+    (λ s. rw (s, image-fits body (is-body body k)) (by-test (eqb (t .access .held) 0) (λ u. rw u) (λ u. rw u)))
+    (λ s. rw s))
+
+-- ---- the refusal of an event that is one for its unit, with letters that fit
+-- a property of each of some numbers is one of a number that is among them
+abbrev OfEach : (ℕ → Type 0) → List ℕ → Type 0
+OfEach P [] = Unit
+OfEach P (x ∷ xs) = P x × OfEach P xs
+
+at-among : (P : ℕ → Type 0) (n : ℕ) (xs : List ℕ) → among n xs ≡ true → OfEach P xs → P n
+at-among P n [] h ps = clash false h refl
+at-among P n (x ∷ xs) h ps = by-test (eqb n x) (λ t. rw (eqb-true n x t) (ps .0)) (λ t. at-among P n xs (rw t at h) (ps .1))
+
+-- what the calls reply; 7 comes between 6 and 8 where the value is no body
+unfoldable pub frameReply : List ℕ → Terminal → ℕ
+frameReply value t = cond (eqb (t .state) F7) (cond (isBody value) (cond (eqb (t .access .held) 0) 0 8) 7) 6
+
+unfoldable pub replied : Bus → ℕ → ℕ → List ℕ → ℕ
+replied b unit number value =
+    cond (eqb unit 0)
+    (cond (eqb number HIT) 0 (networkDoes number (b .periods) (b .network) .reply))
+    (cond (eqb (classOf number) 0) (terminalDoes number (b .periods) (seatOf b unit .terminal) .reply) (frameReply value (seatOf b unit .terminal)))
+
+frame-reasons : (value : List ℕ) (t : Terminal) →
+    cond (not (eqb (t .state) F7)) 6 (cond (not (isBody value)) 7 (cond (not (eqb (t .access .held) 0)) 8 0)) ≡ frameReply value t
+unfolding frameReply
+frame-reasons value t = simp cond-not
+
+module _ (b : Bus) (r : InRange b) (unit : ℕ) (value : List ℕ) where
+  -- the reasons from 5 on
+  abbrev from5 : ℕ → ℕ
+  from5 number =
+      firstOf 5
+      (bars b unit number
+      ∷ (givesFrame number && not (eqb (seatOf b unit .terminal .state) F7))
+      ∷ (givesFrame number && not (isBody value))
+      ∷ (givesFrame number && not (eqb (seatOf b unit .terminal .access .held) 0))
+      ∷ [])
+
+  network-replies : eqb unit 0 ≡ true → (number : ℕ) → among number (AR ∷ DR ∷ HIT ∷ []) ≡ true → from5 number ≡ replied b unit number value
+  unfolding firstOf bars replied classOf barsNetwork
+  network-replies t number k =
+      at-among (λ number. from5 number ≡ replied b unit number value) number (AR ∷ DR ∷ HIT ∷ []) k (
+        rw t (sym (network-bars AR (b .periods) (b .network) (r .network-fits) refl)),
+        (rw t (sym (network-bars DR (b .periods) (b .network) (r .network-fits) refl)), (rw t, tt)),
+      )
+
+  does-replies : (number : ℕ) → (eqb number ON || eqb number OFF || eqb number AR) ≡ true →
+      cond (barsTerminal number (seatOf b unit .terminal .state)) 5 0 ≡ terminalDoes number (b .periods) (seatOf b unit .terminal) .reply
+  does-replies number k = sym (terminal-bars number (b .periods) (seatOf b unit .terminal) (r .terminals-fit (unit - 1)) k)
+
+  terminal-replies : eqb unit 0 ≡ false → (number : ℕ) → among number (ON ∷ OFF ∷ AR ∷ D1 ∷ D2 ∷ []) ≡ true → from5 number ≡ replied b unit number value
+  unfolding firstOf bars replied classOf barsTerminal
+  terminal-replies t number k =
+      let frame = frame-reasons value (seatOf b unit .terminal) in
+      at-among (λ number. from5 number ≡ replied b unit number value) number (ON ∷ OFF ∷ AR ∷ D1 ∷ D2 ∷ []) k
+      (rw t (does-replies ON refl), (rw t (does-replies OFF refl), (rw t (does-replies AR refl), (rw t frame, (rw t frame, tt)))))
+
+  -- Where none of the reasons 2 to 4 holds, the refusal is what the calls reply.
+  pub refusal-replied : (number : ℕ) → (eqb number HIT && not (fits lineLength noneLetter value)) ≡ false → ltb terminals unit ≡ false →
+      eventFor unit number ≡ true → refusal b unit number value ≡ replied b unit number value
+  unfolding refusal reasons firstOf eventFor
+  refusal-replied number letters known for-unit =
+      rw (letters, known, for-unit)
+      (by-test (eqb unit 0)
+      (λ t. network-replies t number (rw t at for-unit))
+      (λ t. terminal-replies t number (rw t at for-unit)))

@@ -1,0 +1,313 @@
+-- Demand 3 of the bus, from demand 3 of the D channel.
+use mathlib.Core.Path.{_≡_, refl, sym, ap, _∙_}
+use mathlib.Core.Bool.{Bool, true}
+use mathlib.Core.List.{List, [], _∷_, _++_, map, append-assoc}
+use Prim.Native.Nat.{ℕ, zero, suc, _+_, _≤_, _<_}
+use native.Mathlib.Nat.{add-zero, zero-add}
+use native.Mathlib.Omega.{arith}
+use lib.Dec.{eqb}
+use lib.ListN.{length, getD, length-map, List·getD-map}
+use borrow.Author.Tests.{eqb-true, eq-eqb}
+use Rattle.cases.proofs.ByCases.{by-test}
+use Rattle.table_6_2.specs.Table62.{F1, F7}
+use Rattle.hdlc.specs.Image.{image}
+use Rattle.hdlc.specs.Reading.Said.{heard}
+use Rattle.dchannel.specs.Access.{normal1, normal2}
+use Rattle.dchannel.proofs.AccessLaws.{length-most}
+use Rattle.contention.specs.Channel.{Channel, Action, freshChannel, turnAt, run}
+use Rattle.contention.specs.Stretch as channel
+use Rattle.contention.specs.Claims as channelClaims
+use Rattle.contention.proofs.Crossing.{station-map}
+use Rattle.contention.proofs.Demand3.{demand3-from}
+use Rattle.contention.proofs.OpeningFlag as flag
+use Rattle.bus.specs.Bus.{Seat, Bus, terminals, freshSeat, freshBus}
+use Rattle.bus.specs.Exchange.{Moment, inF7, seatsOf, turnOf, turned, eComes, saidTo, onward, begins}
+use Rattle.bus.specs.Calls.{Call, reply, after, notes, ran, allNotes}
+use Rattle.bus.specs.Calls.Call.{event, period}
+use Rattle.bus.specs.Stretch.{seatAt, Stretch, momentsOf, moments, seatThen, Waits, Completes, Begins, buses, powered, poweredFrom, poweredIn, longestOf, longestIn}
+use Rattle.bus.specs.Claims.{nowhere, at, opps, NoRivalTwice, WaitEnds, NoStopInFlag, BegunSince, HeardInOrder, PartOfList, Demand3}
+use Rattle.bus.proofs.Seats.{Each, each-begins, each-onward, length-ran}
+use Rattle.bus.proofs.Mapping.{stationOf, stationsOf, channelOf, channelAt, turn-is}
+use Rattle.bus.proofs.Simulation.{chain, four-in-chain, allActions, calls-channel}
+use Rattle.bus.proofs.Always.{always-imaged, always-invariant}
+use Rattle.bus.proofs.Stretches.{Faithful, Every, empty, also, every-append, faithful, calls-stretch, calls-opportunities}
+use Rattle.bus.proofs.Telling.{all-tell}
+
+every-at : {P : Moment → Type 0} {ms : List Moment} → Every P ms → (t : ℕ) → t < length ms → P (at ms t)
+every-at empty t h = absurd (omega arith)
+every-at (also p ps) zero h = p
+every-at (also p ps) (suc t) h = every-at ps t (omega arith)
+
+-- ---- the words of the bus and those of the channel, at an undisturbed opportunity
+station-then : (i : ℕ) (m : Moment) → channel.station i (channelAt m) ≡ stationOf (seatThen i m)
+unfolding channelAt seatThen
+station-then i m = station-map stationOf freshSeat refl (channelAt m) (seatsOf (m .senders)) refl i
+
+body-then : (i : ℕ) (m : Moment) → channel.station i (channelAt m) .body ≡ seatThen i m .body
+body-then i m = rw (station-then i m)
+
+turn-then : (i : ℕ) (m : Moment) → Faithful m → turnAt normal1 normal2 (channelAt m .heardD) (channel.station i (channelAt m)) ≡ turnOf (eComes m) (seatThen i m)
+unfolding channelAt seatThen
+turn-then i m f = rw (station-then i m, f .e-is) (sym (turn-is (m .heardD) (seatThen i m) (f .imaged i)))
+
+active-then : (i : ℕ) (m : Moment) → seatThen i m .terminal .state ≡ F7 → channel.station i (channelAt m) .active ≡ true
+active-then i m h = rw (station-then i m) (eq-eqb (seatThen i m .terminal .state) F7 h)
+
+active-back : (i : ℕ) (m : Moment) → channel.station i (channelAt m) .active ≡ true → seatThen i m .terminal .state ≡ F7
+active-back i m h = eqb-true (seatThen i m .terminal .state) F7 (rw (station-then i m) at h)
+
+waits-to : (k i : ℕ) (m : Moment) → Waits k i m → channel.Waits k i (channelAt m)
+waits-to k i m w =
+    record {
+      in-F7 = active-then i m (w .in-F7);
+      holds = rw (station-then i m) (w .holds);
+      normal = rw (station-then i m) (w .normal);
+    }
+
+completes-to : (k i : ℕ) (m : Moment) → Faithful m → Completes k i m → channel.Completes normal1 normal2 k i (channelAt m)
+completes-to k i m f c = record { in-F7 = active-then i m (c .in-F7); done = rw (turn-then i m f) (c .done) }
+
+completes-back : (k i : ℕ) (m : Moment) → Faithful m → channel.Completes normal1 normal2 k i (channelAt m) → Completes k i m
+completes-back k i m f c = record { in-F7 = active-back i m (c .in-F7); done = rw (turn-then i m f) at (c .done) }
+
+begins-to : (i : ℕ) (m : Moment) → Faithful m → Begins i m → channel.Begins normal1 normal2 i (channelAt m)
+begins-to i m f b =
+    record { in-F7 = active-then i m (b .in-F7); idle = rw (station-then i m) (b .idle); first = rw (turn-then i m f) (b .first) }
+
+begins-back : (i : ℕ) (m : Moment) → Faithful m → channel.Begins normal1 normal2 i (channelAt m) → Begins i m
+begins-back i m f b =
+    record { in-F7 = active-back i m (b .in-F7); idle = rw (station-then i m) at (b .idle); first = rw (turn-then i m f) at (b .first) }
+
+said-then : (m : Moment) → Faithful m → saidTo m ≡ channel.saidAt normal1 normal2 (channelAt m)
+unfolding saidTo channel.saidAt channelAt
+said-then m f = rw (f .reads, f .d-is)
+
+-- ---- n: who is in F7 at the end is powered at some time
+powered-last : (i : ℕ) (b : Bus) (calls : List Call) → inF7 (seatAt i (ran b calls)) ≡ true → powered i (buses b calls) ≡ true
+unfolding ran buses powered
+powered-last i b [] h = rw (eqb-true (seatAt i b .terminal .state) F7 h)
+powered-last i b (c ∷ more) h =
+    by-test (eqb (seatAt i b .terminal .state) F1) (λ t. rw t (powered-last i (after b c) more h)) (λ t. rw t)
+
+active-at-most : (ss : List Seat) (k : ℕ) (bs : List Bus) → ((i : ℕ) → inF7 (getD ss i freshSeat) ≡ true → powered (k + i) bs ≡ true) →
+    channel.activeCount (stationsOf ss) ≤ poweredFrom k (length ss) bs
+unfolding channel.howMany poweredFrom
+active-at-most [] k bs h = omega arith
+active-at-most (s ∷ ss) k bs h =
+    let rest = active-at-most ss (suc k) bs (λ i e. rw (suc-shift k i) (h (suc i) e)) in
+    by-test (inF7 s) (λ t. rw (t, rw (add-zero k) at (h 0 t)) (omega arith)) (λ t. rw t (omega arith))
+  where
+    suc-shift : (a b : ℕ) → suc a + b ≡ a + suc b
+    suc-shift a b = omega arith
+
+active-powered : (b : Bus) (calls : List Call) → length (b .seats) ≡ terminals →
+    channel.activeCount (stationsOf (ran b calls .seats)) ≤ poweredIn (buses b calls)
+unfolding poweredIn seatAt
+active-powered b calls h =
+    rw (length-ran b calls ∙ h) at (active-at-most (ran b calls .seats) 0 (buses b calls) (λ i e. rw (zero-add i) (powered-last i b calls e)))
+
+-- ---- L: every image held at an opportunity is held where its period begins
+abbrev AtMost : ℕ → Seat → Type 0
+AtMost L s = s .terminal .access .length ≤ L
+
+abbrev AllAtMost : ℕ → Moment → Type 0
+AllAtMost L m = Each (AtMost L) (seatsOf (m .senders))
+
+turn-at-most : (e : Bool) (s : Seat) → turnOf e s .access .length ≤ s .terminal .access .length
+unfolding turnOf
+turn-at-most e s = length-most normal1 normal2 e _ (s .terminal .access)
+
+turned-at-most : (L : ℕ) (e : Bool) (s : Seat) → AtMost L s → AtMost L (turned e s)
+unfolding turned
+turned-at-most L e s h = by-test (inF7 s) (λ t. rw t (omega (arith, turn-at-most e s, h))) (λ t. rw t h)
+
+longest-at-most : (L : ℕ) (ss : List Seat) → longestOf ss ≤ L → Each (AtMost L) ss
+unfolding longestOf
+longest-at-most L [] h i = omega arith
+longest-at-most L (s ∷ ss) h zero = omega arith
+longest-at-most L (s ∷ ss) h (suc i) = longest-at-most L ss (omega arith) i
+
+chain-at-most : (L n : ℕ) (m : Moment) → AllAtMost L m → Every (AllAtMost L) (chain n m)
+unfolding chain
+chain-at-most L zero m h = empty
+chain-at-most L (suc n) m h = also h (chain-at-most L n (onward m) (each-onward (AtMost L) (turned-at-most L) m h))
+
+call-at-most : (L : ℕ) (b : Bus) (c : Call) → Each (AtMost L) (b .seats) → Every (AllAtMost L) (momentsOf b c)
+unfolding momentsOf
+call-at-most L b (event unit number value) h = empty
+call-at-most L b period h =
+    by-test (eqb (reply b period) 0)
+    (λ t. rw (t, four-in-chain b) (chain-at-most L 4 (begins b) (each-begins (AtMost L) (turned-at-most L) b h)))
+    (λ t. rw t empty)
+
+calls-at-most : (L : ℕ) (b : Bus) (calls : List Call) → longestIn (buses b calls) ≤ L → Every (AllAtMost L) (moments b calls)
+unfolding moments buses longestIn
+calls-at-most L b [] h = empty
+calls-at-most L b (c ∷ more) h =
+    every-append (call-at-most L b c (longest-at-most L (b .seats) (omega arith))) (calls-at-most L (after b c) more (omega arith))
+
+-- ---- a stretch as a part of the list
+moments-append : (b : Bus) (xs ys : List Call) → moments b (xs ++ ys) ≡ moments b xs ++ moments (ran b xs) ys
+unfolding ran moments
+moments-append b [] ys = refl
+moments-append b (c ∷ more) ys =
+    rw (moments-append (after b c) more ys) (sym (append-assoc (momentsOf b c) (moments (after b c) more) (moments (ran (after b c) more) ys)))
+
+notes-append : (b : Bus) (xs ys : List Call) → allNotes b (xs ++ ys) ≡ allNotes b xs ++ allNotes (ran b xs) ys
+unfolding ran allNotes
+notes-append b [] ys = refl
+notes-append b (c ∷ more) ys =
+    rw (notes-append (after b c) more ys) (sym (append-assoc (notes b c) (allNotes (after b c) more) (allNotes (ran (after b c) more) ys)))
+
+part-of-list : (before during later : List Call) → PartOfList before during later
+part-of-list before during later =
+    record {
+      in-moments = rw (moments-append freshBus before (during ++ later), moments-append (ran freshBus before) during later);
+      in-notes = rw (notes-append freshBus before (during ++ later), notes-append (ran freshBus before) during later);
+    }
+
+-- ---- the theorem
+nowhere-channel : channelAt nowhere ≡ freshChannel 0
+unfolding channelAt freshChannel
+nowhere-channel = refl
+
+module _ (before during : List Call) (stretch : Stretch (ran freshBus before) during) where
+  -- the bus where the stretch begins, and the stretch's D opportunities
+  abbrev b : Bus
+  b = ran freshBus before
+
+  abbrev here : List Moment
+  here = opps before during
+
+  abbrev then : ℕ → Moment
+  then t = at here t
+
+  -- the same of the channel
+  abbrev c : Channel
+  c = channelOf b
+
+  abbrev actions : List Action
+  actions = allActions b during
+
+  abbrev there : List Channel
+  there = channelClaims.opps normal1 normal2 c actions
+
+  abbrev thenThere : ℕ → Channel
+  thenThere t = channelClaims.at there t
+
+  stretch-there : channel.Stretch normal1 normal2 c actions
+  stretch-there = calls-stretch b during (always-imaged before) stretch
+
+  parts : channelClaims.ThreeParts normal1 normal2 c actions
+  parts = demand3-from normal1 normal2 c actions (omega arith) (omega arith) (always-invariant before) stretch-there
+
+  same-opps : there ≡ map channelAt here
+  same-opps = calls-opportunities b during (always-imaged before)
+
+  same-at : (t : ℕ) → thenThere t ≡ channelAt (then t)
+  same-at t = rw (same-opps, ← nowhere-channel) (List·getD-map channelAt here t nowhere)
+
+  same-length : length there ≡ length here
+  same-length = rw same-opps (length-map here channelAt)
+
+  true-at : (t : ℕ) → t < length here → Faithful (then t)
+  true-at t h = every-at (faithful b during (always-imaged before) stretch) t h
+
+  -- the words at opportunity t
+  waits-at : (k i t : ℕ) → Waits k i (then t) → channel.Waits k i (thenThere t)
+  waits-at k i t w = rw (same-at t) (waits-to k i (then t) w)
+
+  completes-at : (k i t : ℕ) → t < length here → Completes k i (then t) → channel.Completes normal1 normal2 k i (thenThere t)
+  completes-at k i t h d = rw (same-at t) (completes-to k i (then t) (true-at t h) d)
+
+  completes-from : (k i t : ℕ) → t < length here → channel.Completes normal1 normal2 k i (thenThere t) → Completes k i (then t)
+  completes-from k i t h d = completes-back k i (then t) (true-at t h) (rw (same-at t) at d)
+
+  begins-at : (i t : ℕ) → t < length here → Begins i (then t) → channel.Begins normal1 normal2 i (thenThere t)
+  begins-at i t h d = rw (same-at t) (begins-to i (then t) (true-at t h) d)
+
+  begins-from : (i t : ℕ) → t < length here → channel.Begins normal1 normal2 i (thenThere t) → Begins i (then t)
+  begins-from i t h d = begins-back i (then t) (true-at t h) (rw (same-at t) at d)
+
+  body-at : (i t : ℕ) → channel.station i (thenThere t) .body ≡ seatThen i (then t) .body
+  body-at i t = rw (same-at t) (body-then i (then t))
+
+  said-at : (t : ℕ) → t < length here → saidTo (then t) ≡ channel.saidAt normal1 normal2 (thenThere t)
+  said-at t h = rw (same-at t) (said-then (then t) (true-at t h))
+
+  no-rival-twice : NoRivalTwice before during
+  no-rival-twice i j k p q other some later last cp cq waits not-done =
+      parts .no-rival-twice i j k p q other some later (rw same-length last) (completes-at k j p (omega arith) cp) (completes-at k j q last cq)
+      (λ t x y. waits-at k i t (waits t x y)) (λ t x y d. not-done t x y (completes-from k i t (omega arith) d))
+
+  abbrev n : ℕ
+  n = poweredIn (buses b during)
+
+  abbrev L : ℕ
+  L = longestIn (buses b during)
+
+  images-at-most : (t : ℕ) → t < length there → channel.ImagesAtMost L (thenThere t)
+  unfolding seatThen
+  images-at-most t h i =
+      rw (same-at t, station-then i (then t))
+      (every-at (calls-at-most L b during (omega arith)) t (rw same-length at h) i)
+
+  active-at-end : channel.activeCount (run normal1 normal2 c actions .stations) ≤ n
+  unfolding channelOf
+  active-at-end =
+      rw (← calls-channel b during (always-imaged before)) (active-powered b during (length-ran freshBus before))
+
+  wait-ends : WaitEnds before during
+  wait-ends i p waits long =
+      let w = parts .wait-ends n L i p active-at-end images-at-most (waits-at 1 i p waits) (rw same-length long) in
+      record {
+        when = w .when;
+        after = w .after;
+        within = w .within;
+        completed = completes-from 1 i (w .when) (omega (arith, w .within)) (w .completed);
+        same-frame = λ t x y d. w .same-frame t x y (completes-at 1 i t (omega (arith, w .within)) d);
+        same-body = sym (body-at i (w .when)) ∙ (w .same-body ∙ body-at i p);
+      }
+
+  begun-since : (p j u : ℕ) → u < length here → channelClaims.BegunSince normal1 normal2 c actions p j u → BegunSince before during p j u
+  begun-since p j u h r =
+      record {
+        when = r .when;
+        since = r .since;
+        begins = begins-from j (r .when) (omega (arith, r .bits-since)) (r .begins);
+        same-body = sym (body-at j (r .when)) ∙ (r .same-body ∙ body-at j u);
+        bits-since = rw (body-at j u) at (r .bits-since);
+      }
+
+  heard-in-order : HeardInOrder before during
+  heard-in-order j p t begins late inside =
+      let h = parts .heard-in-order j p t (begins-at j p (omega arith) begins) late (rw same-length inside) in
+      record {
+        heard-completed = λ body e.
+            let r = h .heard-completed body (sym (said-at t (omega arith)) ∙ e) in
+            (r .0, r .1, r .2, completes-from (r .1) (r .0) (t + 1) inside (r .3), sym (body-at (r .0) (t + 1)) ∙ r .4);
+        completed-heard = λ i k some d.
+            said-at t (omega arith) ∙ (h .completed-heard i k some (completes-at k i (t + 1) inside d) ∙ ap heard (body-at i (t + 1)));
+        begun = λ i k some d. begun-since p i (t + 1) inside (h .begun i k some (completes-at k i (t + 1) inside d));
+        not-torn = λ e. h .not-torn (sym (said-at t (omega arith)) ∙ e);
+      }
+
+  sent-then : (j t : ℕ) → channel.station j (thenThere t) .access .sent ≡ seatThen j (then t) .terminal .access .sent
+  sent-then j t = rw (same-at t, station-then j (then t))
+
+  no-stop-in-flag : NoStopInFlag before during
+  no-stop-in-flag j p s begins few inside =
+      sym (sent-then j (p + s))
+      ∙ flag.no-stop-in-flag normal1 normal2 c actions (omega arith) (omega arith) (always-invariant before) stretch-there j p s
+      (begins-at j p (omega arith) begins) few (rw same-length inside)
+
+pub demand3 : Demand3
+demand3 before during later stretch =
+    record {
+      part-of-list = part-of-list before during later;
+      told = all-tell (ran freshBus before) during;
+      no-rival-twice = no-rival-twice before during stretch;
+      wait-ends = wait-ends before during stretch;
+      heard-in-order = heard-in-order before during stretch;
+      no-stop-in-flag = no-stop-in-flag before during stretch;
+    }

@@ -1,0 +1,250 @@
+-- The laws of `specs/Exists.antt`: a bus with terminals in F7 goes on as it is, for as many periods as wanted.
+use mathlib.Core.Path.{_≡_, refl, sym, _∙_}
+use mathlib.Core.Bool.{Bool, true, false, not, _&&_, _||_, true≢false}
+use mathlib.Core.List.{List, [], _∷_}
+use Prim.Native.Nat.{ℕ, zero, suc, _+_}
+use native.Mathlib.Omega.{arith}
+use lib.Dec.{eqb, leb}
+use lib.ListN.{getD, replicate}
+use borrow.Author.Tests.{eqb-true, not-true, lt-leb}
+use Rattle.cases.proofs.ByCases.{by-test, and-left, and-right}
+use Rattle.cells.specs.Cells.{cellIn, infoIn}
+use Rattle.table_6_2.specs.Table62.{F1, F7}
+use Rattle.table_6_2.specs.Table62 as table62
+use Rattle.table_6_3.specs.Table63.{G3}
+use Rattle.timing.specs.Counts.{mostPeriods}
+use Rattle.timing.specs.Timers.{due}
+use Rattle.alignment.specs.Alignment.{framedPeriod, followed}
+use Rattle.hearing.specs.Heard.{downwardEvent, upwardEvent, lossUp}
+use Rattle.hearing.specs.Sensing.{shownUp, shownDown}
+use Rattle.network.specs.Network as network
+use Rattle.network.specs.declared.Network.{Network}
+use Rattle.terminal.specs.Terminal as terminal
+use Rattle.bus.specs.Bus.{Seat, Hit, Bus, freshSeat, freshBus}
+use Rattle.bus.specs.Bus.Hit.{none, given}
+use Rattle.bus.specs.Exchange.{seatsOf, anyInfo1, anyInfo3, turned, onward, begins, opportunitiesOf, exchanged, wholeDown, wholeUp, lineDown, inF7}
+use Rattle.bus.specs.Period.{networkHears, terminalHears, stepped, heardBy, timed, periodRun}
+use Rattle.bus.specs.Calls.{Call, reply, does, after, ran}
+use Rattle.bus.specs.Calls.Call.{event, period}
+use Rattle.bus.specs.Stretch.{seatAt, seatThen, Undisturbed, Stretch, momentsOf, moments, Calm, Stays}
+use Rattle.bus.specs.Quick.{shownBy, shownFrom}
+use Rattle.bus.specs.Scenes.{report, activated, beforeWait, duringWait}
+use Rattle.bus.specs.Exists as exists
+use Rattle.bus.proofs.Quick.{up-shown, down-shown}
+use Rattle.bus.proofs.Seats.{Each, seat-heard, seat-timed, each-exchanged}
+use Rattle.bus.proofs.Stretches.{state-exchanged}
+
+-- a terminal that is off, or activated and aligned
+data Rests (s : Seat) : Type 0 where
+  off : s .terminal .state ≡ F1 → Rests s
+  active : s .terminal .state ≡ F7 → s .terminal .alignment .aligned ≡ true → Rests s
+
+-- a bus that goes on as it is
+record Steady (b : Bus) : Type 0 where
+  in-G3 : b .network .state ≡ G3
+  aligned : b .network .alignment .aligned ≡ true
+  no-hit : b .hit ≡ Hit.none
+  rest : Each Rests (b .seats)
+  -- one that is activated
+  who : ℕ
+  sends : seatAt who b .terminal .state ≡ F7
+
+-- ---- the network end
+net-hears : (up : List ℕ) (now : ℕ) (n : Network) → shownUp up ≡ shownFrom false true → n .state ≡ G3 → n .alignment .aligned ≡ true →
+    (networkHears up now n .network .state ≡ G3) × (networkHears up now n .network .alignment .aligned ≡ true)
+unfolding networkHears network.hears network.heardAs network.andThen network.happens network.acts network.aligned followed framedPeriod lossUp upwardEvent cellIn shownFrom
+net-hears up now n s g a = (rw (s, a, g), rw (s, a, g))
+
+net-timers : (now : ℕ) (n : Network) → n .state ≡ G3 → n .alignment .aligned ≡ true →
+    (network.timers now n .network .state ≡ G3) × (network.timers now n .network .alignment .aligned ≡ true)
+unfolding network.timers network.andThen network.t1Due network.t2Due network.happens network.acts cellIn
+net-timers now n g a =
+    by-test (due (n .t1) now)
+    (λ t. by-test (due (n .t2) now) (λ u. (rw (t, g, u), rw (t, g, u) a)) (λ u. (rw (t, g, u), rw (t, g, u) a)))
+    (λ t. by-test (due (n .t2) now) (λ u. (rw (t, u, g), rw (t, u, g) a)) (λ u. (rw (t, u) g, rw (t, u) a)))
+
+-- ---- a terminal: it rests, and stays in F7 where it is
+abbrev Still : Seat → Seat → Type 0
+Still s s′ = Rests s′ × (s .terminal .state ≡ F7 → s′ .terminal .state ≡ F7)
+
+still-hears : (down : List ℕ) (now : ℕ) (s : Seat) → shownDown down ≡ shownBy G3 → Rests s → Still s (stepped (terminalHears down now) s)
+unfolding stepped terminalHears terminal.hears terminal.heardAs terminal.happens terminal.acts terminal.aligned followed framedPeriod downwardEvent cellIn shownBy infoIn
+still-hears down now s h (off o) = (off (rw o), λ f. rw o (rw o at f))
+still-hears down now s h (active f a) = (active (rw (f, h, a)) (rw (f, h, a)), λ e. rw (f, h, a))
+
+still-timer : (now : ℕ) (s : Seat) → Rests s → Still s (stepped (terminal.timer now) s)
+unfolding stepped terminal.timer terminal.happens terminal.acts terminal.noTimer cellIn
+still-timer now s (off o) =
+    by-test (due (s .terminal .t3) now) (λ u. (off (rw (u, o)), λ f. rw (u, o) (rw o at f))) (λ u. (off (rw u o), λ f. rw u f))
+still-timer now s (active f a) =
+    by-test (due (s .terminal .t3) now) (λ u. (active (rw (u, f)) (rw (u, f) a), λ e. rw (u, f))) (λ u. (active (rw u f) (rw u a), λ e. rw u e))
+
+rests-turned : (e : Bool) (s : Seat) → Rests s → Rests (turned e s)
+unfolding turned
+rests-turned e s (off o) = off (rw o)
+rests-turned e s (active f a) = active (rw f) (rw f a)
+
+-- ---- the bus
+rest-no-info-1 : (ss : List Seat) → Each Rests ss → anyInfo1 ss ≡ false
+unfolding anyInfo1
+rest-no-info-1 [] r = refl
+rest-no-info-1 (s ∷ ss) r = rw (quiet s (r 0)) (rest-no-info-1 ss (λ i. r (suc i)))
+  where
+    quiet : (x : Seat) → Rests x → eqb (infoIn table62.infoSent (x .terminal .state)) 1 ≡ false
+    quiet x (off o) = rw o (unfold infoIn in refl)
+    quiet x (active f a) = rw f (unfold infoIn in refl)
+
+one-sends : (ss : List Seat) (i : ℕ) → getD ss i freshSeat .terminal .state ≡ F7 → anyInfo3 ss ≡ true
+unfolding anyInfo3 infoIn
+one-sends [] i h = cc
+one-sends (s ∷ ss) zero h = rw h
+one-sends (s ∷ ss) (suc i) h = rw (one-sends ss i h) (or-true (eqb (infoIn table62.infoSent (s .terminal .state)) 3))
+  where
+    or-true : (a : Bool) → (a || true) ≡ true
+    or-true true = refl
+    or-true false = refl
+
+hears-INFO-4 : (b : Bus) → Steady b → shownDown (wholeDown (exchanged b)) ≡ shownBy G3
+unfolding wholeDown lineDown exchanged onward begins
+hears-INFO-4 b s = rw (s .in-G3, s .no-hit) (down-shown G3 _)
+
+hears-INFO-3 : (b : Bus) → Steady b → shownUp (wholeUp (exchanged b)) ≡ shownFrom false true
+unfolding wholeUp seatThen
+hears-INFO-3 b s =
+    let seats = seatsOf (exchanged b .senders) in
+    rw (
+      up-shown (exchanged b .senders),
+      rest-no-info-1 seats (each-exchanged Rests rests-turned b (s .rest)),
+      one-sends seats (s .who) (state-exchanged (s .who) b ∙ s .sends),
+    )
+
+still-run : (b : Bus) → Steady b → (i : ℕ) → Still (seatAt i b) (seatAt i (periodRun b))
+unfolding periodRun heardBy seatThen
+still-run b s i =
+    let heard = still-hears (wholeDown (exchanged b)) (b .periods) (seatThen i (exchanged b)) (hears-INFO-4 b s) (each-exchanged Rests rests-turned b (s .rest) i) in
+    let after = still-timer (b .periods + 1) (stepped (terminalHears (wholeDown (exchanged b)) (b .periods)) (seatThen i (exchanged b))) (heard .0) in
+    rw (seat-timed i (heardBy (exchanged b) b), seat-heard i (exchanged b) b) (after .0, λ f. after .1 (heard .1 (state-exchanged i b ∙ f)))
+
+net-run : (b : Bus) → Steady b → (periodRun b .network .state ≡ G3) × (periodRun b .network .alignment .aligned ≡ true)
+unfolding periodRun timed heardBy
+net-run b s =
+    let h = net-hears (wholeUp (exchanged b)) (b .periods) (b .network) (hears-INFO-3 b s) (s .in-G3) (s .aligned) in
+    net-timers (b .periods + 1) (networkHears (wholeUp (exchanged b)) (b .periods) (b .network) .network) (h .0) (h .1)
+
+hit-run : (b : Bus) → periodRun b .hit ≡ Hit.none
+unfolding periodRun timed heardBy
+hit-run b = refl
+
+steady-on : (b : Bus) → Steady b → Steady (periodRun b)
+unfolding seatAt
+steady-on b s =
+    record {
+      in-G3 = net-run b s .0;
+      aligned = net-run b s .1;
+      no-hit = hit-run b;
+      rest = λ i. still-run b s i .0;
+      who = s .who;
+      sends = still-run b s (s .who) .1 (s .sends);
+    }
+
+-- periods alone, as many as wanted
+steady-stretch : (n : ℕ) (b : Bus) → Steady b → Stretch b (replicate n period)
+unfolding Stretch after does
+steady-stretch zero b s = tt
+steady-stretch (suc n) b s =
+    let calm : Undisturbed b = record { no-hit = s .no-hit; no-info-1 = rest-no-info-1 (b .seats) (s .rest) } in
+    by-test (eqb (reply b period) 0)
+    (λ t. rw t ((λ r. calm), record { in-G3 = s .in-G3; still-G3 = net-run b s .0; still-F7 = λ i. still-run b s i .1 }, steady-stretch n (periodRun b) (steady-on b s)))
+    (λ t. rw t ((λ r. calm), record { in-G3 = s .in-G3; still-G3 = s .in-G3; still-F7 = λ i h. h }, steady-stretch n b s))
+
+-- document 01's book leads to such a bus: terminal 1 in F7, the others fresh
+all-fresh : (n i : ℕ) → getD (replicate n freshSeat) i freshSeat .terminal .state ≡ F1
+all-fresh zero i = refl
+all-fresh (suc n) zero = refl
+all-fresh (suc n) (suc i) = all-fresh n i
+
+activated-rest : Each Rests (activated .seats)
+unfolding report
+activated-rest zero = active refl refl
+activated-rest (suc i) = off (all-fresh 7 i)
+
+activated-steady : Steady activated
+unfolding report
+activated-steady = record { in-G3 = refl; aligned = refl; no-hit = refl; rest = activated-rest; who = 0; sends = refl }
+
+pub stretches-exist : exists.StretchesExist
+stretches-exist n = steady-stretch n activated activated-steady
+
+periods-run : (b : Bus) → periodRun b .periods ≡ b .periods + 1
+unfolding periodRun timed heardBy
+periods-run b = refl
+
+pub stretch-length : exists.StretchLength
+unfolding moments momentsOf after does reply opportunitiesOf
+stretch-length zero b h = refl
+stretch-length (suc n) b h =
+    let e : leb mostPeriods (b .periods) ≡ false = lt-leb mostPeriods (b .periods) (omega arith) in
+    rw (e, stretch-length n (periodRun b) (rw (periods-run b) (omega arith))) (omega arith)
+
+-- ---- a stretch by computation
+abbrev keepsF7 : List Seat → List Seat → Bool
+keepsF7 [] ts = true
+keepsF7 (s ∷ ss) [] = not (inF7 s) && keepsF7 ss []
+keepsF7 (s ∷ ss) (t ∷ ts) = (not (inF7 s) || inF7 t) && keepsF7 ss ts
+
+abbrev noHit : Hit → Bool
+noHit none = true
+noHit (given letters) = false
+
+abbrev isCalm : Bus → Call → Bool
+isCalm b (event unit number value) = true
+isCalm b period = noHit (b .hit) && not (anyInfo1 (b .seats))
+
+abbrev stays : Bus → Bus → Bool
+stays b b′ = eqb (b .network .state) G3 && (eqb (b′ .network .state) G3 && keepsF7 (b .seats) (b′ .seats))
+
+abbrev isStretch : Bus → List Call → Bool
+isStretch b [] = true
+isStretch b (c ∷ more) = isCalm b c && (stays b (after b c) && isStretch (after b c) more)
+
+still-in-F7 : (ss ts : List Seat) → keepsF7 ss ts ≡ true → (i : ℕ) → getD ss i freshSeat .terminal .state ≡ F7 → getD ts i freshSeat .terminal .state ≡ F7
+still-in-F7 [] ts h i f = absurd (omega arith)
+still-in-F7 (s ∷ ss) [] h zero f = absurd (true≢false (sym (rw f at (and-left (not (inF7 s)) (keepsF7 ss []) h))))
+still-in-F7 (s ∷ ss) [] h (suc i) f = still-in-F7 ss [] (and-right (not (inF7 s)) (keepsF7 ss []) h) i f
+still-in-F7 (s ∷ ss) (t ∷ ts) h zero f = eqb-true (t .terminal .state) F7 (rw f at (and-left (not (inF7 s) || inF7 t) (keepsF7 ss ts) h))
+still-in-F7 (s ∷ ss) (t ∷ ts) h (suc i) f = still-in-F7 ss ts (and-right (not (inF7 s) || inF7 t) (keepsF7 ss ts) h) i f
+
+no-hit-is : (h : Hit) → noHit h ≡ true → h ≡ Hit.none
+no-hit-is none e = refl
+no-hit-is (given letters) e = absurd (true≢false (sym e))
+
+calm-is : (b : Bus) (c : Call) → isCalm b c ≡ true → Calm b c
+calm-is b (event unit number value) h = tt
+calm-is b period h = λ r. record { no-hit = no-hit-is (b .hit) (and-left (noHit (b .hit)) (not (anyInfo1 (b .seats))) h); no-info-1 = not-true (anyInfo1 (b .seats)) (and-right (noHit (b .hit)) (not (anyInfo1 (b .seats))) h) }
+
+stays-is : (b b′ : Bus) → stays b b′ ≡ true → Stays b b′
+unfolding seatAt
+stays-is b b′ h =
+    let first = eqb (b .network .state) G3 in
+    let second = eqb (b′ .network .state) G3 in
+    let more = and-right first (second && keepsF7 (b .seats) (b′ .seats)) h in
+    record {
+      in-G3 = eqb-true (b .network .state) G3 (and-left first (second && keepsF7 (b .seats) (b′ .seats)) h);
+      still-G3 = eqb-true (b′ .network .state) G3 (and-left second (keepsF7 (b .seats) (b′ .seats)) more);
+      still-F7 = still-in-F7 (b .seats) (b′ .seats) (and-right second (keepsF7 (b .seats) (b′ .seats)) more);
+    }
+
+stretch-is : (b : Bus) (calls : List Call) → isStretch b calls ≡ true → Stretch b calls
+unfolding Stretch
+stretch-is b [] h = tt
+stretch-is b (c ∷ more) h =
+    let rest = stays b (after b c) && isStretch (after b c) more in
+    let others = and-right (isCalm b c) rest h in (
+      calm-is b c (and-left (isCalm b c) rest h),
+      stays-is b (after b c) (and-left (stays b (after b c)) (isStretch (after b c) more) others),
+      stretch-is (after b c) more (and-right (stays b (after b c)) (isStretch (after b c) more) others),
+    )
+
+pub worst-stretch : exists.WorstStretch
+unfolding report anyInfo1
+worst-stretch = stretch-is (ran freshBus beforeWait) duringWait refl

@@ -1,0 +1,119 @@
+-- Demand 3: one claim about every list of calls from the fresh bus and every stretch of it. Opportunity t is the one at place t, from 0, of
+-- the stretch's D opportunities; terminal i is unit i + 1. Sentences in quotation marks are document 01's, or demand 3's, which
+-- docs/STATEMENTS.md has in full.
+use mathlib.Core.List.{List, [], _++_}
+use mathlib.Core.Path.{_≡_}
+use mathlib.Core.Bool.{true}
+use Prim.Native.Nat.{ℕ, _+_, _*_, _≤_, _<_}
+use lib.ListN.{length, getD}
+use Rattle.hdlc.specs.Image.{image}
+use Rattle.dchannel.specs.Access.{normal1}
+use Rattle.hdlc.specs.Reading.{cleared}
+use Rattle.hdlc.specs.Reading.Said.{torn, heard}
+use Rattle.bus.specs.Bus.{Hit, Bus, freshBus}
+use Rattle.bus.specs.Exchange.{Moment, saidTo}
+use Rattle.bus.specs.Calls.{Call, ran, allNotes}
+use Rattle.bus.specs.Stretch.{Stretch, moments, seatThen, Waits, Completes, Begins, buses, poweredIn, longestIn}
+use Rattle.bus.specs.Telling.{AllTell}
+
+-- a moment of no list
+abbrev pub nowhere : Moment
+nowhere = record { network = 0; hit = Hit.none; senders = []; es = []; heardD = true; reading = cleared; saids = [] }
+
+-- opportunity t of a list of them
+abbrev pub at : List Moment → ℕ → Moment
+at ms t = getD ms t nowhere
+
+-- A list of calls with a stretch in it, and the stretch's D opportunities.
+module _ (before during : List Call) where
+  -- the bus where the stretch begins
+  abbrev pub start : Bus
+  start = ran freshBus before
+
+  abbrev pub opps : List Moment
+  opps = moments start during
+
+  -- "no rival completes two frames of one class while an activated terminal waits at that class's normal level": j is the rival, i
+  -- waits in class k, with the same frame, at both completions and at every D opportunity between
+  abbrev pub NoRivalTwice : Type 0
+  NoRivalTwice =
+      (i j k p q : ℕ) → (i ≡ j → ⊥) → 1 ≤ k → p < q → q < length opps →
+      Completes k j (at opps p) → Completes k j (at opps q) →
+      ((t : ℕ) → p ≤ t → t ≤ q → Waits k i (at opps t)) →
+      ((t : ℕ) → p ≤ t → t < q → Completes k i (at opps t) → ⊥) →
+      ⊥
+
+  -- the frame that terminal i holds at opportunity p is completed at one of the `bound` opportunities from p on
+  pub record CompletedWithin (k i p bound : ℕ) : Type 0 where
+    pub when : ℕ
+    pub after : p ≤ when
+    pub within : when < p + bound
+    pub completed : Completes k i (at opps when)
+    -- it is the frame held at p
+    pub same-frame : (t : ℕ) → p ≤ t → t < when → Completes k i (at opps t) → ⊥
+    pub same-body : seatThen i (at opps when) .body ≡ seatThen i (at opps p) .body
+
+  -- "(n + 1) times (L + 8)"
+  abbrev pub waitBound : ℕ
+  waitBound = (poweredIn (buses start during) + 1) * (longestIn (buses start during) + normal1)
+
+  -- "In class 1, if the stretch lasts that long, a frame so waiting is completed within (n + 1) times (L + 8) D opportunities, counted
+  -- from the first of the stretch at which it so waits"
+  abbrev pub WaitEnds : Type 0
+  WaitEnds = (i p : ℕ) → Waits 1 i (at opps p) → p + waitBound ≤ length opps → CompletedWithin 1 i p waitBound
+
+  -- No sending stops inside its opening flag: that of a sending begun at opportunity p leaves at p to p + 7, and at each of its echoes the
+  -- sending goes on.
+  abbrev pub NoStopInFlag : Type 0
+  NoStopInFlag =
+      (j p s : ℕ) → Begins j (at opps p) → s ≤ 9 → p + s < length opps → seatThen j (at opps (p + s)) .terminal .access .sent ≡ s
+
+  -- the frame that terminal j completes at opportunity u was begun at p or later, as many opportunities before u as its image has bits
+  pub record BegunSince (p j u : ℕ) : Type 0 where
+    pub when : ℕ
+    pub since : p ≤ when
+    pub begins : Begins j (at opps when)
+    pub same-body : seatThen j (at opps when) .body ≡ seatThen j (at opps u) .body
+    pub bits-since : when + length (image (seatThen j (at opps u) .body)) ≡ u
+
+  -- What is heard at opportunity t's D and completed at the next one's E. At one D one body is heard at most, so "It is heard once" needs
+  -- no words of its own.
+  pub record HeardWhole (p t : ℕ) : Type 0 where
+    -- "A body is heard at its D exactly when a frame with that body is completed at the next one's E"
+    pub heard-completed : (body : List ℕ) → saidTo (at opps t) ≡ heard body →
+        (j : ℕ) × (k : ℕ) × (1 ≤ k) × Completes k j (at opps (t + 1)) × (seatThen j (at opps (t + 1)) .body ≡ body)
+    -- .. and "all frames completed there have that body"
+    pub completed-heard : (j k : ℕ) → 1 ≤ k → Completes k j (at opps (t + 1)) →
+        saidTo (at opps t) ≡ heard (seatThen j (at opps (t + 1)) .body)
+    -- ".. and were begun in the stretch"
+    pub begun : (j k : ℕ) → 1 ≤ k → Completes k j (at opps (t + 1)) → BegunSince p j (t + 1)
+    -- "nothing is torn"
+    pub not-torn : saidTo (at opps t) ≡ torn → ⊥
+
+  -- "Take each D opportunity after the last bit of the first opening flag begun in the stretch, up to the stretch's last but one": p is
+  -- any opportunity at which a frame is begun, the first one included, and that flag's last bit leaves at p + 7 (NoStopInFlag)
+  abbrev pub HeardInOrder : Type 0
+  HeardInOrder = (j p t : ℕ) → Begins j (at opps p) → p + 7 < t → t + 1 < length opps → HeardWhole p t
+
+-- "A stretch is any unbroken part of the list": its D opportunities and its notes are a part of the whole list's
+pub record PartOfList (before during after : List Call) : Type 0 where
+  pub in-moments : moments freshBus (before ++ (during ++ after))
+      ≡ moments freshBus before ++ (moments (ran freshBus before) during ++ moments (ran (ran freshBus before) during) after)
+  pub in-notes : allNotes freshBus (before ++ (during ++ after))
+      ≡ allNotes freshBus before ++ (allNotes (ran freshBus before) during ++ allNotes (ran (ran freshBus before) during) after)
+
+-- What is claimed of a stretch `during` of the list `before`, `during`, `after`.
+pub record Claimed (before during after : List Call) : Type 0 where
+  -- it is a part of the list, and its calls hand back the notes that its opportunities have
+  pub part-of-list : PartOfList before during after
+  pub told : AllTell (ran freshBus before) during
+  -- the three sentences
+  pub no-rival-twice : NoRivalTwice before during
+  pub wait-ends : WaitEnds before during
+  pub heard-in-order : HeardInOrder before during
+  -- which rests on where a flag's last bit leaves
+  pub no-stop-in-flag : NoStopInFlag before during
+
+-- Demand 3.
+abbrev pub Demand3 : Type 0
+Demand3 = (before during after : List Call) → Stretch (ran freshBus before) during → Claimed before during after

@@ -1,0 +1,174 @@
+-- The exchange of a period by lines (document 01, "The line" and "Order inside a period"). A line is written from the bits that are known
+-- so far, with 1 for the rest; the law `as-taken` says that nothing later changes what was taken from it.
+use mathlib.Core.Bool.{Bool, true, false, cond, _||_}
+use mathlib.Core.List.{List, [], _∷_, _++_, map}
+use Prim.Native.Nat.{ℕ}
+use lib.Dec.{eqb}
+use lib.ListN.{length, getD}
+use Rattle.symbols.specs.Symbols.{levels}
+use Rattle.frame.specs.Four.{pick, padded}
+use Rattle.frame.specs.Bits.{dBits}
+use Rattle.frame.specs.Down.{eBits}
+use Rattle.info.specs.Info.{info0, info2, info4}
+use Rattle.combining.specs.Combine.{combined}
+use Rattle.combining.specs.Sent.{Sent, silent, calling, frame, sentLine}
+use Rattle.combining.specs.Hit.{hit}
+use Rattle.cells.specs.Cells.{infoIn}
+use Rattle.table_6_2.specs.Table62.{F7}
+use Rattle.table_6_2.specs.Table62 as table62
+use Rattle.table_6_3.specs.Table63.{G3}
+use Rattle.table_6_3.specs.Table63 as table63
+use Rattle.dchannel.specs.Access.{normal1, normal2, turn}
+use Rattle.dchannel.specs.declared.access.Turn.{Turn}
+use Rattle.hdlc.specs.Reading.{Reading, Said, said, next}
+use Rattle.hdlc.specs.Reading.Said.{nothing}
+use Rattle.bus.specs.Bus.{Seat, Hit, Bus}
+use Rattle.bus.specs.Bus.Hit.{none, given}
+
+-- The line that a network end sends in a state, with the E bits so far: INFO 0, 2 or 4.
+unfoldable pub sentDown : ℕ → List Bool → List ℕ
+sentDown state es =
+    let info = infoIn table63.infoSent state in
+    cond (eqb info 4) (info4 (padded es)) (cond (eqb info 2) info2 info0)
+
+-- What a terminal sends in a state, with its D bits so far: INFO 0, 1 or 3.
+unfoldable pub sentUp : ℕ → List Bool → Sent
+sentUp state ds =
+    let info = infoIn table62.infoSent state in
+    cond (eqb info 3) (frame (padded ds)) (cond (eqb info 1) calling silent)
+
+-- Who sends what: whether any terminal sends INFO 1, and whether any sends INFO 3.
+unfoldable pub anyInfo1 : List Seat → Bool
+anyInfo1 [] = false
+anyInfo1 (s ∷ ss) = eqb (infoIn table62.infoSent (s .terminal .state)) 1 || anyInfo1 ss
+
+unfoldable pub anyInfo3 : List Seat → Bool
+anyInfo3 [] = false
+anyInfo3 (s ∷ ss) = eqb (infoIn table62.infoSent (s .terminal .state)) 3 || anyInfo3 ss
+
+-- "hit: .. for this period's downward line"
+abbrev pub struckBy : Hit → List ℕ → List ℕ
+struckBy none l = l
+struckBy (given letters) l = hit letters l
+
+-- A terminal in the exchange: its D bits so far, and the classes of the frames completed so far.
+pub record Sender : Type 0 where
+  pub seat : Seat
+  pub ds : List Bool
+  pub done : List ℕ
+
+abbrev pub seatsOf : List Sender → List Seat
+seatsOf ss = map (λ (s : Sender). s .seat) ss
+
+-- The exchange as an E comes: what does not change in it, and what has gone so far.
+pub record Moment : Type 0 where
+  -- the network end's state and the hit
+  pub network : ℕ
+  pub hit : Hit
+  pub senders : List Sender
+  -- the E bits sent
+  pub es : List Bool
+  -- the last combined D that the network end heard, and its reader
+  pub heardD : Bool
+  pub reading : Reading
+  -- what the reader has said
+  pub saids : List Said
+
+-- "A terminal in F7"
+abbrev pub inF7 : Seat → Bool
+inF7 s = eqb (s .terminal .state) F7
+
+-- What an E gives in F7: one turn of the D access, with the next bit of the image.
+unfoldable pub turnOf : Bool → Seat → Turn
+turnOf e s = turn normal1 normal2 e (getD (s .image) (s .terminal .access .sent) true) (s .terminal .access)
+
+unfoldable pub turned : Bool → Seat → Seat
+turned e s =
+    cond (inF7 s)
+    (record {
+      terminal = record { t3 = s .terminal .t3; access = turnOf e s .access; state = s .terminal .state; alignment = s .terminal .alignment };
+      image = s .image;
+      body = s .body;
+    })
+    s
+
+-- "D as D access says; in F6 D is 1"
+unfoldable pub dOf : Bool → Seat → Bool
+dOf e s = cond (inF7 s) (turnOf e s .d) true
+
+-- the class of the frame that is completed, if any
+unfoldable pub doneOf : Bool → Seat → List ℕ
+doneOf e s = cond (inF7 s) (cond (eqb (turnOf e s .done) 0) [] (turnOf e s .done ∷ [])) []
+
+unfoldable pub hearsE : Bool → Sender → Sender
+hearsE e s = record { seat = turned e (s .seat); ds = s .ds ++ (dOf e (s .seat) ∷ []); done = s .done ++ doneOf e (s .seat) }
+
+unfoldable pub sentOf : Sender → Sent
+sentOf s = sentUp (s .seat .terminal .state) (s .ds)
+
+-- The line that all powered terminals hear, and the line that all terminals give together.
+unfoldable pub lineDown : ℕ → Hit → List Bool → List ℕ
+lineDown network h es = struckBy h (sentDown network es)
+
+unfoldable pub lineUp : List Sender → List ℕ
+lineUp ss = combined (map sentLine (map sentOf ss))
+
+-- "each E the last combined D that the network heard": the E that comes, at symbol level of the downward line after the hit
+unfoldable pub eComes : Moment → Bool
+eComes m = pick (length (m .es)) (eBits (levels (lineDown (m .network) (m .hit) (m .es ++ (m .heardD ∷ [])))))
+
+unfoldable pub sendersAfter : Moment → List Sender
+sendersAfter m = map (hearsE (eComes m)) (m .senders)
+
+-- the D after it, at symbol level of the combined line
+unfoldable pub dComes : Moment → Bool
+dComes m = pick (length (m .es)) (dBits (levels (lineUp (sendersAfter m))))
+
+-- "In G3 the network reads D"
+abbrev pub inG3 : Moment → Bool
+inG3 m = eqb (m .network) G3
+
+unfoldable pub saidTo : Moment → Said
+saidTo m = cond (inG3 m) (said (m .reading) (dComes m)) nothing
+
+unfoldable pub onward : Moment → Moment
+onward m =
+    record {
+      network = m .network;
+      hit = m .hit;
+      senders = sendersAfter m;
+      es = m .es ++ (m .heardD ∷ []);
+      heardD = dComes m;
+      reading = cond (inG3 m) (next (m .reading) (dComes m)) (m .reading);
+      saids = m .saids ++ (saidTo m ∷ []);
+    }
+
+-- "What is sent follows the states before hearing": the exchange as E11 comes.
+unfoldable pub seated : Seat → Sender
+seated s = record { seat = s; ds = []; done = [] }
+
+unfoldable pub begins : Bus → Moment
+begins b =
+    record {
+      network = b .network .state;
+      hit = b .hit;
+      senders = map seated (b .seats);
+      es = [];
+      heardD = b .heardD;
+      reading = b .reading;
+      saids = [];
+    }
+
+-- "Echo and D go E11, D12, E24, D25, E35, D36, E46, D47": the four moments as E comes, and what the last one leaves.
+unfoldable pub opportunitiesOf : Bus → List Moment
+opportunitiesOf b = begins b ∷ onward (begins b) ∷ onward (onward (begins b)) ∷ onward (onward (onward (begins b))) ∷ []
+
+unfoldable pub exchanged : Bus → Moment
+exchanged b = onward (onward (onward (onward (begins b))))
+
+-- the two lines when all bits are known
+unfoldable pub wholeDown : Moment → List ℕ
+wholeDown m = lineDown (m .network) (m .hit) (m .es)
+
+unfoldable pub wholeUp : Moment → List ℕ
+wholeUp m = lineUp (m .senders)

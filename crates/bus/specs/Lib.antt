@@ -1,0 +1,16 @@
+-- The bus, in document 01's order: the record, a period, an event, a list of calls, the ranges; then the words of "Lists and stretches" and
+-- demand 3; then what is on the line without building it, scenes by computation, and what holds of every list of calls.
+pub mod Bus
+pub mod Exchange
+pub mod Period
+pub mod Event
+pub mod Calls
+pub mod Ranges
+pub mod Stretch
+pub mod Telling
+pub mod Claims
+pub mod Quick
+pub mod Later
+pub mod Scenes
+pub mod Exists
+pub mod Apart

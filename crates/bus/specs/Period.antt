@@ -1,0 +1,103 @@
+-- A period (document 01, "Lists and stretches"): "exchange, hearing, then the timers due at the next one's start".
+use mathlib.Core.Bool.{cond}
+use mathlib.Core.List.{List, [], _∷_, _++_, map}
+use Prim.Native.Nat.{ℕ, suc, _+_}
+use lib.Dec.{eqb}
+use Rattle.cells.specs.Notes.{HEARD, TORN, DONE1, DONE2, noted}
+use Rattle.table_6_3.specs.Table63.{G3}
+use Rattle.hdlc.specs.Reading.{Reading, Said, cleared}
+use Rattle.hdlc.specs.Reading.Said.{nothing, torn, heard}
+use Rattle.hearing.specs.Sensing.{shownUp, shownDown}
+use Rattle.network.specs.Network as network
+use Rattle.terminal.specs.Terminal as terminal
+use Rattle.network.specs.declared.Network.{Network}
+use Rattle.network.specs.declared.NetworkStep.{NetworkStep}
+use Rattle.terminal.specs.declared.Terminal.{Terminal}
+use Rattle.terminal.specs.declared.TerminalStep.{TerminalStep}
+use Rattle.bus.specs.Bus.{Seat, Hit, Bus, Note, notesOf}
+use Rattle.bus.specs.Exchange.{Sender, Moment, seatsOf, exchanged, wholeDown, wholeUp}
+
+-- "Leaving G3 clears the reader silently."
+unfoldable pub readingAfter : ℕ → ℕ → Reading → Reading
+readingAfter from to r = cond (eqb from G3) (cond (eqb to G3) r cleared) r
+
+-- What the network end and a terminal hear of a line.
+unfoldable pub networkHears : List ℕ → ℕ → Network → NetworkStep
+networkHears up now n = network.hears (shownUp up) now n
+
+unfoldable pub terminalHears : List ℕ → ℕ → Terminal → TerminalStep
+terminalHears down now t = terminal.hears (shownDown down) now t
+
+-- One step of a terminal on its seat.
+unfoldable pub stepped : (Terminal → TerminalStep) → Seat → Seat
+stepped f s = record { terminal = f (s .terminal) .terminal; image = s .image; body = s .body }
+
+-- ---- Notes. "Within one unit's hearing or line, D notes .. come before the table's, which keep its order."
+
+-- what the reader has said
+unfoldable pub saidNotes : ℕ → List Said → List Note
+saidNotes now [] = []
+saidNotes now (nothing ∷ more) = saidNotes now more
+saidNotes now (torn ∷ more) = record { period = now; unit = 0; code = TORN; value = [] } ∷ saidNotes now more
+saidNotes now (heard body ∷ more) = record { period = now; unit = 0; code = HEARD; value = body } ∷ saidNotes now more
+
+-- the frames completed, by their classes
+unfoldable pub doneCodes : List ℕ → List ℕ
+doneCodes [] = []
+doneCodes (class ∷ more) = cond (eqb class 1) DONE1 DONE2 ∷ doneCodes more
+
+-- hearing, the terminals from a unit on
+unfoldable pub hearingNotes : List ℕ → ℕ → ℕ → List Sender → List Note
+hearingNotes down now unit [] = []
+hearingNotes down now unit (s ∷ ss) =
+    notesOf now unit (doneCodes (s .done) ++ noted (terminalHears down now (s .seat .terminal) .notes)) ++ hearingNotes down now (suc unit) ss
+
+-- timers, the terminals from a unit on
+unfoldable pub timerNotes : ℕ → ℕ → List Seat → List Note
+timerNotes now unit [] = []
+timerNotes now unit (s ∷ ss) = notesOf now unit (noted (terminal.timer now (s .terminal) .notes)) ++ timerNotes now (suc unit) ss
+
+-- ---- Hearing, unit 0 first, after the exchange m. "The record counts periods run and D opportunities run, four for each period whose
+-- lines leave the network end in G3": the book's lines, which come before the exchange.
+unfoldable pub heardBy : Moment → Bus → Bus
+heardBy m b =
+    let n = networkHears (wholeUp m) (b .periods) (b .network) .network in
+    record {
+      periods = b .periods + 1;
+      opportunities = b .opportunities + cond (eqb (b .network .state) G3) 4 0;
+      network = n;
+      reading = readingAfter (b .network .state) (n .state) (m .reading);
+      heardD = m .heardD;
+      hit = Hit.none;
+      seats = map (stepped (terminalHears (wholeDown m) (b .periods))) (seatsOf (m .senders));
+    }
+
+unfoldable pub notesHeard : Moment → Bus → List Note
+notesHeard m b =
+    saidNotes (b .periods) (m .saids)
+    ++ (notesOf (b .periods) 0 (noted (networkHears (wholeUp m) (b .periods) (b .network) .notes))
+    ++ hearingNotes (wholeDown m) (b .periods) 1 (m .senders))
+
+-- ---- "Timers that are due (unit 0, then 1 to 8)", at the start of the period that comes.
+unfoldable pub timed : Bus → Bus
+timed b =
+    let n = network.timers (b .periods) (b .network) .network in
+    record {
+      periods = b .periods;
+      opportunities = b .opportunities;
+      network = n;
+      reading = readingAfter (b .network .state) (n .state) (b .reading);
+      heardD = b .heardD;
+      hit = b .hit;
+      seats = map (stepped (terminal.timer (b .periods))) (b .seats);
+    }
+
+unfoldable pub notesTimed : Bus → List Note
+notesTimed b = notesOf (b .periods) 0 (noted (network.timers (b .periods) (b .network) .notes)) ++ timerNotes (b .periods) 1 (b .seats)
+
+-- ---- The whole.
+unfoldable pub periodRun : Bus → Bus
+periodRun b = timed (heardBy (exchanged b) b)
+
+unfoldable pub periodNotes : Bus → List Note
+periodNotes b = notesHeard (exchanged b) b ++ notesTimed (heardBy (exchanged b) b)

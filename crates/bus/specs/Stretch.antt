@@ -1,0 +1,97 @@
+-- Stretches, and document 01's words for what happens at the D opportunities in them ("Lists and stretches"). Sentences in quotation marks
+-- are document 01's, or demand 3's, which docs/STATEMENTS.md has in full.
+use mathlib.Core.Bool.{Bool, true, false, cond}
+use mathlib.Core.List.{List, [], _∷_, _++_}
+use mathlib.Core.Path.{_≡_}
+use Prim.Native.Nat.{ℕ, zero, suc, _+_, max}
+use lib.Dec.{eqb}
+use lib.ListN.{getD}
+use Rattle.table_6_2.specs.Table62.{F1, F7}
+use Rattle.table_6_3.specs.Table63.{G3}
+use Rattle.dchannel.specs.Access.{lowOf}
+use Rattle.bus.specs.Bus.{Seat, Hit, Bus, terminals, freshSeat}
+use Rattle.bus.specs.Exchange.{Moment, seatsOf, anyInfo1, turnOf, eComes, opportunitiesOf}
+use Rattle.bus.specs.Calls.{Call, reply, after}
+use Rattle.bus.specs.Calls.Call.{event, period}
+
+-- the terminal at an index (unit less 1) of a bus
+unfoldable pub seatAt : ℕ → Bus → Seat
+seatAt i b = getD (b .seats) i freshSeat
+
+-- What a stretch allows of a period run in it: "No period run in it has a hit or a terminal sending INFO 1"
+pub record Undisturbed (b : Bus) : Type 0 where
+  pub no-hit : b .hit ≡ Hit.none
+  pub no-info-1 : anyInfo1 (b .seats) ≡ false
+
+-- .. and of every call in it: the network end stays in G3 and no terminal leaves F7
+pub record Stays (b b′ : Bus) : Type 0 where
+  pub in-G3 : b .network .state ≡ G3
+  pub still-G3 : b′ .network .state ≡ G3
+  pub still-F7 : (i : ℕ) → seatAt i b .terminal .state ≡ F7 → seatAt i b′ .terminal .state ≡ F7
+
+abbrev pub Calm : Bus → Call → Type 0
+Calm b (event unit number value) = Unit
+Calm b period = reply b period ≡ 0 → Undisturbed b
+
+-- a stretch: every call of the list is so where it comes
+unfoldable pub Stretch : Bus → List Call → Type 0
+Stretch b [] = Unit
+Stretch b (c ∷ more) = Calm b c × Stays b (after b c) × Stretch (after b c) more
+
+-- "A D opportunity is an E and the D after it": the moments as E comes, four for each period run
+unfoldable pub momentsOf : Bus → Call → List Moment
+momentsOf b (event unit number value) = []
+momentsOf b period = cond (eqb (reply b period) 0) (opportunitiesOf b) []
+
+unfoldable pub moments : Bus → List Call → List Moment
+moments b [] = []
+moments b (c ∷ more) = momentsOf b c ++ moments (after b c) more
+
+-- the terminal at an index (unit less 1), as E comes
+unfoldable pub seatThen : ℕ → Moment → Seat
+seatThen i m = getD (seatsOf (m .senders)) i freshSeat
+
+-- "It waits at a D opportunity when, as E comes, it is in F7, holds a frame and that frame's class is at the normal level"
+pub record Waits (k i : ℕ) (m : Moment) : Type 0 where
+  pub in-F7 : seatThen i m .terminal .state ≡ F7
+  pub holds : seatThen i m .terminal .access .held ≡ k
+  pub normal : lowOf k (seatThen i m .terminal .access) ≡ false
+
+-- "The frame is completed when the echo of its last bit agrees": its frame of class k, at this E
+pub record Completes (k i : ℕ) (m : Moment) : Type 0 where
+  pub in-F7 : seatThen i m .terminal .state ≡ F7
+  pub done : turnOf (eComes m) (seatThen i m) .done ≡ k
+
+-- "A frame is begun where a sending's first bit leaves"
+pub record Begins (i : ℕ) (m : Moment) : Type 0 where
+  pub in-F7 : seatThen i m .terminal .state ≡ F7
+  pub idle : seatThen i m .terminal .access .sent ≡ 0
+  pub first : turnOf (eComes m) (seatThen i m) .access .sent ≡ 1
+
+-- the bus where the stretch begins and after each of its calls
+unfoldable pub buses : Bus → List Call → List Bus
+buses b [] = b ∷ []
+buses b (c ∷ more) = b ∷ buses (after b c) more
+
+-- "powered means outside F1": at some time
+unfoldable pub powered : ℕ → List Bus → Bool
+powered i [] = false
+powered i (b ∷ bs) = cond (eqb (seatAt i b .terminal .state) F1) (powered i bs) true
+
+-- how many of the terminals from index i on, k of them, are powered at some time
+unfoldable pub poweredFrom : ℕ → ℕ → List Bus → ℕ
+poweredFrom i zero bs = 0
+poweredFrom i (suc k) bs = cond (powered i bs) 1 0 + poweredFrom (suc i) k bs
+
+-- "n being the terminals powered at some time in the stretch"
+unfoldable pub poweredIn : List Bus → ℕ
+poweredIn bs = poweredFrom 0 terminals bs
+
+-- "L the longest frame image held in it", in bits
+unfoldable pub longestOf : List Seat → ℕ
+longestOf [] = 0
+longestOf (s ∷ ss) = max (s .terminal .access .length) (longestOf ss)
+
+unfoldable pub longestIn : List Bus → ℕ
+longestIn [] = 0
+longestIn (b ∷ bs) = max (longestOf (b .seats)) (longestIn bs)
