@@ -1,0 +1,2 @@
+-- Lists walked with an index.
+pub mod Over
