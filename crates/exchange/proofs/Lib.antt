@@ -1,0 +1,6 @@
+-- The bits of a lent image (Images); eight bits turned by eight terminals (Turning); the exchange by lines (Shown); the structs of the
+-- walks (Structs).
+pub mod Images
+pub mod Turning
+pub mod Shown
+pub mod Structs

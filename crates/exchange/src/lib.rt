@@ -1,0 +1,4 @@
+// The D opportunities of a period over the lent terminal records.
+pub mod moment;
+pub mod opportunity;
+pub mod part;

@@ -1,0 +1,170 @@
+// The exchange of a period as an E comes, in the few values that it takes: no symbol is built.
+ghost use mathlib.Core.Path.{_≡_};
+ghost use Rattle.combining.specs.Hit.{struckBit};
+ghost use Rattle.bus.specs.Quick.{sentE};
+ghost use Rattle.exchange.specs.Moment as spec;
+use combining::hit::KEEP_LETTER;
+use combining::hit::MINUS_LETTER;
+use combining::hit::PLUS_LETTER;
+use frame::fields::Four;
+use packing::bits::shifted;
+use table_6_2::info_sent;
+
+// The letters of a hit at the E that come, keep where there is no hit.
+pub struct Letters {
+    pub first: u8,
+    pub second: u8,
+    pub third: u8,
+    pub fourth: u8,
+}
+
+pub struct Moment {
+    pub letters: Letters,
+    // The last four D heard.
+    pub ds: Four,
+    // The network end's state.
+    pub state: u8,
+    // Which of the four opportunities this is, from 0.
+    pub place: u8,
+    // Which terminals have completed a frame of class 1 in this period, and of class 2: bit i for terminal i + 1.
+    pub done1: u8,
+    pub done2: u8,
+    // The last combined D that the network end heard.
+    pub heard: bool,
+    // The E that comes, and the AND of the D sent after it so far.
+    pub e: bool,
+    pub d: bool,
+    // Whether a terminal gone through so far sends INFO 1, and INFO 3.
+    pub calling: bool,
+    pub frames: bool,
+}
+
+// The E that a network end sends in a state, where the last D heard is d.
+fn sent_e(state: u8, d: bool) -> bool
+    ensures { λ r. ⌜ r ≡ sentE state d ⌝ }
+{
+    let info = table_6_3::info_sent(state);
+    if info == 4 { d } else { info != 2 }
+}
+
+// A hit's letter applied to a bit.
+fn struck_bit(letter: u8, bit: bool) -> bool
+    ensures { λ r. ⌜ r ≡ struckBit letter bit ⌝ }
+{
+    if letter == KEEP_LETTER {
+        bit
+    } else {
+        (letter != PLUS_LETTER) & (letter != MINUS_LETTER)
+    }
+}
+
+impl Moment {
+    // The exchange as its first E comes: the network end's state, the letters at the four E, and the last D heard.
+    pub fn first(state: u8, letters: Letters, heard: bool) -> Self
+        ensures { λ r. ⌜ r ≡ spec.firstMoment state letters heard ⌝ }
+    {
+        let ds = Four {
+            first: true,
+            second: true,
+            third: true,
+            fourth: true,
+        };
+        Moment {
+            letters,
+            ds,
+            state,
+            place: 0,
+            done1: 0,
+            done2: 0,
+            heard,
+            e: true,
+            d: true,
+            calling: false,
+            frames: false,
+        }
+    }
+
+    // The E has come, and no terminal has been gone through.
+    pub fn begun(self) -> Self
+        ensures { λ r. ⌜ r ≡ spec.begun self ⌝ }
+    {
+        let letters = self.letters;
+        let ds = self.ds;
+        Moment {
+            letters,
+            ds,
+            state: self.state,
+            place: self.place,
+            done1: self.done1,
+            done2: self.done2,
+            heard: self.heard,
+            e: struck_bit(letters.first, sent_e(self.state, self.heard)),
+            d: true,
+            calling: false,
+            frames: false,
+        }
+    }
+
+    // One terminal more: its state, its D, and the class of the frame that it has completed at this E, 0 for none.
+    // The octets turn by one bit at each terminal: after eight, bit i is terminal i + 1's again.
+    pub fn also(self, state: u8, d: bool, done: u8) -> Self
+        ensures { λ r. ⌜ r ≡ spec.also state d done self ⌝ }
+    {
+        let letters = self.letters;
+        let ds = self.ds;
+        let info = info_sent(state);
+        Moment {
+            letters,
+            ds,
+            state: self.state,
+            place: self.place,
+            done1: shifted(self.done1, (self.done1 % 2 == 1) | (done == 1)),
+            done2: shifted(self.done2, (self.done2 % 2 == 1) | (done == 2)),
+            heard: self.heard,
+            e: self.e,
+            d: self.d & d,
+            calling: self.calling | (info == 1),
+            frames: self.frames | (info == 3),
+        }
+    }
+
+    // The D that the network end hears: INFO 1 inverts that of the second opportunity, D25.
+    fn combined_d(self) -> bool
+        ensures { λ r. ⌜ r ≡ spec.combinedD self ⌝ }
+    {
+        self.d ^ ((self.place == 1) & self.calling)
+    }
+
+    // All terminals have been gone through.
+    pub fn ended(self) -> Self
+        ensures { λ r. ⌜ r ≡ spec.ended self ⌝ }
+    {
+        let heard = self.combined_d();
+        let letters = Letters {
+            first: self.letters.second,
+            second: self.letters.third,
+            third: self.letters.fourth,
+            fourth: KEEP_LETTER,
+        };
+        let ds = Four {
+            first: self.ds.second,
+            second: self.ds.third,
+            third: self.ds.fourth,
+            fourth: heard,
+        };
+        let place = if self.place < 3 { self.place + 1 } else { 0 };
+        Moment {
+            letters,
+            ds,
+            state: self.state,
+            place,
+            done1: self.done1,
+            done2: self.done2,
+            heard,
+            e: self.e,
+            d: self.d,
+            calling: self.calling,
+            frames: self.frames,
+        }
+    }
+}

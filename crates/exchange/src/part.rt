@@ -1,0 +1,56 @@
+// One terminal's part in a D opportunity.
+ghost use mathlib.Core.Path.{_≡_};
+ghost use Rattle.exchange.specs.Part.{imageBit, taken};
+use super::moment::Moment;
+use combining::combine::TERMINALS;
+use packing::image::IMAGE_ROOM;
+use packing::image::packed_bit;
+use table_6_2::F7;
+use terminal::Terminal;
+
+// The bits of one image's room: eight images are lent one after the other, each in octets for the longest.
+const IMAGE_BITS: u16 = 8 * IMAGE_ROOM as u16;
+
+// A terminal after its part, and the exchange with it gone through.
+pub struct Part {
+    pub terminal: Terminal,
+    pub moment: Moment,
+}
+
+// Bit number `sent` of the image lent with terminal i, from 0; 1 where there is none.
+fn image_bit(images: &[u8], i: usize, sent: u16) -> bool
+    ensures { λ r. ⌜ r ≡ imageBit (now (images .entry)) i sent ⌝ }
+{
+    if i < TERMINALS {
+        if sent < IMAGE_BITS {
+            return packed_bit(images, (i as u16) * IMAGE_BITS + sent);
+        }
+    }
+    true
+}
+
+// Terminal i's part at the E that has come: outside F7 it sends 1.
+pub fn one_turn(terminal: Terminal, images: &[u8], i: usize, moment: Moment) -> Part
+    ensures { λ r. ⌜ r ≡ taken (now (images .entry)) i moment terminal ⌝ }
+{
+    if terminal.state == F7 {
+        let before = terminal.access;
+        let turn = before.turn(moment.e, image_bit(images, i, before.sent));
+        let access = turn.access;
+        let alignment = terminal.alignment;
+        Part {
+            terminal: Terminal {
+                t3: terminal.t3,
+                access,
+                state: terminal.state,
+                alignment,
+            },
+            moment: moment.also(terminal.state, turn.d, turn.done),
+        }
+    } else {
+        Part {
+            terminal,
+            moment: moment.also(terminal.state, true, 0),
+        }
+    }
+}
