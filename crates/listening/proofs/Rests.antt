@@ -1,0 +1,95 @@
+-- A terminal that rests, and whose timer is not due at the next period's start, is as it was after both, and has no notes.
+use mathlib.Core.Path.{_≡_, refl, sym, _∙_}
+use mathlib.Core.Bool.{Bool, true, false, not, _&&_}
+use mathlib.Core.List.{[]}
+use Prim.Native.Nat.{ℕ}
+use lib.Dec.{eqb}
+use borrow.Author.Tests.{eqb-true}
+use Rattle.cases.proofs.ByCases.{by-test, clash}
+use Rattle.cells.specs.Notes.{packedNotes}
+use Rattle.cells.specs.Cells.{cellIn}
+use Rattle.dchannel.specs.declared.access.Access.{Access}
+use Rattle.table_6_2.specs.Table62.{F1, F3, F7}
+use Rattle.timing.specs.Counts.{nextPeriod}
+use Rattle.timing.specs.Timers.{due}
+use Rattle.timing.specs.declared.counts.Periods.{Periods}
+use Rattle.alignment.specs.Alignment.{framedPeriod, followed}
+use Rattle.hearing.specs.Heard.{downwardEvent}
+use Rattle.hearing.specs.declared.heard.Downward.{Downward}
+use Rattle.terminal.specs.Terminal.{unchanged, acts, happens, aligned, heardAs, hears, timer, ready, checked}
+use Rattle.terminal.specs.declared.Terminal.{Terminal}
+use Rattle.terminal.specs.declared.TerminalStep.{TerminalStep}
+use Rattle.listening.specs.Hears.{rests, heardStep, timedStep, hasNote, heardOne}
+
+-- ---- the two cells, each computed
+module _ (now t3 : ℕ) (access : Access) where
+  in-F7 : (state run : ℕ) (al pulse framed a : Bool) → state ≡ F7 → run ≡ 0 → (((al && pulse) && framed) && a) ≡ true →
+      hears (record { pulse = pulse; framed = framed; a = a }) now (record { t3 = t3; access = access; state = state; alignment = record { aligned = al; run = run } })
+      ≡ unchanged 0 (record { t3 = t3; access = access; state = state; alignment = record { aligned = al; run = run } })
+  unfolding hears heardAs aligned happens acts followed framedPeriod downwardEvent cellIn
+  in-F7 state run true true true true p q h = rw (p, q)
+  in-F7 state run true true true false p q h = clash false h refl
+  in-F7 state run true true false a p q h = clash false h refl
+  in-F7 state run true false framed a p q h = clash false h refl
+  in-F7 state run false pulse framed a p q h = clash false h refl
+
+  in-F3 : (state run : ℕ) (al pulse framed a : Bool) → state ≡ F3 → run ≡ 0 → (not al && not pulse) ≡ true →
+      hears (record { pulse = pulse; framed = framed; a = a }) now (record { t3 = t3; access = access; state = state; alignment = record { aligned = al; run = run } })
+      ≡ unchanged 0 (record { t3 = t3; access = access; state = state; alignment = record { aligned = al; run = run } })
+  unfolding hears heardAs aligned happens acts followed downwardEvent cellIn
+  in-F3 state run false false framed a p q h = rw (p, q)
+  in-F3 state run true pulse framed a p q h = clash false h refl
+  in-F3 state run false true framed a p q h = clash false h refl
+
+in-F1 : (line : Downward) (now : ℕ) (t : Terminal) → eqb (t .state) F1 ≡ true → hears line now t ≡ unchanged 0 t
+unfolding hears
+in-F1 line now t e = rw e
+
+-- Hearing leaves one that rests as it is.
+pub rests-hears : (line : Downward) (now : ℕ) (t : Terminal) → rests line t ≡ true → hears line now t ≡ unchanged 0 t
+unfolding rests
+rests-hears line now t h =
+    by-test (eqb (t .alignment .run) 0)
+    (λ u. let h1 = rw u at h in
+    by-test (eqb (t .state) F7)
+    (λ v. in-F7 now (t .t3) (t .access) (t .state) (t .alignment .run) (t .alignment .aligned) (line .pulse) (line .framed) (line .a) (eqb-true _ _ v) (eqb-true _ _ u) (rw v at h1))
+    (λ v. let h2 = rw v at h1 in
+    by-test (eqb (t .state) F3)
+    (λ w. in-F3 now (t .t3) (t .access) (t .state) (t .alignment .run) (t .alignment .aligned) (line .pulse) (line .framed) (line .a) (eqb-true _ _ w) (eqb-true _ _ u) (rw w at h2))
+    (λ w. in-F1 line now t (rw w at h2))))
+    (λ u. in-F1 line now t (rw u at h))
+
+-- A call that is a step which changes nothing, in range or not.
+abbrev Nothing : Terminal → TerminalStep → Type 0
+Nothing t s = (s .terminal ≡ t) × (s .notes ≡ packedNotes [])
+
+checked-nothing : (step : ℕ → Terminal → TerminalStep) (now : Periods) (t : Terminal) → step (now .0) t ≡ unchanged 0 t → Nothing t (checked step now t)
+unfolding checked
+checked-nothing step now t h = by-test (ready now t) (λ u. (rw (u, h), rw (u, h))) (λ u. (rw u, rw u))
+
+not-due : (now : ℕ) (t : Terminal) → due (t .t3) now ≡ false → timer now t ≡ unchanged 0 t
+unfolding timer
+not-due now t h = rw h
+
+module _ (line : Downward) (now : Periods) (t : Terminal) (r : rests line t ≡ true) (d : due (t .t3) (nextPeriod now .0) ≡ false) where
+  hearing-rests : Nothing t (heardStep line now t)
+  unfolding heardStep
+  hearing-rests = checked-nothing (hears line) now t (rests-hears line (now .0) t r)
+
+  timing-rests : Nothing t (timedStep line now t)
+  unfolding timedStep
+  timing-rests = rw (hearing-rests .0) (checked-nothing timer (nextPeriod now) t (not-due (nextPeriod now .0) t d))
+
+  -- One that rests, with no timer due: nothing happens.
+  pub one-rests : heardOne line now t ≡ record { terminal = t; notes = record { heard = packedNotes []; timed = packedNotes [] }; told = false }
+  unfolding heardOne hasNote
+  one-rests = rw (hearing-rests .1, timing-rests .0, timing-rests .1)
+
+not-held : (b : Bool) → not b ≡ true → b ≡ false
+not-held true h = clash false h refl
+not-held false h = refl
+
+-- The same, as the code finds it.
+pub rested : (line : Downward) (now : Periods) (t : Terminal) {next : Periods} {r d : Bool} → next ≡ nextPeriod now → r ≡ rests line t → r ≡ true → d ≡ due (t .t3) (next .0) → not d ≡ true →
+    record { terminal = t; notes = record { heard = packedNotes []; timed = packedNotes [] }; told = false } ≡ heardOne line now t
+rested line now t {next} {r} {d} n p q e f = sym (one-rests line now t (sym p ∙ q) (rw n at (sym e ∙ not-held d f)))

@@ -1,0 +1,64 @@
+-- One terminal's hearing of a period, and then its timer at the next one's start (document 01, "Order inside a period"); and that of all terminals.
+use mathlib.Core.Bool.{Bool, false, cond, not, _&&_, _||_}
+use mathlib.Core.List.{List}
+use Prim.Native.Nat.{ℕ}
+use lib.Dec.{eqb, ltb}
+use lib.ListN.{length}
+use Rattle.walks.specs.Over.{mapFrom, foldFrom}
+use Rattle.table_6_2.specs.Table62.{F1, F3, F7}
+use Rattle.timing.specs.Counts.{nextPeriod}
+use Rattle.timing.specs.declared.counts.Periods.{Periods}
+use Rattle.hearing.specs.declared.heard.Downward.{Downward}
+use Rattle.terminal.specs.Terminal as terminal
+use Rattle.terminal.specs.declared.Terminal.{Terminal}
+use Rattle.terminal.specs.declared.TerminalStep.{TerminalStep}
+use Rattle.cells.specs.declared.notes.Notes.{Notes}
+use Rattle.listening.specs.declared.hears.UnitNotes.{UnitNotes}
+use Rattle.listening.specs.declared.hears.HeardOne.{HeardOne}
+
+-- whether a terminal hears what it has heard before, so that nothing happens
+unfoldable pub rests : Downward → Terminal → Bool
+rests line t =
+    cond (eqb (t .alignment .run) 0)
+    (cond (eqb (t .state) F7)
+    (((t .alignment .aligned && line .pulse) && line .framed) && line .a)
+    (cond (eqb (t .state) F3) (not (t .alignment .aligned) && not (line .pulse)) (eqb (t .state) F1)))
+    (eqb (t .state) F1)
+
+-- the two calls one after the other
+unfoldable pub heardStep : Downward → Periods → Terminal → TerminalStep
+heardStep line period t = terminal.heard line period t
+
+unfoldable pub timedStep : Downward → Periods → Terminal → TerminalStep
+timedStep line period t = terminal.timerDue (nextPeriod period) (heardStep line period t .terminal)
+
+unfoldable pub hasNote : Notes → Bool
+hasNote n = ltb 0 (n .0)
+
+unfoldable pub heardOne : Downward → Periods → Terminal → HeardOne
+heardOne line period t =
+    record {
+      terminal = timedStep line period t .terminal;
+      notes = record { heard = heardStep line period t .notes; timed = timedStep line period t .notes };
+      told = hasNote (heardStep line period t .notes) || hasNote (timedStep line period t .notes);
+    }
+
+-- the same for the terminal at any index
+abbrev pub terminalAfter : Downward → Periods → ℕ → Terminal → Terminal
+terminalAfter line period i t = heardOne line period t .terminal
+
+abbrev pub notesAfter : Downward → Periods → ℕ → Terminal → UnitNotes
+notesAfter line period i t = heardOne line period t .notes
+
+abbrev pub toldAfter : Downward → Periods → ℕ → Bool → Terminal → Bool
+toldAfter line period i told t = told || heardOne line period t .told
+
+-- ---- All terminals: nothing is done where there are not as many places for notes.
+unfoldable pub allTold : Downward → Periods → List UnitNotes → List Terminal → Bool
+allTold line period ns ts = cond (eqb (length ns) (length ts)) (foldFrom (toldAfter line period) 0 false ts) false
+
+unfoldable pub allTerminals : Downward → Periods → List UnitNotes → List Terminal → List Terminal
+allTerminals line period ns ts = cond (eqb (length ns) (length ts)) (mapFrom (terminalAfter line period) 0 ts) ts
+
+unfoldable pub allNotes : Downward → Periods → List UnitNotes → List Terminal → List UnitNotes
+allNotes line period ns ts = cond (eqb (length ns) (length ts)) (mapFrom (notesAfter line period) 0 ts) ns
