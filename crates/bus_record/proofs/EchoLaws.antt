@@ -1,0 +1,96 @@
+-- The line that is built under a hit is a line, and what is sensed of it; and what the lines show that are not built.
+use mathlib.Core.Bool.{Bool, true, false, not, _&&_, _||_}
+use mathlib.Core.List.{List}
+use mathlib.Core.Path.{_≡_, refl}
+use Prim.Native.Nat.{ℕ, zero, suc, _≤_}
+use native.Mathlib.Omega.{arith}
+use lib.Dec.{eqb}
+use lib.ListN.{length, getD}
+use Rattle.cases.proofs.ByCases.{by-test}
+use Rattle.symbols.specs.Symbols.{lineLength, none, minus, isLine, leaves, tabulate}
+use Rattle.symbols.proofs.Lines.{line-small, line-by}
+use Rattle.symbols.proofs.Written.{left-written}
+use Rattle.frame.specs.declared.fields.Four.{Four}
+use Rattle.frame.proofs.Frames.{down-line}
+use Rattle.info.specs.Info.{info2Fields, info4Fields}
+use Rattle.combining.specs.Hit.{keepLetter, plusLetter, minusLetter, struck, hit, hitFits}
+use Rattle.cells.specs.Cells.{infoIn}
+use Rattle.table_6_3.specs.Table63.{infoSent}
+use Rattle.hearing.specs.Sensing.{sensedDown}
+use Rattle.hearing.specs.declared.heard.Downward.{Downward}
+use Rattle.hearing.specs.declared.heard.Upward.{Upward}
+use Rattle.hearing.specs.declared.sensing.SensedDown.{SensedDown}
+use Rattle.bus.specs.Quick.{shownBy, shownFrom}
+use Rattle.bus_record.specs.Echo.{lineFor, builtDown, sentEs, heardDown}
+use Rattle.bus_record.specs.declared.record.BusRecord.{BusRecord}
+
+-- INFO 0, 2 and 4 are lines
+line-for : (state : ℕ) (es : Four) → isLine (lineFor state es) ≡ true
+unfolding tabulate
+line-for state es =
+    by-test (eqb (infoIn infoSent state) 4)
+    (λ t. simp t (down-line (info4Fields es)))
+    (λ t. by-test (eqb (infoIn infoSent state) 2) (λ u. simp (t, u) (down-line info2Fields)) (λ u. simp (t, u) (line-by (λ i. none) (λ i. omega arith))))
+
+struck-small : (letter s : ℕ) → s ≤ minus → struck letter s ≤ minus
+struck-small letter s h =
+    by-test (eqb letter keepLetter) (λ t. simp t h)
+    (λ t. by-test (eqb letter plusLetter) (λ u. simp (t, u) (omega arith))
+    (λ u. by-test (eqb letter minusLetter) (λ v. simp (t, u, v) (omega arith)) (λ v. simp (t, u, v) (omega arith))))
+
+-- a line under a hit is a line, the hit taken or not
+struck-line : (letters l : List ℕ) → isLine l ≡ true → isLine (leaves (hitFits letters l) (hit letters l) l) ≡ true
+unfolding hit
+struck-line letters l h =
+    by-test (hitFits letters l)
+    (λ t. simp t (line-by (λ i. struck (getD letters i keepLetter) (getD l i none)) (λ i. struck-small (getD letters i keepLetter) (getD l i none) (line-small l h i))))
+    (λ t. simp t h)
+
+-- what a line shows that is heard under a hit
+pub heard-under : (bus : BusRecord) (ds : Four) (letters start built after : List ℕ) → bus .hit ≡ true → length start ≡ lineLength
+    → built ≡ builtDown (bus .network .state) (sentEs bus ds) start
+    → after ≡ leaves (hitFits letters built) (hit letters built) built
+    → sensedDown after ≡ SensedDown.Line (heardDown bus ds letters)
+unfolding sensedDown heardDown builtDown
+heard-under bus ds letters start built after struck long b a =
+    let l : List ℕ = lineFor (bus .network .state) (sentEs bus ds) in
+    let is : built ≡ l = left-written l start long b in
+    let e : after ≡ leaves (hitFits letters l) (hit letters l) l = rw is at a in
+    rw e (simp (struck-line letters l (line-for (bus .network .state) (sentEs bus ds)), struck))
+
+pub line-is : {x : SensedDown} {shown heard : Downward} → x ≡ SensedDown.Line heard → x ≡ SensedDown.Line shown → shown ≡ heard
+line-is e f = cc
+
+pub never-refused : {x : SensedDown} {shown heard : Downward} {k : ℕ} → x ≡ SensedDown.Line heard → x ≡ SensedDown.Refused k → shown ≡ heard
+never-refused e f = absurd (let z : _≡_ {A = ℕ} 0 1 = cc in omega arith)
+
+-- what a state's line shows, by its INFO
+pub shown-by-state : (state : ℕ)
+    → _≡_ {A = Downward}
+    (record { pulse = not (eqb (infoIn infoSent state) 0); framed = not (eqb (infoIn infoSent state) 0); a = not (eqb (infoIn infoSent state) 2) })
+    (shownBy state)
+unfolding shownBy infoIn
+shown-by-state zero = refl
+shown-by-state (suc zero) = refl
+shown-by-state (suc (suc zero)) = refl
+shown-by-state (suc (suc (suc zero))) = refl
+shown-by-state (suc (suc (suc (suc zero)))) = refl
+shown-by-state (suc (suc (suc (suc (suc n))))) = refl
+
+-- what the terminals' line shows
+pub shown-up : (calling frames : Bool)
+    → _≡_ {A = Upward} (record { pulse = calling || frames; framed = frames && not calling; info1 = calling && not frames }) (shownFrom calling frames)
+unfolding shownFrom
+shown-up true true = refl
+shown-up true false = refl
+shown-up false true = refl
+shown-up false false = refl
+
+-- a test that is turned round
+pub not-true : (b : Bool) → not b ≡ true → b ≡ false
+not-true true e = cc
+not-true false e = refl
+
+pub not-false : (b : Bool) → not b ≡ false → b ≡ true
+not-false true e = refl
+not-false false e = cc

@@ -1,0 +1,25 @@
+-- The bus record (document 01, "Order inside a period" and "D access (6.1)").
+use mathlib.Core.Bool.{Bool, true, false, _&&_}
+use Rattle.timing.specs.Counts.{atPeriod, periodsInRange, opportunitiesInRange}
+use Rattle.network.specs.Network.{networkInRange}
+use Rattle.network.specs.Network as network
+use Rattle.reader.specs.Counters.{freshReader}
+use Rattle.reader.specs.ReaderRange.{readerInRange}
+use Rattle.bus_record.specs.declared.record.BusRecord.{BusRecord}
+
+-- "A fresh bus is in G1 .., unaligned, with no timer running"
+abbrev pub freshRecord : BusRecord
+freshRecord =
+    record {
+      network = network.fresh;
+      periods = atPeriod 0;
+      opportunities = record { 0 = 0 };
+      reader = freshReader;
+      heard = true;
+      hit = false;
+    }
+
+-- Refusal 1: "A field of the bus record lies outside its range".
+unfoldable pub recordInRange : BusRecord → Bool
+recordInRange r =
+    ((networkInRange (r .network) && periodsInRange (r .periods)) && opportunitiesInRange (r .periods) (r .opportunities)) && readerInRange (r .reader)

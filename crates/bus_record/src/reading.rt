@@ -1,0 +1,69 @@
+// The network end reads the four D of a period.
+ghost use mathlib.Core.Path.{_≡_};
+ghost use Rattle.bus_record.specs.Reading.{quietReading, spokenTo, octetsTo, readIn, octetsIn};
+use cells::notes::HEARD;
+use cells::notes::TORN;
+use frame::fields::Four;
+use reader::Reader;
+use reader::ReaderAnswer;
+use table_6_3::G3;
+
+// The reader, and what it has said in this period: the note's code, 0 for none, and how many lent octets are the heard body.
+pub struct Spoken {
+    pub reader: Reader,
+    pub body: u16,
+    pub note: u8,
+}
+
+// Nothing read yet.
+fn quiet(reader: Reader) -> Spoken
+    ensures { λ r. ⌜ r ≡ quietReading reader ⌝ }
+{
+    Spoken {
+        reader,
+        body: 0,
+        note: 0,
+    }
+}
+
+impl Spoken {
+    // One bit more.
+    fn read_on(self, bit: bool, octets: &mut [u8]) -> Self
+        ensures { λ r. ⌜ (r ≡ spokenTo bit (now (octets .entry)) self) × (now (octets .exit) ≡ octetsTo bit self (now (octets .entry))) ⌝ }
+    {
+        let read = self.reader.read(bit, octets);
+        let reader = read.reader;
+        let answer = read.answer;
+        match answer {
+            ReaderAnswer::Heard(n) => Spoken {
+                reader,
+                body: n,
+                note: HEARD,
+            },
+            ReaderAnswer::Torn => Spoken {
+                reader,
+                body: 0,
+                note: TORN,
+            },
+            _ => Spoken {
+                reader,
+                body: self.body,
+                note: self.note,
+            },
+        }
+    }
+}
+
+// In G3 the four D of a period are read.
+pub fn read_in(state: u8, reader: Reader, ds: Four, octets: &mut [u8]) -> Spoken
+    ensures { λ r. ⌜ (r ≡ readIn state ds (now (octets .entry)) reader) × (now (octets .exit) ≡ octetsIn state ds reader (now (octets .entry))) ⌝ }
+{
+    let start = quiet(reader);
+    if state != G3 {
+        return start;
+    }
+    let first = start.read_on(ds.first, octets);
+    let second = first.read_on(ds.second, octets);
+    let third = second.read_on(ds.third, octets);
+    third.read_on(ds.fourth, octets)
+}

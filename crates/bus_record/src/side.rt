@@ -1,0 +1,149 @@
+// The network end's side of a period: it reads D, hears the upward line, and then come the timers due at the next one's start.
+ghost use mathlib.Core.Path.{_≡_};
+ghost use Rattle.bus.specs.Quick.{shownFrom};
+ghost use Rattle.bus_record.specs.NetworkSide.{readerAfter, networkListens, countedAfter, ranWith, ranAfter, octetsAfter, refusedRun};
+use super::reading::Spoken;
+use super::reading::read_in;
+use super::record::BusRecord;
+use cells::cell::NO_NOTES;
+use exchange::moment::Moment;
+use hearing::heard::Upward;
+use listening::hears::UnitNotes;
+use network::Network;
+use reader::Reader;
+use table_6_3::G3;
+use timing::counts::Opportunities;
+use timing::counts::Periods;
+
+// What a run of periods gives: the record; the last period's notes of unit 0, of the reader (its code, 0 for none, and the length of the
+// heard body) and of frames completed (bit i for terminal i + 1); whether that period has a note; and 0 or the number of the refusal.
+pub struct Ran {
+    pub bus: BusRecord,
+    pub network: UnitNotes,
+    pub body: u16,
+    pub said: u8,
+    pub done1: u8,
+    pub done2: u8,
+    pub told: bool,
+    pub reply: u8,
+}
+
+// The network end after a period, and its notes.
+pub struct NetworkHeard {
+    pub network: Network,
+    pub notes: UnitNotes,
+    // Whether it has left G3 on the way.
+    pub left: bool,
+}
+
+// What the terminals' line shows: any terminal that sends INFO 1, any that sends INFO 3.
+fn shown_from(calling: bool, frames: bool) -> Upward
+    ensures { λ r. ⌜ r ≡ shownFrom calling frames ⌝ }
+{
+    Upward {
+        pulse: calling | frames,
+        framed: frames & !calling,
+        info1: calling & !frames,
+    }
+}
+
+// The network end hears the line of a period; then comes the start of the next.
+fn network_listens(network: Network, line: Upward, period: Periods) -> NetworkHeard
+    ensures { λ r. ⌜ r ≡ networkListens line period network ⌝ }
+{
+    let heard = network.hear(line, period);
+    let after = heard.network;
+    let timed = after.timer_due(period.next_period());
+    let last = timed.network;
+    let first = heard.notes;
+    let second = timed.notes;
+    NetworkHeard {
+        network: last,
+        notes: UnitNotes {
+            heard: first,
+            timed: second,
+        },
+        left: ((network.state == G3) & (after.state != G3))
+            | ((after.state == G3) & (last.state != G3)),
+    }
+}
+
+// Leaving G3 clears the reader.
+pub fn reader_after(left: bool, reader: Reader) -> Reader
+    ensures { λ r. ⌜ r ≡ readerAfter left reader ⌝ }
+{
+    if left { Reader::fresh() } else { reader }
+}
+
+// Four D opportunities for a period in G3.
+fn counted(state: u8, opportunities: Opportunities) -> Opportunities
+    ensures { λ r. ⌜ r ≡ countedAfter state opportunities ⌝ }
+{
+    if state == G3 {
+        opportunities.four_more()
+    } else {
+        opportunities
+    }
+}
+
+// All that a period gives, from what the reader said, the network end heard and the exchange left.
+fn ran_with(bus: BusRecord, moment: Moment, spoken: Spoken, side: NetworkHeard, told: bool) -> Ran
+    ensures { λ r. ⌜ r ≡ ranWith bus moment spoken side told ⌝ }
+{
+    let notes = side.notes;
+    let network = side.network;
+    Ran {
+        bus: BusRecord {
+            network,
+            periods: bus.periods.next_period(),
+            opportunities: counted(bus.network.state, bus.opportunities),
+            reader: reader_after(side.left, spoken.reader),
+            heard: moment.heard,
+            hit: false,
+        },
+        network: notes,
+        body: spoken.body,
+        said: spoken.note,
+        done1: moment.done1,
+        done2: moment.done2,
+        told: told
+            | (spoken.note != 0)
+            | (moment.done1 != 0)
+            | (moment.done2 != 0)
+            | (0 < notes.heard.0)
+            | (0 < notes.timed.0),
+        reply: 0,
+    }
+}
+
+// The network end's side of a period, after the exchange and the terminals' hearing.
+pub fn network_side(bus: BusRecord, moment: Moment, octets: &mut [u8], told: bool) -> Ran
+    ensures { λ r. ⌜ (r ≡ ranAfter bus moment (now (octets .entry)) told) × (now (octets .exit) ≡ octetsAfter bus moment (now (octets .entry))) ⌝ }
+{
+    let spoken = read_in(bus.network.state, bus.reader, moment.ds, octets);
+    let side = network_listens(
+        bus.network,
+        shown_from(moment.calling, moment.frames),
+        bus.periods,
+    );
+    ran_with(bus, moment, spoken, side, told)
+}
+
+// Nothing is run: the record as it is, with a reply.
+pub fn refused_run(bus: BusRecord, reply: u8) -> Ran
+    ensures { λ r. ⌜ r ≡ refusedRun reply bus ⌝ }
+{
+    Ran {
+        bus,
+        network: UnitNotes {
+            heard: NO_NOTES,
+            timed: NO_NOTES,
+        },
+        body: 0,
+        said: 0,
+        done1: 0,
+        done2: 0,
+        told: false,
+        reply,
+    }
+}
