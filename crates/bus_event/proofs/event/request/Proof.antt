@@ -1,0 +1,34 @@
+-- `request` meets its contract: `ar` or `dr` of the network end.
+use mathlib.Core.Logic.{⊎-elim}
+use mathlib.Core.Path.{_≡_, _∙_}
+use mathlib.Core.Bool.{cond}
+use lib.Dec.{eqb}
+use borrow.Author.Tests.{eq-eqb, ne-eqb}
+use Rattle.table_6_3.specs.Table63 as table63
+use Rattle.bus.specs.Event.{AR}
+use Rattle.bus_event.specs.Event.{networkAsked, asked}
+use borrow.Author.Needs.{needs}
+use Rattle.bus_event.proofs.event.request.Statement.{statement}
+use Rattle.bus_event.proofs.event.request.Tie as tie
+
+request-requires : tie.Need-request-requires
+request-requires c κs = search needs
+
+reader-after-requires : tie.Need-reader-after-requires
+reader-after-requires c κs = search needs
+
+replied-requires : tie.Need-replied-requires
+replied-requires c κs = search needs
+
+returns : tie.Need-returns
+unfolding networkAsked asked
+returns c =
+    let asked-then = c .before .before .before .before .before .before .before .before in
+    let joined = asked-then .before in
+    let event = joined .before .args .event in
+    let number : joined .if1 .number ≡ cond (eqb event AR) table63.AR table63.DR =
+    ⊎-elim (λ w. w .1 ∙ simp (eq-eqb _ _ (w .0 .taken))) (λ w. w .1 ∙ simp (ne-eqb _ _ (w .0 .left))) (joined .if1 .came) in
+    simp (c .replied .ensures, c .before .reader-after .ensures, asked-then .request .ensures, number)
+
+pub request-spec : {M : Type 1} → statement M
+request-spec = tie.close (tie.spec request-requires reader-after-requires replied-requires returns)

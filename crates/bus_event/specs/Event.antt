@@ -1,0 +1,123 @@
+-- An event of the book on the bus record, on the network end and on one terminal with the images lent (document 01, "Bench book and
+-- report" and "Reasons a call is turned down").
+use mathlib.Core.Bool.{Bool, true, cond, not, _&&_, _||_}
+use mathlib.Core.List.{List, [], _++_}
+use Prim.Native.Nat.{ℕ, _*_}
+use lib.Dec.{eqb, ltb}
+use lib.ListN.{length, take, drop}
+use Rattle.symbols.specs.Symbols.{lineLength, fits}
+use Rattle.combining.specs.Hit.{noneLetter}
+use Rattle.cells.specs.Notes.{packedNotes}
+use Rattle.cells.specs.declared.notes.Notes.{Notes}
+use Rattle.hdlc.specs.Image.{image}
+use Rattle.packing.specs.Packing.{imageRoom, isBodyLength, imagedOctets}
+use Rattle.dchannel.specs.declared.access.Class.{Class}
+use Rattle.dchannel.specs.declared.access.Class.the-variants.{One, Two}
+use Rattle.table_6_2.specs.Table62.{F7}
+use Rattle.table_6_3.specs.Table63 as table63
+use Rattle.timing.specs.declared.counts.Periods.{Periods}
+use Rattle.network.specs.Network as network
+use Rattle.network.specs.declared.NetworkStep.{NetworkStep}
+use Rattle.terminal.specs.Terminal as terminal
+use Rattle.terminal.specs.declared.Terminal.{Terminal}
+use Rattle.terminal.specs.declared.TerminalStep.{TerminalStep}
+use Rattle.bus.specs.Bus.{terminals}
+use Rattle.bus.specs.Event.{ON, OFF, AR, D1, D2, HIT, eventFor}
+use Rattle.bus_record.specs.Record.{recordInRange}
+use Rattle.bus_record.specs.NetworkSide.{leavesG3, readerAfter}
+use Rattle.bus_record.specs.declared.record.BusRecord.{BusRecord}
+use Rattle.bus_event.specs.declared.event.Told.{Told}
+
+-- the octets lent for eight images
+abbrev pub imagesRoom : ℕ
+imagesRoom = terminals * imageRoom
+
+unfoldable pub told : BusRecord → Notes → ℕ → Told
+told r notes k = record { bus = r; notes = notes; reply = k }
+
+-- "A lent slice of .. hit letters is not 48 long or holds a code that stands for none of them"
+abbrev pub areLetters : List ℕ → Bool
+areLetters letters = fits lineLength noneLetter letters
+
+-- the reasons 1 to 4
+unfoldable pub firstReason : Bool → BusRecord → ℕ → List ℕ → ℕ → ℕ → List ℕ → ℕ
+firstReason ready r images letters unit event value =
+    cond (ready && recordInRange r)
+    (cond ((eqb images imagesRoom && areLetters letters) && (not (eqb event HIT) || areLetters value))
+    (cond (ltb terminals unit) 3 (cond (eventFor unit event) 0 4))
+    2)
+    1
+
+-- ---- Unit 0.
+
+-- the letters of a hit are taken over
+unfoldable pub takenOver : List ℕ → List ℕ → List ℕ
+takenOver value letters = cond (eqb (length value) (length letters)) value letters
+
+unfoldable pub withHit : BusRecord → BusRecord
+withHit r =
+    record { network = r .network; periods = r .periods; opportunities = r .opportunities; reader = r .reader; heard = r .heard; hit = true }
+
+unfoldable pub asked : ℕ → BusRecord → NetworkStep
+asked event r = network.requested (cond (eqb event AR) table63.AR table63.DR) (r .periods) (r .network)
+
+-- `ar` or `dr`
+unfoldable pub networkAsked : ℕ → BusRecord → Told
+networkAsked event r =
+    told
+    (record {
+      network = asked event r .network;
+      periods = r .periods;
+      opportunities = r .opportunities;
+      reader = readerAfter (leavesG3 (r .network .state) (asked event r .network .state)) (r .reader);
+      heard = r .heard;
+      hit = r .hit;
+    })
+    (asked event r .notes)
+    (asked event r .reply)
+
+unfoldable pub networkTold : ℕ → BusRecord → Told
+networkTold event r = cond (eqb event HIT) (told (withHit r) (packedNotes []) 0) (networkAsked event r)
+
+unfoldable pub lettersAfter : ℕ → List ℕ → List ℕ → List ℕ
+lettersAfter event value letters = cond (eqb event HIT) (takenOver value letters) letters
+
+-- ---- A terminal, with the images lent.
+
+-- the image of a body in the room of terminal i
+unfoldable pub imagePut : ℕ → List ℕ → List ℕ → List ℕ
+imagePut i body images =
+    take (i * imageRoom) images
+    ++ (imagedOctets body (take imageRoom (drop (i * imageRoom) images)) ++ drop imageRoom (drop (i * imageRoom) images))
+
+-- the first reason for which terminal i is not given a frame of so many octets: 1 and 2 by what is lent, 6, 7, 8
+unfoldable pub frameReason : ℕ → ℕ → ℕ → Terminal → ℕ
+frameReason images i octets t =
+    cond (terminal.terminalInRange t)
+    (cond (eqb images imagesRoom && ltb i terminals)
+    (cond (eqb (t .state) F7) (cond (isBodyLength octets) (cond (eqb (t .access .held) 0) 0 8) 7) 6)
+    2)
+    1
+
+unfoldable pub turnedDown : ℕ → Terminal → TerminalStep
+turnedDown k t = record { terminal = t; notes = packedNotes []; reply = k }
+
+-- `d1` or `d2`
+unfoldable pub frameGiven : Class → List ℕ → ℕ → List ℕ → Terminal → TerminalStep
+frameGiven class images i body t =
+    let reason = frameReason (length images) i (length body) t in
+    cond (eqb reason 0) (terminal.handedOver class (length (image body)) t) (turnedDown reason t)
+
+unfoldable pub imagesWith : Terminal → ℕ → List ℕ → List ℕ → List ℕ
+imagesWith t i body images = cond (eqb (frameReason (length images) i (length body) t) 0) (imagePut i body images) images
+
+unfoldable pub terminalTold : ℕ → List ℕ → ℕ → List ℕ → Periods → Terminal → TerminalStep
+terminalTold event images i value period t =
+    cond (eqb event ON) (terminal.switchedOn period t)
+    (cond (eqb event OFF) (terminal.switchedOff period t)
+    (cond (eqb event AR) (terminal.requested period t)
+    (cond (eqb event D1) (frameGiven One images i value t)
+    (cond (eqb event D2) (frameGiven Two images i value t) (turnedDown 4 t)))))
+
+unfoldable pub imagesAfter : ℕ → Terminal → ℕ → List ℕ → List ℕ → List ℕ
+imagesAfter event t i value images = cond (eqb event D1 || eqb event D2) (imagesWith t i value images) images

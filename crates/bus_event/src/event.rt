@@ -1,0 +1,249 @@
+// An event of the book: what it does to the network end or to one terminal, and the reasons for which it is turned down.
+ghost use mathlib.Core.Path.{_≡_};
+ghost use Prim.Native.Nat.{_*_, _<_, _≤_};
+ghost use lib.ListN.{length};
+ghost use Rattle.packing.specs.Packing.{imageRoom};
+ghost use Rattle.hdlc.specs.Image.{image, longestBody};
+ghost use Rattle.bus.specs.Bus.{terminals};
+ghost use Rattle.bus.specs.Event.{eventFor};
+ghost use Rattle.bus_event.specs.Event as spec;
+use bus_record::record::BusRecord;
+use bus_record::side::reader_after;
+use cells::cell::NO_NOTES;
+use cells::notes::Notes;
+use combining::combine::TERMINALS;
+use combining::hit::NONE_LETTER;
+use dchannel::access::Class;
+use packing::image::IMAGE_ROOM;
+use packing::image::Imaged;
+use packing::image::LONGEST_BODY;
+use packing::image::image;
+use symbols::LINE_LENGTH;
+use symbols::fits;
+use table_6_2::F7;
+use table_6_3::G3;
+use terminal::Terminal;
+use terminal::TerminalStep;
+use timing::counts::Periods;
+
+// The events, in the order in which document 01 names them.
+pub const ON: u8 = 1;
+
+pub const OFF: u8 = 2;
+
+pub const AR: u8 = 3;
+
+pub const DR: u8 = 4;
+
+pub const D1: u8 = 5;
+
+pub const D2: u8 = 6;
+
+pub const HIT: u8 = 7;
+
+// The highest unit number: a terminal's.
+const LAST_UNIT: u32 = TERMINALS as u32;
+
+// The octets of the rooms of all images.
+pub const IMAGES_ROOM: usize = TERMINALS * IMAGE_ROOM;
+
+// What an event gives: the record, the notes of its unit, and 0 or the number of the refusal.
+pub struct Told {
+    pub bus: BusRecord,
+    pub notes: Notes,
+    pub reply: u8,
+}
+
+// The record as it is, with notes and a reply.
+pub fn replied(bus: BusRecord, notes: Notes, reply: u8) -> Told
+    ensures { λ r. ⌜ r ≡ spec.told bus notes reply ⌝ }
+{
+    Told { bus, notes, reply }
+}
+
+// Whether an event is one for a unit.
+fn event_for(unit: u32, event: u8) -> bool
+    ensures { λ r. ⌜ r ≡ eventFor unit event ⌝ }
+{
+    if unit == 0 {
+        return (event == AR) | (event == DR) | (event == HIT);
+    }
+    (event == ON) | (event == OFF) | (event == AR) | (event == D1) | (event == D2)
+}
+
+// The first of the reasons 1 to 4 that holds, or 0: `ready` is whether the slice of terminals is in order, `images` the number of octets
+// lent for images.
+pub fn first_reason(
+    ready: bool,
+    bus: BusRecord,
+    images: usize,
+    letters: &[u8],
+    unit: u32,
+    event: u8,
+    value: &[u8],
+) -> u8
+    ensures { λ r. ⌜ r ≡ spec.firstReason ready bus images (now (letters .entry)) unit event (now (value .entry)) ⌝ }
+{
+    if !(ready & bus.in_range()) {
+        return 1;
+    }
+    let lent = (images == IMAGES_ROOM) & fits(letters, LINE_LENGTH, NONE_LETTER);
+    let struck = (event != HIT) | fits(value, LINE_LENGTH, NONE_LETTER);
+    if !(lent & struck) {
+        return 2;
+    }
+    if LAST_UNIT < unit {
+        return 3;
+    }
+    if event_for(unit, event) { 0 } else { 4 }
+}
+
+// The letters of a hit are taken over, where they are as many as the letters lent.
+fn take_over(value: &[u8], letters: &mut [u8])
+    ensures { λ _. ⌜ now (letters .exit) ≡ spec.takenOver (now (value .entry)) (now (letters .entry)) ⌝ }
+{
+    if value.len() == letters.len() {
+        let mut i: usize = 0;
+        while i < letters.len() {
+            letters[i] = value[i];
+            i += 1;
+        }
+    }
+}
+
+// The record with a hit pending.
+fn with_hit(bus: BusRecord) -> BusRecord
+    ensures { λ r. ⌜ r ≡ spec.withHit bus ⌝ }
+{
+    let network = bus.network;
+    let periods = bus.periods;
+    let opportunities = bus.opportunities;
+    let reader = bus.reader;
+    BusRecord {
+        network,
+        periods,
+        opportunities,
+        reader,
+        heard: bus.heard,
+        hit: true,
+    }
+}
+
+// A request to the network end: `ar`, and every other number as `dr`: the event has been looked at.
+fn request(bus: BusRecord, event: u8) -> Told
+    ensures { λ r. ⌜ r ≡ spec.networkAsked event bus ⌝ }
+{
+    let number = if event == AR {
+        table_6_3::AR
+    } else {
+        table_6_3::DR
+    };
+    let step = bus.network.request(number, bus.periods);
+    let network = step.network;
+    let notes = step.notes;
+    let periods = bus.periods;
+    let opportunities = bus.opportunities;
+    let left = (bus.network.state == G3) & (network.state != G3);
+    let after = BusRecord {
+        network,
+        periods,
+        opportunities,
+        reader: reader_after(left, bus.reader),
+        heard: bus.heard,
+        hit: bus.hit,
+    };
+    replied(after, notes, step.reply)
+}
+
+// An event of unit 0.
+pub fn network_event(bus: BusRecord, letters: &mut [u8], event: u8, value: &[u8]) -> Told
+    ensures { λ r. ⌜ (r ≡ spec.networkTold event bus) × (now (letters .exit) ≡ spec.lettersAfter event (now (value .entry)) (now (letters .entry))) ⌝ }
+{
+    if event == HIT {
+        take_over(value, letters);
+        return replied(with_hit(bus), NO_NOTES, 0);
+    }
+    request(bus, event)
+}
+
+// The image of a body goes to the room of terminal i; its length in bits.
+fn put_image(images: &mut [u8], i: usize, value: &[u8]) -> u16
+    requires { ⌜ (i < terminals) × (length (now images) ≡ terminals * imageRoom) × (1 ≤ length (now value)) × (length (now value) ≤ longestBody) ⌝ }
+    ensures { λ r. ⌜ (r ≡ length (image (now (value .entry)))) × (now (images .exit) ≡ spec.imagePut i (now (value .entry)) (now (images .entry))) ⌝ }
+{
+    let from = i * IMAGE_ROOM;
+    let to = from + IMAGE_ROOM;
+    match image(value, &mut images[from..to]) {
+        Imaged::Bits(n) => n,
+        Imaged::Refused(_) => 0,
+    }
+}
+
+// The first of the reasons for which terminal i is not given a frame, or 0.
+fn frame_reason(terminal: Terminal, images: usize, i: usize, octets: usize) -> u8
+    ensures { λ r. ⌜ r ≡ spec.frameReason images i octets terminal ⌝ }
+{
+    if !terminal.in_range() {
+        return 1;
+    }
+    if !((images == IMAGES_ROOM) & (i < TERMINALS)) {
+        return 2;
+    }
+    if terminal.state != F7 {
+        return 6;
+    }
+    if !((octets != 0) & (octets <= LONGEST_BODY)) {
+        return 7;
+    }
+    if terminal.access.held == 0 { 0 } else { 8 }
+}
+
+// The terminal as it is.
+fn turned_down(terminal: Terminal, reply: u8) -> TerminalStep
+    ensures { λ r. ⌜ r ≡ spec.turnedDown reply terminal ⌝ }
+{
+    TerminalStep {
+        terminal,
+        notes: NO_NOTES,
+        reply,
+    }
+}
+
+// `d1` or `d2` of terminal i: nothing is written before all reasons are looked at.
+fn give_frame(
+    terminal: Terminal,
+    images: &mut [u8],
+    i: usize,
+    class: Class,
+    value: &[u8],
+) -> TerminalStep
+    ensures { λ r. ⌜ (r ≡ spec.frameGiven class (now (images .entry)) i (now (value .entry)) terminal) × (now (images .exit) ≡ spec.imagesWith terminal i (now (value .entry)) (now (images .entry))) ⌝ }
+{
+    let reason = frame_reason(terminal, images.len(), i, value.len());
+    if reason != 0 {
+        return turned_down(terminal, reason);
+    }
+    let length = put_image(images, i, value);
+    terminal.hand_over(class, length)
+}
+
+// An event of terminal i.
+pub fn terminal_event(
+    terminal: Terminal,
+    images: &mut [u8],
+    i: usize,
+    event: u8,
+    value: &[u8],
+    period: Periods,
+) -> TerminalStep
+    ensures { λ r. ⌜ (r ≡ spec.terminalTold event (now (images .entry)) i (now (value .entry)) period terminal) × (now (images .exit) ≡ spec.imagesAfter event terminal i (now (value .entry)) (now (images .entry))) ⌝ }
+{
+    match event {
+        ON => terminal.switch_on(period),
+        OFF => terminal.switch_off(period),
+        AR => terminal.request(period),
+        D1 => give_frame(terminal, images, i, Class::One, value),
+        D2 => give_frame(terminal, images, i, Class::Two, value),
+        _ => turned_down(terminal, 4),
+    }
+}
