@@ -1,0 +1,44 @@
+-- The structs of the walks, each once: its laws as a `Kind`, and of a slice's element also its size and what stands past the end.
+use mathlib.Core.Path.{refl}
+use Rattle.walks.proofs.Slices.{Kind, Element, struct-kind}
+use Rattle.frame.proofs.fields.Four as Four
+use Rattle.frame.proofs.fields.Four.Laws as Four′
+use Rattle.cells.proofs.notes.Notes as Notes
+use Rattle.cells.proofs.notes.Notes.Laws as Notes′
+use Rattle.timing.proofs.counts.Periods as Periods
+use Rattle.timing.proofs.counts.Periods.Laws as Periods′
+use Rattle.terminal.specs.Terminal.{fresh}
+use Rattle.terminal.proofs.Terminal as T
+use Rattle.terminal.proofs.Terminal.Laws as T′
+use Rattle.terminal.proofs.TerminalStep as Step
+use Rattle.terminal.proofs.TerminalStep.Laws as Step′
+use Rattle.bus_record.proofs.record.BusRecord as Bus
+use Rattle.bus_record.proofs.record.BusRecord.Laws as Bus′
+use Rattle.bus_record.proofs.side.Ran as Ran
+use Rattle.bus_record.proofs.side.Ran.Laws as Ran′
+use Rattle.bus_event.proofs.event.Told as Told
+use Rattle.bus_event.proofs.event.Told.Laws as Told′
+
+abbrev pub terminals : Element T.the-row
+terminals = record { kind = struct-kind T.the-type T′.the-laws T′.the-plain T′.the-copy T′.mir refl; blank = fresh; size = 24; size-is = refl; size-fits = tt }
+
+abbrev pub fours : Kind Four.the-row
+fours = struct-kind Four.the-type Four′.the-laws Four′.the-plain Four′.the-copy Four′.mir refl
+
+abbrev pub buses : Kind Bus.the-row
+buses = struct-kind Bus.the-type Bus′.the-laws Bus′.the-plain Bus′.the-copy Bus′.mir refl
+
+abbrev pub runs : Kind Ran.the-row
+runs = struct-kind Ran.the-type Ran′.the-laws Ran′.the-plain Ran′.the-copy Ran′.mir refl
+
+abbrev pub notes : Kind Notes.the-row
+notes = struct-kind Notes.the-type Notes′.the-laws Notes′.the-plain Notes′.the-copy Notes′.mir refl
+
+abbrev pub periods : Kind Periods.the-row
+periods = struct-kind Periods.the-type Periods′.the-laws Periods′.the-plain Periods′.the-copy Periods′.mir refl
+
+abbrev pub terminal-steps : Kind Step.the-row
+terminal-steps = struct-kind Step.the-type Step′.the-laws Step′.the-plain Step′.the-copy Step′.mir refl
+
+abbrev pub tolds : Kind Told.the-row
+tolds = struct-kind Told.the-type Told′.the-laws Told′.the-plain Told′.the-copy Told′.mir refl

@@ -1,0 +1,5 @@
+// The calls on a bus: its record by value, the eight terminal records lent as one slice.
+pub mod event;
+pub mod ready;
+pub mod run;
+pub mod step;

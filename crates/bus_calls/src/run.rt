@@ -1,0 +1,61 @@
+// Periods are run.
+ghost use mathlib.Core.Path.{_≡_};
+ghost use Rattle.bus_calls.specs.Kept.{kept};
+ghost use Rattle.bus_calls.specs.Run.{ran, keptAfter};
+use super::ready::goes_on;
+use super::ready::in_range;
+use super::ready::run_reason;
+use super::step::step;
+use bus_record::record::BusRecord;
+use bus_record::side::Ran;
+use bus_record::side::refused_run;
+use listening::hears::UnitNotes;
+use terminal::Terminal;
+
+// Runs periods until so many are run or one hands back notes: as many single calls of `period`. The images are of the frames that are
+// held, and the octets keep what is read of a body: a caller lends the same ones to every call.
+pub fn run(
+    bus: BusRecord,
+    terminals: &mut [Terminal],
+    images: &[u8],
+    octets: &mut [u8],
+    letters: &[u8],
+    notes: &mut [UnitNotes],
+    most: u32,
+) -> Ran
+    ensures { λ r. ⌜ (let k = kept bus (now (terminals .entry)) (now (images .entry)) (now (octets .entry)) (now (letters .entry)) (now (notes .entry)) in (r ≡ ran most k) × (now (terminals .exit) ≡ keptAfter most k .terminals) × (now (octets .exit) ≡ keptAfter most k .octets) × (now (notes .exit) ≡ keptAfter most k .notes)) ⌝ }
+{
+    let ready = in_range(terminals);
+    let reason = run_reason(
+        ready,
+        bus,
+        images.len(),
+        octets.len(),
+        letters,
+        notes.len(),
+        most,
+    );
+    let mut last = refused_run(bus, reason);
+    let mut left = most;
+    let mut going = goes_on(last, left);
+    while going {
+        last = step(last.bus, terminals, images, octets, letters, notes);
+        left -= 1;
+        going = goes_on(last, left);
+    }
+    last
+}
+
+// Runs one period.
+pub fn period(
+    bus: BusRecord,
+    terminals: &mut [Terminal],
+    images: &[u8],
+    octets: &mut [u8],
+    letters: &[u8],
+    notes: &mut [UnitNotes],
+) -> Ran
+    ensures { λ r. ⌜ (let k = kept bus (now (terminals .entry)) (now (images .entry)) (now (octets .entry)) (now (letters .entry)) (now (notes .entry)) in (r ≡ ran 1 k) × (now (terminals .exit) ≡ keptAfter 1 k .terminals) × (now (octets .exit) ≡ keptAfter 1 k .octets) × (now (notes .exit) ≡ keptAfter 1 k .notes)) ⌝ }
+{
+    run(bus, terminals, images, octets, letters, notes, 1)
+}

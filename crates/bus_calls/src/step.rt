@@ -1,0 +1,31 @@
+// One period: exchange, hearing, then the timers due at the next one's start.
+ghost use mathlib.Core.Path.{_≡_};
+ghost use lib.ListN.{length};
+ghost use Rattle.bus_calls.specs.Step.{stepRan, stepTerminals, stepOctets, stepNotes};
+use bus_record::echo::first_moment;
+use bus_record::echo::heard_down;
+use bus_record::record::BusRecord;
+use bus_record::side::Ran;
+use bus_record::side::network_side;
+use exchange::opportunity::exchange;
+use listening::hears::UnitNotes;
+use listening::listen::listen;
+use terminal::Terminal;
+
+pub(crate) fn step(
+    bus: BusRecord,
+    terminals: &mut [Terminal],
+    images: &[u8],
+    octets: &mut [u8],
+    letters: &[u8],
+    notes: &mut [UnitNotes],
+) -> Ran
+    requires { ⌜ length (now notes) ≡ length (now terminals) ⌝ }
+    ensures { λ r. ⌜ (r ≡ stepRan bus (now (terminals .entry)) (now (images .entry)) (now (octets .entry)) (now (letters .entry))) × (now (terminals .exit) ≡ stepTerminals bus (now (terminals .entry)) (now (images .entry)) (now (letters .entry))) × (now (octets .exit) ≡ stepOctets bus (now (terminals .entry)) (now (images .entry)) (now (octets .entry)) (now (letters .entry))) × (now (notes .exit) ≡ stepNotes bus (now (terminals .entry)) (now (images .entry)) (now (letters .entry))) ⌝ }
+{
+    let first = first_moment(bus, letters);
+    let moment = exchange(terminals, images, first);
+    let line = heard_down(bus, moment.ds, letters);
+    let told = listen(terminals, notes, line, bus.periods);
+    network_side(bus, moment, octets, told)
+}
