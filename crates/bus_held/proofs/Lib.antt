@@ -1,0 +1,2 @@
+-- The structs of the walks (Structs).
+pub mod Structs

@@ -1,0 +1,2 @@
+-- What a call over terminals held by value finds.
+pub mod Held

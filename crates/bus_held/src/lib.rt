@@ -1,0 +1,95 @@
+// The calls over terminals held by value: who has the eight records in an array hands it over and has it back, and lends no terminal.
+ghost use mathlib.Core.Path.{_≡_};
+ghost use Rattle.exchange.specs.Opportunities as opportunities;
+ghost use Rattle.bus_calls.specs.Event as events;
+ghost use Rattle.bus_calls.specs.Run.{ran, keptAfter};
+ghost use Rattle.bus_held.specs.Held.{found};
+use bus_event::event::Told;
+use bus_record::record::BusRecord;
+use bus_record::side::Ran;
+use cells::cell::NO_NOTES;
+use exchange::moment::Moment;
+use listening::hears::UnitNotes;
+use terminal::Terminal;
+
+// What an opportunity gives back.
+pub struct HeldMoment {
+    pub terminals: [Terminal; 8],
+    pub moment: Moment,
+}
+
+// What an event gives back.
+pub struct HeldEvent {
+    pub told: Told,
+    pub terminals: [Terminal; 8],
+}
+
+// What a run gives back, with the notes of each terminal in its last period.
+pub struct HeldRun {
+    pub ran: Ran,
+    pub terminals: [Terminal; 8],
+    pub notes: [UnitNotes; 8],
+}
+
+const NONE: UnitNotes = UnitNotes {
+    heard: NO_NOTES,
+    timed: NO_NOTES,
+};
+
+// One D opportunity.
+pub fn opportunity(before: [Terminal; 8], images: &[u8], moment: Moment) -> HeldMoment
+    ensures { λ r. ⌜ (r .moment ≡ opportunities.momentAfter (now (images .entry)) moment before) × (r .terminals ≡ opportunities.terminalsAfter (now (images .entry)) moment before) ⌝ }
+{
+    let mut terminals = before;
+    let after = exchange::opportunity::opportunity(&mut terminals, images, moment);
+    HeldMoment {
+        terminals,
+        moment: after,
+    }
+}
+
+// Gives the bus an event: any unit number, any event number, any value.
+pub fn event(
+    bus: BusRecord,
+    before: [Terminal; 8],
+    images: &mut [u8],
+    letters: &mut [u8],
+    unit: u32,
+    event: u8,
+    value: &[u8],
+) -> HeldEvent
+    ensures { λ r. ⌜ (r .told ≡ events.eventTold unit event (now (value .entry)) bus before (now (images .entry)) (now (letters .entry))) × (r .terminals ≡ events.terminalsAfter unit event (now (value .entry)) bus before (now (images .entry)) (now (letters .entry))) × (now (images .exit) ≡ events.imagesAfter unit event (now (value .entry)) bus before (now (images .entry)) (now (letters .entry))) × (now (letters .exit) ≡ events.lettersAfter unit event (now (value .entry)) bus before (now (images .entry)) (now (letters .entry))) ⌝ }
+{
+    let mut terminals = before;
+    let told = bus_calls::event::event(bus, &mut terminals, images, letters, unit, event, value);
+    HeldEvent { told, terminals }
+}
+
+// Runs periods until so many are run or one hands back notes.
+pub fn run(
+    bus: BusRecord,
+    before: [Terminal; 8],
+    images: &[u8],
+    octets: &mut [u8],
+    letters: &[u8],
+    most: u32,
+) -> HeldRun
+    ensures { λ r. ⌜ (let k = found bus before (now (images .entry)) (now (octets .entry)) (now (letters .entry)) in (r .ran ≡ ran most k) × (r .terminals ≡ keptAfter most k .terminals) × (r .notes ≡ keptAfter most k .notes) × (now (octets .exit) ≡ keptAfter most k .octets)) ⌝ }
+{
+    let mut terminals = before;
+    let mut notes = [NONE; 8];
+    let ran = bus_calls::run::run(
+        bus,
+        &mut terminals,
+        images,
+        octets,
+        letters,
+        &mut notes,
+        most,
+    );
+    HeldRun {
+        ran,
+        terminals,
+        notes,
+    }
+}
