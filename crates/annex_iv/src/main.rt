@@ -1,7 +1,7 @@
 // Annex IV of JT-I430 run against the calls: tables IV-2 and IV-3 row by row, and the tests of IV.2.2. A row has its number, the state,
 // the stimulus, the next state and the INFO that is sent there, as the annex has them; then the reply, the notes and the period at
-// whose start each timer is due, as tables 6-2 and 6-3 and document 01 have them. `stdout` is written from those. IV.2.1, the echo, needs
-// the whole bus.
+// whose start each timer is due, as tables 6-2 and 6-3 and document 01 have them. `stdout` is written from those. IV.2.1, the echo, is in
+// `bus_rows`.
 ghost use Prim.Native.Nat.{_≤_};
 ghost use lib.ListN.{length};
 use dchannel::access::Class;

@@ -1,0 +1,48 @@
+-- `until` meets its contract, which says nothing: its loop ends.
+use mathlib.Core.Path.{_≡_}
+use Prim.Native.Nat.{_-_}
+use lib.ListN.{length}
+use borrow.Author.Needs.{needs}
+use Rattle.bus_rows.proofs.bench.Bench.until.Statement.{statement}
+use Rattle.bus_rows.proofs.bench.Bench.until.Tie as tie
+
+abbrev Inv-loop : tie.InvT-loop
+Inv-loop images body₀ end bench₀ i₀ body bench i = length body ≡ length body₀
+
+abbrev μ-loop : tie.MeasureT-loop
+μ-loop images body₀ end bench₀ i₀ body bench i = end - i
+
+loop-holds : tie.Need-loop-holds Inv-loop μ-loop
+loop-holds c = search needs
+
+row-requires : tie.Need-row-requires Inv-loop μ-loop
+row-requires c κs = search needs
+
+add-i : tie.Need-add-i Inv-loop μ-loop
+add-i c = search needs
+
+loop-less : tie.Need-loop-less Inv-loop μ-loop
+loop-less c = search needs
+
+loop-again : tie.Need-loop-again Inv-loop μ-loop
+loop-again c = search needs
+
+same-length : tie.Need-same-length Inv-loop μ-loop
+same-length c = search needs
+
+returns : tie.Need-returns Inv-loop μ-loop
+returns c = search needs
+
+pub until-spec : {M : Type 1} → statement M
+until-spec =
+    tie.close
+    (tie.spec
+    Inv-loop
+    μ-loop
+    loop-holds
+    row-requires
+    add-i
+    loop-less
+    loop-again
+    same-length
+    returns)
