@@ -1,0 +1,81 @@
+-- Lines and what they say, computed: lines of right form, and each class of wrong form of reason 12.
+use mathlib.Core.Path.{_≡_, refl}
+use mathlib.Core.List.{List, [], _∷_, _++_, map}
+use Prim.Native.Nat.{ℕ}
+use Prim.Native.String.{String}
+use lib.ListN.{replicate}
+use Rattle.symbols.specs.Symbols.{sameSymbols}
+use Rattle.cells.specs.Names.{ascii}
+use Rattle.text.specs.Text.{split, onto, all, onward}
+use Rattle.book_line.specs.Line.{ON, AR, DR, D1, D2, HIT, END, eventNamed, isNumber, isAbsent, isBody, isHit, valueFits, formed, judged}
+use Rattle.book_line.specs.Value.{hexDigit, pairs, bodyOf, letterCode, valueOctets}
+use Rattle.book_line.specs.declared.line.Judged.{Judged}
+use Rattle.book_line.specs.declared.line.Judged.the-variants.{Entry, Wrong}
+
+-- a line, and what it says
+pub record Example : Type 0 where
+  pub line : List ℕ
+  pub says : Judged
+
+abbrev says : String → Judged → Example
+says line judged = record { line = ascii line; says = judged }
+
+-- a line that begins so, with that many digits 0 behind it
+abbrev says-long : String → ℕ → Judged → Example
+says-long line zeros judged = record { line = ascii line ++ replicate zeros 48; says = judged }
+
+abbrev examples : List Example
+examples =
+    -- document 01's example
+    says "0 1 on -" (Entry 0 1 ON)
+    ∷ says "1 1 ar -" (Entry 1 1 AR)
+    ∷ says "9 1 d1 00" (Entry 9 1 D1)
+    ∷ says "20 0 end -" (Entry 20 0 END)
+    -- seven digits, leading zeros, an empty body, a unit that is none, an event that is not one for the unit
+    ∷ says "9999999 0000008 d2 -" (Entry 9999999 8 D2)
+    ∷ says "3 9 dr -" (Entry 3 9 DR)
+    ∷ says "5 0 hit kpmnkpmnkpmnkpmnkpmnkpmnkpmnkpmnkpmnkpmnkpmnkpmn" (Entry 5 0 HIT)
+    -- 600 characters with the LF; one more is too long
+    ∷ says-long "0 1 d1 " 592 (Entry 0 1 D1)
+    ∷ says-long "00 1 d1 " 592 Wrong
+    -- not four fields
+    ∷ says "" Wrong
+    ∷ says "0 1 on" Wrong
+    ∷ says "0 1 on - " Wrong
+    ∷ says "0 1  on -" Wrong
+    -- a period or a unit of the wrong form
+    ∷ says "00000001 1 on -" Wrong
+    ∷ says "+1 1 on -" Wrong
+    ∷ says " 1 on -" Wrong
+    ∷ says "0 1a on -" Wrong
+    -- an event name that is none
+    ∷ says "0 1 onn -" Wrong
+    ∷ says "0 1 ON -" Wrong
+    -- hexadecimal digits: an odd number of them, upper case, none
+    ∷ says "0 1 d1 000" Wrong
+    ∷ says "0 1 d1 0A" Wrong
+    ∷ says "0 1 d1 " Wrong
+    -- letters of a hit: 47 of them, another letter, none
+    ∷ says "5 0 hit kpmnkpmnkpmnkpmnkpmnkpmnkpmnkpmnkpmnkpmnkpmnkpm" Wrong
+    ∷ says "5 0 hit kpmnkpmnkpmnkpmnkpmnkpmnkpmnkpmnkpmnkpmnkpmnkpmx" Wrong
+    ∷ says "5 0 hit -" Wrong
+    -- a value where none belongs
+    ∷ says "0 1 on 00" Wrong
+    ∷ says "0 1 on --" Wrong
+    ∷ []
+
+pub judgements : map (λ (x : Example). judged (x .line)) examples ≡ map (λ (x : Example). x .says) examples
+unfolding sameSymbols split onto all onward eventNamed isNumber isAbsent isBody isHit valueFits formed judged
+judgements = refl
+
+-- The sixteen digits.
+pub hex-digits : map hexDigit (ascii "0123456789abcdef") ≡ 0 ∷ 1 ∷ 2 ∷ 3 ∷ 4 ∷ 5 ∷ 6 ∷ 7 ∷ 8 ∷ 9 ∷ 10 ∷ 11 ∷ 12 ∷ 13 ∷ 14 ∷ 15 ∷ []
+unfolding hexDigit
+hex-digits = refl
+
+-- A body, the empty one, letters, and a value of an event that has none.
+pub octets-of-values :
+    (valueOctets D1 (ascii "00ff7e") ∷ valueOctets D2 (ascii "-") ∷ valueOctets HIT (ascii "kpmn") ∷ valueOctets ON (ascii "-") ∷ [])
+    ≡ ((0 ∷ 255 ∷ 126 ∷ []) ∷ [] ∷ (0 ∷ 1 ∷ 2 ∷ 3 ∷ []) ∷ [] ∷ [])
+unfolding sameSymbols isAbsent hexDigit pairs bodyOf letterCode valueOctets
+octets-of-values = refl

@@ -1,0 +1,6 @@
+-- Numbers of a line, the judging of a line, octets laid into room, what a value's octets are; and lines of each kind, computed.
+pub mod Numbers
+pub mod Judging
+pub mod Laying
+pub mod Values
+pub mod Examples

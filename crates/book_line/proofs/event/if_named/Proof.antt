@@ -1,0 +1,17 @@
+-- `event::if_named` meets its contract.
+use mathlib.Core.Path.{sym, _∙_}
+use borrow.Author.Needs.{needs}
+use Rattle.book_line.proofs.event.if_named.Statement.{statement}
+use Rattle.book_line.proofs.event.if_named.Tie as tie
+
+same-requires : tie.Need-same-requires
+same-requires c κs = search needs
+
+returns : tie.Need-returns
+returns c = rw (sym (c .before .same .ensures) ∙ c .if1 .taken)
+
+returns-2 : tie.Need-returns-2
+returns-2 c = rw (sym (c .before .same .ensures) ∙ c .if1 .left)
+
+pub if-named-spec : {M : Type 1} → statement M
+if-named-spec = tie.close (tie.spec same-requires returns returns-2)

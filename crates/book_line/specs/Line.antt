@@ -1,0 +1,128 @@
+-- When a line of a book is of right form, and what it then says (document 01, "Bench book and report" and "Reasons a call is turned down",
+-- 12 to 14). A line stands here with its LF left off.
+use mathlib.Core.Bool.{Bool, cond, not, _&&_, _||_}
+use mathlib.Core.List.{List}
+use Prim.Native.Nat.{ℕ, _%_}
+use lib.Dec.{eqb, ltb, leb}
+use lib.ListN.{length}
+use Rattle.symbols.specs.Symbols.{lineLength}
+use Rattle.cells.specs.Names.{ascii}
+use Rattle.timing.specs.Counts.{mostPeriods}
+use Rattle.text.specs.Text.{fields, field, same, all, isDigit, isHex, isLetter, number}
+use Rattle.book_line.specs.declared.number.Number.{Number}
+use Rattle.book_line.specs.declared.line.Judged.{Judged}
+
+-- ---- Events.
+
+-- The events' numbers, in the order in which document 01 names them; 0 is none.
+abbrev pub ON : ℕ
+ON = 1
+
+abbrev pub OFF : ℕ
+OFF = 2
+
+abbrev pub AR : ℕ
+AR = 3
+
+abbrev pub DR : ℕ
+DR = 4
+
+abbrev pub D1 : ℕ
+D1 = 5
+
+abbrev pub D2 : ℕ
+D2 = 6
+
+abbrev pub HIT : ℕ
+HIT = 7
+
+abbrev pub END : ℕ
+END = 8
+
+-- The number of the event that a name names.
+unfoldable pub eventNamed : List ℕ → ℕ
+eventNamed name =
+    cond (same name (ascii "on")) ON
+    (cond (same name (ascii "off")) OFF
+    (cond (same name (ascii "ar")) AR
+    (cond (same name (ascii "dr")) DR
+    (cond (same name (ascii "d1")) D1
+    (cond (same name (ascii "d2")) D2
+    (cond (same name (ascii "hit")) HIT
+    (cond (same name (ascii "end")) END 0)))))))
+
+-- An `end` line is accepted exactly at unit 0 ("`end` (unit 0 ..)"): no state bars it.
+unfoldable pub isEnd : ℕ → ℕ → Bool
+isEnd unit event = eqb event END && eqb unit 0
+
+-- ---- Forms of fields.
+
+-- "decimal, at most seven digits"
+abbrev pub mostDigits : ℕ
+mostDigits = 7
+
+unfoldable pub isNumber : List ℕ → Bool
+isNumber f = leb 1 (length f) && leb (length f) mostDigits && all isDigit f
+
+-- "an absent value is `-`"
+unfoldable pub isAbsent : List ℕ → Bool
+isAbsent v = same v (ascii "-")
+
+-- "value the body in lower-case hexadecimal, `-` an empty one"; "an odd number of hexadecimal digits" is of the wrong form.
+unfoldable pub isBody : List ℕ → Bool
+isBody v = isAbsent v || (leb 1 (length v) && eqb (length v % 2) 0 && all isHex v)
+
+-- "48 letters .. for this period's downward line": one for each symbol.
+unfoldable pub isHit : List ℕ → Bool
+isHit v = eqb (length v) lineLength && all isLetter v
+
+-- Whether a value is of the form that the event wants: "a value where none belongs" is not.
+unfoldable pub valueFits : ℕ → List ℕ → Bool
+valueFits event v = cond (eqb event D1 || eqb event D2) (isBody v) (cond (eqb event HIT) (isHit v) (isAbsent v))
+
+-- ---- Lines.
+
+-- The four fields, "period unit event value".
+abbrev pub periodOf : List ℕ → ℕ
+periodOf line = number (field 0 line)
+
+abbrev pub unitOf : List ℕ → ℕ
+unitOf line = number (field 1 line)
+
+abbrev pub eventOf : List ℕ → ℕ
+eventOf line = eventNamed (field 2 line)
+
+abbrev pub valueOf : List ℕ → List ℕ
+valueOf line = field 3 line
+
+-- "a line has at most 600 characters, its LF included"
+abbrev pub longestLine : ℕ
+longestLine = 600
+
+-- 12: "A line is too long, .. has not four fields, or has a field of the wrong form"; its LF is the reader's matter.
+unfoldable pub formed : List ℕ → Bool
+formed line =
+    ltb (length line) longestLine
+    && eqb (length (fields line)) 4
+    && isNumber (field 0 line)
+    && isNumber (field 1 line)
+    && (not (eqb (eventOf line) 0) && valueFits (eventOf line) (valueOf line))
+
+-- 13: "A line's period is before the last one's, or above 4,000,000."
+unfoldable pub inOrder : ℕ → ℕ → Bool
+inOrder last period = leb last period && leb period mostPeriods
+
+-- ---- The code's answers.
+
+-- A number, or that its form is wrong.
+unfoldable pub numberOf : List ℕ → Number
+numberOf f = cond (isNumber f) (Number.Is (number f)) Number.Wrong
+
+-- What a line says, or that its form is wrong: 12.
+unfoldable pub judged : List ℕ → Judged
+judged line = cond (formed line) (Judged.Entry (periodOf line) (unitOf line) (eventOf line)) Judged.Wrong
+
+-- The number of the fault that an answer stands for, or 0.
+unfoldable pub faultOf : Judged → ℕ
+faultOf (Judged.Entry period unit event) = 0
+faultOf Judged.Wrong = 12

@@ -1,0 +1,42 @@
+-- What the value of a line says in octets (document 01, "Bench book and report": "value the body in lower-case hexadecimal, `-` an empty
+-- one", "48 letters, k keep, p plus, m minus, n none").
+use mathlib.Core.Path.{_≡_}
+use mathlib.Core.Bool.{cond, _||_}
+use mathlib.Core.List.{List, [], _∷_, _++_, map}
+use Prim.Native.Char.{code}
+use Prim.Native.Nat.{ℕ, _+_, _*_, _%_, min}
+use lib.Dec.{eqb, leb}
+use lib.ListN.{length, take, drop}
+use Rattle.book_line.specs.Line.{D1, D2, HIT, isAbsent}
+
+-- The number that a hexadecimal digit stands for, by its code's low four bits: 0 to 9 have the codes 48 to 57, a to f the codes 97 to 102.
+-- Some number below 16 for any other octet.
+unfoldable pub hexDigit : ℕ → ℕ
+hexDigit c = cond (leb c (code "9")) (c % 16) ((c % 16 + 9) % 16)
+
+-- Two digits an octet, the high one first; a digit that is left over says nothing.
+unfoldable pub pairs : List ℕ → List ℕ
+pairs [] = []
+pairs (a ∷ []) = []
+pairs (a ∷ b ∷ more) = (hexDigit a * 16 + hexDigit b) ∷ pairs more
+
+-- The octets of a body.
+unfoldable pub bodyOf : List ℕ → List ℕ
+bodyOf v = cond (isAbsent v) [] (pairs v)
+
+-- The code of a hit letter, by which the bus knows it: keep, plus, minus, none.
+unfoldable pub letterCode : ℕ → ℕ
+letterCode c = cond (eqb c (code "k")) 0 (cond (eqb c (code "p")) 1 (cond (eqb c (code "m")) 2 3))
+
+-- The octets of an event's value: a body's, the codes of a hit's letters, and of other events none.
+unfoldable pub valueOctets : ℕ → List ℕ → List ℕ
+valueOctets event v = cond (eqb event D1 || eqb event D2) (bodyOf v) (cond (eqb event HIT) (map letterCode v) [])
+
+-- Room for the octets of the value of any line of right form: two characters an octet, of fewer than 600.
+abbrev pub valueRoom : ℕ
+valueRoom = 300
+
+-- Octets laid into lent room from its front, as many as there is room for; what lies behind them stays. Their number is handed back.
+pub record Laid (octets room : List ℕ) (laid : ℕ) (room′ : List ℕ) : Type 0 where
+  pub count : laid ≡ min (length octets) (length room)
+  pub lies : room′ ≡ take (length room) octets ++ drop (length octets) room

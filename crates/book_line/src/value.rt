@@ -1,0 +1,77 @@
+// What a value says in octets: those of a body, the codes of a hit's letters.
+use crate::event::D1;
+use crate::event::D2;
+use crate::event::HIT;
+use text::length::least;
+ghost use mathlib.Core.Path.{_≡_};
+ghost use mathlib.Core.List.{map};
+ghost use Prim.Native.Nat.{_+_, _*_};
+ghost use Rattle.book_line.specs.Value as spec;
+
+// Room for the octets of the value of any line of right form.
+pub const VALUE_ROOM: usize = 300;
+
+// The number that a hexadecimal digit stands for.
+pub fn hex_digit(c: u8) -> u8
+    ensures { λ r. ⌜ r ≡ spec.hexDigit c ⌝ }
+{
+    if c <= b'9' { c % 16 } else { (c % 16 + 9) % 16 }
+}
+
+// The code of a hit letter.
+pub fn letter_code(c: u8) -> u8
+    ensures { λ r. ⌜ r ≡ spec.letterCode c ⌝ }
+{
+    match c {
+        b'k' => 0,
+        b'p' => 1,
+        b'm' => 2,
+        _ => 3,
+    }
+}
+
+// The octet that two hexadecimal digits write, the high one first.
+fn octet(high: u8, low: u8) -> u8
+    ensures { λ r. ⌜ r ≡ spec.hexDigit high * 16 + spec.hexDigit low ⌝ }
+{
+    hex_digit(high) * 16 + hex_digit(low)
+}
+
+// The octets of a body.
+fn body(value: &[u8], out: &mut [u8]) -> usize
+    ensures { λ r. ⌜ spec.Laid (spec.pairs (now (value .entry))) (now (out .entry)) r (now (out .exit)) ⌝ }
+{
+    let most = least(value.len() / 2, out.len());
+    let mut n: usize = 0;
+    while n < most {
+        out[n] = octet(value[2 * n], value[2 * n + 1]);
+        n += 1;
+    }
+    n
+}
+
+// The codes of a hit's letters.
+fn letters(value: &[u8], out: &mut [u8]) -> usize
+    ensures { λ r. ⌜ spec.Laid (map spec.letterCode (now (value .entry))) (now (out .entry)) r (now (out .exit)) ⌝ }
+{
+    let most = least(value.len(), out.len());
+    let mut n: usize = 0;
+    while n < most {
+        out[n] = letter_code(value[n]);
+        n += 1;
+    }
+    n
+}
+
+// The octets of an event's value, laid into lent room from its front, as many as there is room for; their number comes back.
+pub fn octets(event: u8, value: &[u8], out: &mut [u8]) -> usize
+    ensures { λ r. ⌜ spec.Laid (spec.valueOctets event (now (value .entry))) (now (out .entry)) r (now (out .exit)) ⌝ }
+{
+    if (event == D1) | (event == D2) {
+        return body(value, out);
+    }
+    if event == HIT {
+        return letters(value, out);
+    }
+    0
+}

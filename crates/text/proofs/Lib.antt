@@ -1,0 +1,2 @@
+-- Laws of pieces and of tests of every octet.
+pub mod Pieces

@@ -1,0 +1,154 @@
+-- Laws of pieces, and how a loop over a text comes on by an octet.
+use mathlib.Core.Path.{_≡_, refl, sym, ap, _∙_}
+use mathlib.Core.Bool.{Bool, true, false, cond}
+use mathlib.Core.List.{List, [], _∷_}
+use Prim.Native.Nat.{ℕ, zero, suc, _+_, _-_, _≤_, _<_}
+use native.Mathlib.Numerals.{add-one}
+use native.Mathlib.Omega.{arith}
+use lib.Dec.{eqb, ltb, leb·suc-suc}
+use lib.ListN.{length, getD, take, drop, length-drop, drop-of-length-le}
+use lib.Seq.{drop-cons, drop-drop}
+use borrow.Author.Tests.{eq-eqb, ne-eqb, lt-ltb, le-ltb}
+use Rattle.cases.proofs.ByCases.{by-test}
+use Rattle.symbols.proofs.Scan.{Rest, rest-here, rest-next, rest-done, same-symbols-short}
+use Rattle.text.specs.Text.{onto, split, upto, same, all}
+
+-- ---- Where a piece ends.
+pub upto-le : (sep : ℕ) (t : List ℕ) → upto sep t ≤ length t
+unfolding upto
+upto-le sep [] = omega arith
+upto-le sep (c ∷ t) = by-test (eqb c sep) (λ e. simp e (omega arith)) (λ e. simp e (omega (arith, upto-le sep t)))
+
+module _ (sep : ℕ) (t : List ℕ) (i : ℕ) where
+  pub upto-stop : i < length t → getD t i 0 ≡ sep → upto sep (drop i t) ≡ 0
+  unfolding upto
+  upto-stop h e = rw (drop-cons t i 0 h) (simp (eq-eqb (getD t i 0) sep e))
+
+  pub upto-go : i < length t → (getD t i 0 ≡ sep → ⊥) → upto sep (drop i t) ≡ suc (upto sep (drop (i + 1) t))
+  unfolding upto
+  upto-go h e = rw (drop-cons t i 0 h, add-one i) (simp (ne-eqb (getD t i 0) sep e))
+
+  pub upto-end : length t ≤ i → upto sep (drop i t) ≡ 0
+  unfolding upto
+  upto-end h = rw (drop-of-length-le t h)
+
+  -- a piece that starts in the text ends there
+  pub upto-within : i ≤ length t → i + upto sep (drop i t) ≤ length t
+  upto-within h = omega (arith, upto-le sep (drop i t), length-drop i t)
+
+-- ---- Pieces.
+onto-some : (c : ℕ) (ps : List (List ℕ)) → 0 < length (onto c ps)
+unfolding onto
+onto-some c [] = omega arith
+onto-some c (p ∷ ps) = omega arith
+
+pub split-some : (sep : ℕ) (t : List ℕ) → 0 < length (split sep t)
+unfolding split
+split-some sep [] = omega arith
+split-some sep (c ∷ t) = by-test (eqb c sep) (λ e. simp e (omega arith)) (λ e. simp e (onto-some c (split sep t)))
+
+-- the first piece, and the pieces after its separator
+pub split-upto : (sep : ℕ) (t : List ℕ)
+    → split sep t ≡ take (upto sep t) t ∷ cond (ltb (upto sep t) (length t)) (split sep (drop (suc (upto sep t)) t)) []
+unfolding split upto onto
+split-upto sep [] = refl
+split-upto sep (c ∷ t) =
+    by-test (eqb c sep)
+    (λ e. simp (e, lt-ltb 0 (suc (length t)) (omega arith)))
+    (λ e. simp (e, split-upto sep t)
+    (ap (λ (b : Bool). (c ∷ take (upto sep t) t) ∷ cond b (split sep (drop (suc (upto sep t)) t)) [])
+    (sym (leb·suc-suc (suc (upto sep t)) (length t)))))
+
+module _ (sep : ℕ) (t : List ℕ) where
+  pub piece-here : getD (split sep t) 0 [] ≡ take (upto sep t) t
+  piece-here = ap (λ (ps : List (List ℕ)). getD ps 0 []) (split-upto sep t)
+
+  pub piece-next : (k : ℕ) → upto sep t < length t → getD (split sep t) (suc k) [] ≡ getD (split sep (drop (suc (upto sep t)) t)) k []
+  piece-next k h = ap (λ (ps : List (List ℕ)). getD ps (suc k) []) (split-upto sep t) ∙ simp (lt-ltb (upto sep t) (length t) h)
+
+  pub piece-none : (k : ℕ) → length t ≤ upto sep t → getD (split sep t) (suc k) [] ≡ []
+  piece-none k h = ap (λ (ps : List (List ℕ)). getD ps (suc k) []) (split-upto sep t) ∙ simp (le-ltb (upto sep t) (length t) h)
+
+-- A piece is no longer than its text.
+skip-le : (ps : List (List ℕ)) (n : ℕ) → ((k : ℕ) → length (getD ps k []) ≤ n) → (k : ℕ) → length (getD ([] ∷ ps) k []) ≤ suc n
+skip-le ps n h zero = omega arith
+skip-le ps n h (suc k) = omega (arith, h k)
+
+onto-le : (c : ℕ) (ps : List (List ℕ)) (n : ℕ) → ((k : ℕ) → length (getD ps k []) ≤ n) → (k : ℕ) → length (getD (onto c ps) k []) ≤ suc n
+unfolding onto
+onto-le c [] n h zero = omega arith
+onto-le c [] n h (suc k) = omega arith
+onto-le c (p ∷ ps) n h zero = omega (arith, h 0)
+onto-le c (p ∷ ps) n h (suc k) = omega (arith, h (suc k))
+
+pub piece-le : (sep : ℕ) (t : List ℕ) (k : ℕ) → length (getD (split sep t) k []) ≤ length t
+unfolding split
+piece-le sep [] zero = omega arith
+piece-le sep [] (suc k) = omega arith
+piece-le sep (c ∷ t) k =
+    by-test (eqb c sep)
+    (λ e. rw e (skip-le (split sep t) (length t) (λ j. piece-le sep t j) k))
+    (λ e. rw e (onto-le c (split sep t) (length t) (λ j. piece-le sep t j) k))
+
+-- ---- A loop that passes pieces, with `left` of them left and the piece at `from` ending at `end`.
+module _ (sep : ℕ) (line : List ℕ) (from left end : ℕ) (ends : end ≡ from + upto sep (drop from line)) where
+  -- on to the piece after the separator
+  pub field-turn : 0 < left → end < length line → getD (split sep (drop from line)) left [] ≡ getD (split sep (drop (end + 1) line)) (left - 1) []
+  field-turn h l =
+      let w : left ≡ suc (left - 1) = omega arith in
+      let v : end + 1 ≡ from + suc (upto sep (drop from line)) = omega arith in
+      ap (λ (k : ℕ). getD (split sep (drop from line)) k []) w
+      ∙ (piece-next sep (drop from line) (left - 1) (omega (arith, length-drop from line))
+      ∙ rw (v, drop-drop (suc (upto sep (drop from line))) from line))
+
+  -- the line has no further piece
+  pub field-past : 0 < left → length line ≤ end → getD (split sep (drop from line)) left [] ≡ []
+  field-past h l =
+      let w : left ≡ suc (left - 1) = omega arith in
+      ap (λ (k : ℕ). getD (split sep (drop from line)) k []) w
+      ∙ piece-none sep (drop from line) (left - 1) (omega (arith, length-drop from line))
+
+  -- the piece is found
+  pub field-found : left ≡ 0 → take (end - from) (drop from line) ≡ getD (split sep (drop from line)) left []
+  field-found z =
+      let w : end - from ≡ upto sep (drop from line) = omega arith in rw (z, w) (sym (piece-here sep (drop from line)))
+
+-- ---- How many pieces.
+length-onto : (c : ℕ) (ps : List (List ℕ)) → 0 < length ps → length (onto c ps) ≡ length ps
+unfolding onto
+length-onto c [] h = absurd (omega arith)
+length-onto c (p ∷ ps) h = refl
+
+module _ (sep : ℕ) (t : List ℕ) (i : ℕ) where
+  pub count-sep : i < length t → getD t i 0 ≡ sep → length (split sep (drop i t)) ≡ suc (length (split sep (drop (i + 1) t)))
+  unfolding split
+  count-sep h e = rw (drop-cons t i 0 h, add-one i) (simp (eq-eqb (getD t i 0) sep e))
+
+  pub count-other : i < length t → (getD t i 0 ≡ sep → ⊥) → length (split sep (drop i t)) ≡ length (split sep (drop (i + 1) t))
+  unfolding split
+  count-other h e =
+      rw (drop-cons t i 0 h, add-one i)
+      (simp (ne-eqb (getD t i 0) sep e)
+      (length-onto (getD t i 0) (split sep (drop (suc i) t)) (split-some sep (drop (suc i) t))))
+
+  pub count-end : length t ≤ i → length (split sep (drop i t)) ≡ 1
+  unfolding split
+  count-end h = rw (drop-of-length-le t h)
+
+-- ---- A loop that tests every octet.
+module _ (p : ℕ → Bool) {t : List ℕ} {i : ℕ} (rest : Rest (all p) t i) where
+  pub all-go : i < length t → p (getD t i 0) ≡ true → Rest (all p) t (i + 1)
+  unfolding all
+  all-go h e = rest-next rest h (rw e)
+
+  pub all-stop : i < length t → p (getD t i 0) ≡ false → all p t ≡ false
+  unfolding all
+  all-stop h e = rest-here rest h ∙ rw e
+
+  pub all-end : length t ≤ i → all p t ≡ true
+  unfolding all
+  all-end h = rest-done rest h
+
+-- ---- Two texts.
+pub same-length : (a b : List ℕ) → (length a ≡ length b → ⊥) → same a b ≡ false
+same-length a b h = same-symbols-short a b h

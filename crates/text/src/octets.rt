@@ -1,0 +1,52 @@
+// Tests of an octet, and of every octet of a text.
+ghost use mathlib.Core.Path.{_≡_};
+ghost use Rattle.text.specs.Text as spec;
+
+// A decimal digit.
+pub fn is_digit(c: u8) -> bool
+    ensures { λ r. ⌜ r ≡ spec.isDigit c ⌝ }
+{
+    (b'0' <= c) & (c <= b'9')
+}
+
+// A lower-case hexadecimal digit.
+pub fn is_hex(c: u8) -> bool
+    ensures { λ r. ⌜ r ≡ spec.isHex c ⌝ }
+{
+    ((b'0' <= c) & (c <= b'9')) | ((b'a' <= c) & (c <= b'f'))
+}
+
+// A letter of a hit.
+pub fn is_letter(c: u8) -> bool
+    ensures { λ r. ⌜ r ≡ spec.isLetter c ⌝ }
+{
+    (c == b'k') | (c == b'p') | (c == b'm') | (c == b'n')
+}
+
+// Whether a text is hexadecimal digits alone.
+pub fn all_hex(text: &[u8]) -> bool
+    ensures { λ r. ⌜ r ≡ spec.all spec.isHex (now (text .entry)) ⌝ }
+{
+    let mut i: usize = 0;
+    while i < text.len() {
+        if !is_hex(text[i]) {
+            return false;
+        }
+        i += 1;
+    }
+    true
+}
+
+// Whether a text is letters of a hit alone.
+pub fn all_letters(text: &[u8]) -> bool
+    ensures { λ r. ⌜ r ≡ spec.all spec.isLetter (now (text .entry)) ⌝ }
+{
+    let mut i: usize = 0;
+    while i < text.len() {
+        if !is_letter(text[i]) {
+            return false;
+        }
+        i += 1;
+    }
+    true
+}
