@@ -1,0 +1,75 @@
+-- The line of a note from its parts, and the lines of several.
+use mathlib.Core.List.{List, [], _∷_, _++_, append-assoc, append-nil}
+use mathlib.Core.Path.{_≡_, refl, sym, _∙_}
+use Prim.Native.Nat.{ℕ, _+_, _<_, min}
+use native.Mathlib.Numerals.{add-one}
+use native.Mathlib.Omega.{arith}
+use borrow.Author.Tests.{leb-true, leb-false}
+use lib.Dec.{leb}
+use lib.ListN.{length, getD, take}
+use lib.Seq.{take-suc, take-all}
+use Rattle.cases.proofs.ByCases.{by-test}
+use Rattle.cells.specs.Names.{Value, printedAs}
+use Rattle.cells.specs.Names.Value.{no-value, body, number, word}
+use Rattle.bus.specs.Bus.{Note, notesOf}
+use Rattle.text.specs.Text.{LF, space}
+use Rattle.note_text.specs.NoteText.{decimal, valueText, fixedValue, named, openValue, note, noteLine, notesText}
+
+-- a value in the part that the code decides and the other
+values-are : (v : Value) (value : List ℕ) → fixedValue v ++ openValue v value ≡ valueText v value
+values-are no-value value = refl
+values-are body value = refl
+values-are number value = refl
+values-are (word w) value = append-nil w
+
+pub line-parts : (n : Note)
+    → decimal (n .period)
+    ++ ((space ∷ []) ++ (decimal (n .unit) ++ (named (n .code) ++ (openValue (printedAs (n .code) .value) (n .value) ++ (LF ∷ [])))))
+    ≡ noteLine n
+unfolding noteLine named
+line-parts n =
+    let p = printedAs (n .code) in
+    rw (
+      append-assoc (p .name) (space ∷ fixedValue (p .value)) (openValue (p .value) (n .value) ++ (LF ∷ [])),
+      ← append-assoc (fixedValue (p .value)) (openValue (p .value) (n .value)) (LF ∷ []),
+      values-are (p .value) (n .value),
+    )
+
+pub text-append : (a b : List Note) → notesText (a ++ b) ≡ notesText a ++ notesText b
+unfolding notesText
+text-append [] b = refl
+text-append (n ∷ a) b = rw (text-append a b) (sym (append-assoc (noteLine n) (notesText a) (notesText b)))
+
+pub notes-append : (now unit : ℕ) (a b : List ℕ) → notesOf now unit (a ++ b) ≡ notesOf now unit a ++ notesOf now unit b
+unfolding notesOf
+notes-append now unit [] b = refl
+notes-append now unit (c ∷ a) b = rw (notes-append now unit a b)
+
+-- ---- The loop of `put_notes`: a note more, and all of them.
+pub notes-next : (now unit : ℕ) (codes : List ℕ) (i : ℕ) → i < length codes
+    → notesText (notesOf now unit (take (i + 1) codes))
+    ≡ notesText (notesOf now unit (take i codes)) ++ noteLine (note now unit (getD codes i 0) [])
+unfolding notesText notesOf
+notes-next now unit codes i h =
+    rw (
+      add-one i,
+      take-suc codes i 0 h,
+      notes-append now unit (take i codes) (getD codes i 0 ∷ []),
+      text-append (notesOf now unit (take i codes)) (notesOf now unit (getD codes i 0 ∷ [])),
+      append-nil,
+    )
+
+-- as many as there are
+pub take-count : (codes : List ℕ) (n i : ℕ) → i ≡ min n (length codes) → take i codes ≡ take n codes
+take-count codes n i h =
+    by-test (leb n (length codes)) (λ t. let l = leb-true n (length codes) t in let e : i ≡ n = omega arith in rw e)
+    (λ t. let l = leb-false n (length codes) t in take-all i codes (omega arith) ∙ sym (take-all n codes (omega arith)))
+
+-- ---- For the layers above.
+pub one-line : (n : Note) → notesText (n ∷ []) ≡ noteLine n
+unfolding notesText
+one-line n = append-nil (noteLine n)
+
+pub notes-text-append : (now unit : ℕ) (a b : List ℕ)
+    → notesText (notesOf now unit (a ++ b)) ≡ notesText (notesOf now unit a) ++ notesText (notesOf now unit b)
+notes-text-append now unit a b = rw notes-append (text-append (notesOf now unit a) (notesOf now unit b))

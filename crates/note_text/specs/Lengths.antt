@@ -1,0 +1,37 @@
+-- How long lines are, so that room can be lent that is large enough.
+use mathlib.Core.List.{List, [], _∷_}
+use Prim.Native.Nat.{ℕ, _+_, _*_, _^_, _≤_, _<_}
+use lib.ListN.{length}
+use Rattle.cells.specs.Notes.{HEARD, REFUSED}
+use Rattle.hdlc.specs.Image.{longestBody}
+use Rattle.note_text.specs.NoteText.{decimal, note, noteLine}
+
+-- Numbers are below this: they have at most ten digits.
+abbrev pub numbers : ℕ
+numbers = 2 ^ 32
+
+abbrev pub DecimalFits : Type 0
+DecimalFits = (n : ℕ) → n < numbers → length (decimal n) ≤ 10
+
+-- The longest line without a body: two numbers, `MPH-II disconnected`, spaces and LF.
+abbrev pub lineRoom : ℕ
+lineRoom = 42
+
+abbrev pub LineFits : Type 0
+LineFits =
+    (period unit code : ℕ) → period < numbers → unit < numbers
+    → length (noteLine (note period unit code [])) ≤ lineRoom
+
+abbrev pub RefusedFits : Type 0
+RefusedFits =
+    (period unit number : ℕ) → period < numbers → unit < numbers → number < numbers
+    → length (noteLine (note period unit REFUSED (number ∷ []))) ≤ lineRoom
+
+-- The line of the longest body, of a unit of one digit: two digits for each octet, and 20 octets besides.
+abbrev pub heardRoom : ℕ
+heardRoom = 20 + 2 * longestBody
+
+abbrev pub HeardFits : Type 0
+HeardFits =
+    (period unit : ℕ) (body : List ℕ) → period < numbers → unit < 10 → length body ≤ longestBody
+    → length (noteLine (note period unit HEARD body)) ≤ heardRoom

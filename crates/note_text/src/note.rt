@@ -1,0 +1,134 @@
+// Notes as lines of the report: "The fields are the period, the unit, the note and its value."
+ghost use mathlib.Core.Path.{_≡_};
+ghost use Rattle.bus.specs.Bus.{notesOf};
+ghost use lib.ListN.{getD};
+ghost use mathlib.Core.List.{[]};
+ghost use Rattle.cells.specs.Names.{printedAs};
+ghost use Rattle.cells.specs.Notes.{noted};
+ghost use Rattle.note_text.specs.Room.{Put};
+ghost use Rattle.note_text.specs.NoteText.{note, named, openValue, noteLine, notesText, heading, stoppedLine};
+use super::hex::put_hex;
+use super::number::put_decimal;
+use super::room::put;
+use cells::notes::HEARD;
+use cells::notes::Notes;
+use cells::notes::REFUSED;
+use text::length::least;
+
+// One more than the last code: where numbers that are no code stand in the table.
+const NO_CODE: usize = 17;
+
+// For each code, from 0 on: a space, the note's name, a space, and the value where the code decides it.
+const NAMES: [u8; 175] =
+    *b"  - PH-ACT - PH-DEACT - MPH-ACT - MPH-DEACT - MPH-EI - MPH-EI1 - MPH-EI2 - \
+    MPH-II connected MPH-II disconnected heard  torn - done1 - done2 - dropped1 - dropped2 - refused   -";
+
+// Where each code's part begins; the last one's end.
+const PLACES: [u8; 19] = [
+    0,
+    3,
+    12,
+    23,
+    33,
+    45,
+    54,
+    64,
+    74,
+    91,
+    111,
+    118,
+    125,
+    133,
+    141,
+    152,
+    163,
+    172,
+    175,
+];
+
+// The note's name between spaces, and the value where the code decides it.
+fn put_name(room: &mut [u8], wrote: usize, code: u8) -> usize
+    ensures { λ r. ⌜ Put (now (room .entry)) wrote (named code) r (now (room .exit)) ⌝ }
+{
+    let k = least(code as usize, NO_CODE);
+    let start = PLACES[k] as usize;
+    let end = PLACES[k + 1] as usize;
+    put(room, wrote, &NAMES[start..end])
+}
+
+// The first octet, 0 where there is none.
+fn first(value: &[u8]) -> u8
+    ensures { λ r. ⌜ r ≡ getD (now (value .entry)) 0 0 ⌝ }
+{
+    if 0 < value.len() { value[0] } else { 0 }
+}
+
+// The value, where the code does not decide it.
+fn put_value(room: &mut [u8], wrote: usize, code: u8, value: &[u8]) -> usize
+    ensures { λ r. ⌜ Put (now (room .entry)) wrote (openValue (printedAs code .value) (now (value .entry))) r (now (room .exit)) ⌝ }
+{
+    if code == HEARD {
+        return put_hex(room, wrote, value);
+    }
+    if code == REFUSED {
+        return put_decimal(room, wrote, first(value) as u64);
+    }
+    least(wrote, room.len())
+}
+
+// The line of a note.
+pub fn put_note(
+    room: &mut [u8],
+    wrote: usize,
+    period: u64,
+    unit: u32,
+    code: u8,
+    value: &[u8],
+) -> usize
+    ensures { λ r. ⌜ Put (now (room .entry)) wrote (noteLine (note period unit code (now (value .entry)))) r (now (room .exit)) ⌝ }
+{
+    let a = put_decimal(room, wrote, period);
+    let b = put(room, a, b" ");
+    let c = put_decimal(room, b, unit as u64);
+    let d = put_name(room, c, code);
+    let e = put_value(room, d, code, value);
+    put(room, e, b"\n")
+}
+
+// The line of a note whose value its code decides.
+pub fn put_plain(room: &mut [u8], wrote: usize, period: u64, unit: u32, code: u8) -> usize
+    ensures { λ r. ⌜ Put (now (room .entry)) wrote (noteLine (note period unit code [])) r (now (room .exit)) ⌝ }
+{
+    put_note(room, wrote, period, unit, code, b"")
+}
+
+// The lines of a unit's notes.
+pub fn put_notes(room: &mut [u8], wrote: usize, period: u64, unit: u32, notes: Notes) -> usize
+    ensures { λ r. ⌜ Put (now (room .entry)) wrote (notesText (notesOf period unit (noted notes))) r (now (room .exit)) ⌝ }
+{
+    let codes = [notes.1, notes.2, notes.3, notes.4];
+    let count = least(notes.0 as usize, 4);
+    let mut at = least(wrote, room.len());
+    let mut i: usize = 0;
+    while i < count {
+        at = put_plain(room, at, period, unit, codes[i]);
+        i += 1;
+    }
+    at
+}
+
+// "The report's first line is printed for every book."
+pub fn put_heading(room: &mut [u8], wrote: usize) -> usize
+    ensures { λ r. ⌜ Put (now (room .entry)) wrote heading r (now (room .exit)) ⌝ }
+{
+    put(room, wrote, b"period unit note value\n")
+}
+
+// "the last line is `- - stopped` and the number"
+pub fn put_stopped(room: &mut [u8], wrote: usize, number: u8) -> usize
+    ensures { λ r. ⌜ Put (now (room .entry)) wrote (stoppedLine number) r (now (room .exit)) ⌝ }
+{
+    let a = put(room, wrote, b"- - stopped ");
+    let b = put_decimal(room, a, number as u64);
+    put(room, b, b"\n")
+}

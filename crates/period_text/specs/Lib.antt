@@ -1,0 +1,2 @@
+-- The text of a period's notes and of an event's, and the room that it takes.
+pub mod PeriodText

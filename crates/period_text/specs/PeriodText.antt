@@ -1,0 +1,39 @@
+-- The notes of a call on the bus as text, and the most octets that they take (document 01, "Bench book and report").
+use mathlib.Core.Bool.{cond}
+use mathlib.Core.List.{List, [], _∷_}
+use mathlib.Core.Path.{_≡_}
+use Prim.Native.Nat.{ℕ, _+_, _*_, _≤_, _<_}
+use lib.Dec.{eqb}
+use lib.ListN.{length}
+use Rattle.cells.specs.Notes.{REFUSED, noted}
+use Rattle.cells.specs.declared.notes.Notes.{Notes}
+use Rattle.hdlc.specs.Image.{longestBody}
+use Rattle.bus.specs.Bus.{Note, terminals, notesOf}
+use Rattle.listening.specs.declared.hears.UnitNotes.{UnitNotes}
+use Rattle.bus_record.specs.declared.side.Ran.{Ran}
+use Rattle.bus_calls.specs.Lists.{periodTold}
+use Rattle.note_text.specs.NoteText.{note, notesText}
+use Rattle.note_text.specs.Lengths.{numbers, lineRoom, heardRoom}
+
+-- The notes of an event: those that the call hands back; "In a book, 3 to 8 become the note `refused` with the line's unit."
+unfoldable pub eventNoted : ℕ → ℕ → Notes → ℕ → List Note
+eventNoted period unit notes reply =
+    cond (eqb reply 0) (notesOf period unit (noted notes))
+    (note period unit REFUSED (reply ∷ []) ∷ [])
+
+-- The most octets that the notes of a period take: one line of the reader; four notes of unit 0's hearing and four of its timers; six of
+-- each terminal's hearing, two of them of its frames, and four of its timer.
+abbrev pub periodRoom : ℕ
+periodRoom = heardRoom + (8 + terminals * 10) * lineRoom
+
+-- The text of a period's notes fits, whatever they are.
+abbrev pub PeriodFits : Type 0
+PeriodFits =
+    (now : ℕ) (r : Ran) (ns : List UnitNotes) (octets : List ℕ)
+    → now + 1 < numbers → length ns ≡ terminals → length octets ≤ longestBody → length (notesText (periodTold now r ns octets)) ≤ periodRoom
+
+-- And that of an event's.
+abbrev pub EventFits : Type 0
+EventFits =
+    (period unit : ℕ) (notes : Notes) (reply : ℕ)
+    → period < numbers → unit < numbers → reply < numbers → length (notesText (eventNoted period unit notes reply)) ≤ periodRoom

@@ -1,0 +1,145 @@
+// The notes of a period, in the report's order.
+ghost use mathlib.Core.Path.{_≡_};
+ghost use mathlib.Core.List.{_++_};
+ghost use Rattle.bus.specs.Bus.{notesOf};
+ghost use Rattle.bus_calls.specs.Lists.{readerTold, doneNotes, terminalsTold, timersTold, periodTold};
+ghost use Rattle.bus_record.specs.declared.side.Ran.{Ran};
+ghost use Rattle.cells.specs.Notes.{noted};
+ghost use Rattle.note_text.specs.Room.{Put};
+ghost use Rattle.note_text.specs.NoteText.{notesText};
+use bus_record::side::Ran;
+use cells::cell::NO_NOTES;
+use cells::notes::DONE1;
+use cells::notes::DONE2;
+use cells::notes::HEARD;
+use cells::notes::Notes;
+use listening::hears::UnitNotes;
+use note_text::note::put_note;
+use note_text::note::put_notes;
+use note_text::note::put_plain;
+use note_text::room::put;
+use text::length::least;
+
+// The reader's note: `heard` with the octets of the body, or `torn`.
+fn put_reader(
+    room: &mut [u8],
+    wrote: usize,
+    period: u64,
+    said: u8,
+    body: u16,
+    octets: &[u8],
+) -> usize
+    ensures { λ r. ⌜ ((ran : Ran) → ran .said ≡ said → ran .body ≡ body
+        → Put (now (room .entry)) wrote (notesText (readerTold period ran (now (octets .entry)))) r (now (room .exit))) ⌝ }
+{
+    if said == 0 {
+        return put(room, wrote, b"");
+    }
+    if said == HEARD {
+        let count = least(body as usize, octets.len());
+        return put_note(room, wrote, period, 0, HEARD, &octets[..count]);
+    }
+    put_plain(room, wrote, period, 0, said)
+}
+
+// The notes of completed frames.
+fn done_notes(done1: bool, done2: bool) -> Notes
+    ensures { λ r. ⌜ noted r ≡ doneNotes done1 done2 ⌝ }
+{
+    if done1 {
+        if done2 {
+            return Notes(2, DONE1, DONE2, 0, 0);
+        }
+        return Notes(1, DONE1, 0, 0, 0);
+    }
+    if done2 {
+        return Notes(1, DONE2, 0, 0, 0);
+    }
+    NO_NOTES
+}
+
+// The notes of a terminal's hearing: those of completed frames come first.
+fn put_heard(
+    room: &mut [u8],
+    wrote: usize,
+    period: u64,
+    unit: u32,
+    done1: bool,
+    done2: bool,
+    notes: Notes,
+) -> usize
+    ensures { λ r. ⌜ Put (now (room .entry)) wrote (notesText (notesOf period unit (doneNotes done1 done2 ++ noted notes))) r (now (room .exit)) ⌝ }
+{
+    let done = done_notes(done1, done2);
+    let a = put_notes(room, wrote, period, unit, done);
+    put_notes(room, a, period, unit, notes)
+}
+
+// The notes of the terminals' hearing.
+fn put_hearing(
+    room: &mut [u8],
+    wrote: usize,
+    period: u64,
+    done1: u8,
+    done2: u8,
+    notes: [UnitNotes; 8],
+) -> usize
+    ensures { λ r. ⌜ ((ran : Ran) → ran .done1 ≡ done1 → ran .done2 ≡ done2
+        → Put (now (room .entry)) wrote (notesText (terminalsTold period ran 0 notes)) r (now (room .exit))) ⌝ }
+{
+    let mut first = done1;
+    let mut second = done2;
+    let mut at = least(wrote, room.len());
+    let mut i: usize = 0;
+    while i < 8 {
+        let n = notes[i];
+        at = put_heard(
+            room,
+            at,
+            period,
+            i as u32 + 1,
+            first % 2 == 1,
+            second % 2 == 1,
+            n.heard,
+        );
+        first = first / 2;
+        second = second / 2;
+        i += 1;
+    }
+    at
+}
+
+// The notes of the terminals' timers.
+fn put_timers(room: &mut [u8], wrote: usize, period: u64, notes: [UnitNotes; 8]) -> usize
+    ensures { λ r. ⌜ Put (now (room .entry)) wrote (notesText (timersTold period 0 notes)) r (now (room .exit)) ⌝ }
+{
+    let mut at = least(wrote, room.len());
+    let mut i: usize = 0;
+    while i < 8 {
+        let n = notes[i];
+        at = put_notes(room, at, period, i as u32 + 1, n.timed);
+        i += 1;
+    }
+    at
+}
+
+// The notes of a period: the reader's, unit 0's, the terminals', and then those of timers due at the next one's start.
+pub fn put_period(
+    room: &mut [u8],
+    wrote: usize,
+    period: u32,
+    ran: Ran,
+    notes: [UnitNotes; 8],
+    octets: &[u8],
+) -> usize
+    ensures { λ r. ⌜ Put (now (room .entry)) wrote (notesText (periodTold period ran notes (now (octets .entry)))) r (now (room .exit)) ⌝ }
+{
+    let this = period as u64;
+    let next = this + 1;
+    let network = ran.network;
+    let a = put_reader(room, wrote, this, ran.said, ran.body, octets);
+    let b = put_notes(room, a, this, 0, network.heard);
+    let c = put_hearing(room, b, this, ran.done1, ran.done2, notes);
+    let d = put_notes(room, c, next, 0, network.timed);
+    put_timers(room, d, next, notes)
+}
