@@ -1,0 +1,204 @@
+-- What holds of every book's calls: its lines' periods do not fall, so that the periods before a line can be run; refusals are 3 to 8; values
+-- are octets; and demand 3 speaks of them.
+use mathlib.Core.Path.{_≡_, refl}
+use mathlib.Core.Bool.{Bool, true, false, cond, not, _&&_}
+use mathlib.Core.List.{List, [], _∷_, _++_, map}
+use Prim.Native.Nat.{ℕ, zero, suc, _+_, _-_, _≤_, _<_}
+use native.Mathlib.Omega.{arith}
+use lib.Dec.{eqb, leb}
+use lib.ListN.{length, getD, take, drop, replicate}
+use borrow.Author.Tests.{eqb-true, leb-true}
+use Rattle.cases.proofs.ByCases.{by-test, and-left, and-right}
+use Rattle.symbols.specs.Symbols.{lineLength, fits}
+use Rattle.combining.specs.Hit.{keepLetter, plusLetter, minusLetter, noneLetter}
+use Rattle.timing.specs.Counts.{mostPeriods}
+use Rattle.cells.specs.Names.{ascii}
+use Rattle.text.specs.Text.{LF, split, same}
+use Rattle.book_line.specs.Line as line
+use Rattle.book_line.specs.Line.{formed, inOrder, isEnd, valueFits, periodOf, unitOf, eventOf}
+use Rattle.book_line.specs.Value.{letterCode, valueOctets}
+use Rattle.book_line.proofs.Judging.{formed-parts}
+use Rattle.book_line.proofs.Values.{value-octets, hit-fits}
+use Rattle.book_reader.specs.Book.{Answer, firstLine, nothing, closing, lines, answersFrom, answers}
+use Rattle.book_reader.specs.Book.Answer.{entry, fault}
+use Rattle.bus.specs.Event as bus
+use Rattle.bus.specs.Event.{reasons, firstOf, refusal}
+use Rattle.bus.specs.Bus.{Bus, freshBus}
+use Rattle.bus.specs.Calls.{Call, reply, after, ran}
+use Rattle.bus.specs.Calls.Call.{event, period}
+use Rattle.bus.specs.Ranges.{runs, periodsRun}
+use Rattle.bus.proofs.Refusals.{period-not-refused}
+use Rattle.bus.proofs.Ranges.{periods-counted}
+use Rattle.bus.proofs.Demand3.{demand3}
+use Rattle.bus_calls.specs.Lists.{OctetValues}
+use Rattle.report.specs.Report.{callAt, callsOf, bookCalls}
+use Rattle.report.specs.Laws.{RunsToLine, InBook, AllInBook, BooksRefused, NoneLate, BooksInTime, BooksOctets, BookCalls}
+
+-- the events have the same numbers on a line and on the bus, in the order in which document 01 names them; `end` is none of the bus's
+pub same-events : _≡_ {A = List ℕ}
+    (line.ON ∷ line.OFF ∷ line.AR ∷ line.DR ∷ line.D1 ∷ line.D2 ∷ line.HIT ∷ [])
+    (bus.ON ∷ bus.OFF ∷ bus.AR ∷ bus.DR ∷ bus.D1 ∷ bus.D2 ∷ bus.HIT ∷ [])
+same-events = refl
+
+-- and so have the letters of a hit
+pub same-letters : map letterCode (ascii "kpmn") ≡ keepLetter ∷ plusLetter ∷ minusLetter ∷ noneLetter ∷ []
+unfolding letterCode
+same-letters = refl
+
+-- ---- The answers of a book, after so many periods: each line's period can be run to, and its value is of its event's form.
+pub data InTime : ℕ → List Answer → Type 0 where
+  none : {run : ℕ} → InTime run []
+  stops : {run number : ℕ} {more : List Answer} → InTime run (fault number ∷ more)
+  goes : {run at unit number : ℕ} {value : List ℕ} {more : List Answer}
+      → run ≤ at → at ≤ mostPeriods → valueFits number value ≡ true → InTime at more → InTime run (entry at unit number value ∷ more)
+
+either : {run : ℕ} (t : Bool) (a b : List Answer) → InTime run a → InTime run b → InTime run (cond t a b)
+either true a b p q = p
+either false a b p q = q
+
+closing-in-time : (run : ℕ) (pieces : List (List ℕ)) → InTime run (closing pieces)
+unfolding closing
+closing-in-time run pieces = either (nothing pieces) [] (fault 14 ∷ []) none stops
+
+in-order : (last p : ℕ) → inOrder last p ≡ true → (last ≤ p) × (p ≤ mostPeriods)
+unfolding inOrder
+in-order last p h =
+    let after-last = leb last p in
+    let at-most = leb p mostPeriods in
+    (leb-true last p (and-left after-last at-most h), leb-true p mostPeriods (and-right after-last at-most h))
+
+pub lines-in-time : (last : ℕ) (pieces : List (List ℕ)) → InTime last (lines last pieces)
+unfolding lines
+lines-in-time last [] = none
+lines-in-time last (piece ∷ []) = stops
+lines-in-time last (l ∷ next ∷ more) =
+    by-test (formed l)
+    (λ f. rw f
+    (by-test (inOrder last (periodOf l))
+    (λ o. rw o
+    (let p = in-order last (periodOf l) o in
+    goes (p .0) (p .1) (formed-parts l f .value)
+    (either (isEnd (unitOf l) (eventOf l)) (closing (next ∷ more)) (lines (periodOf l) (next ∷ more))
+    (closing-in-time (periodOf l) (next ∷ more)) (lines-in-time (periodOf l) (next ∷ more)))))
+    (λ o. rw o stops)))
+    (λ f. rw f stops)
+
+pub answers-in-time : (book : List ℕ) → InTime 0 (answers book)
+unfolding answersFrom
+answers-in-time book =
+    by-test (same (take (length firstLine) book) firstLine)
+    (λ t. rw t (lines-in-time 0 (split LF (drop (length firstLine) book))))
+    (λ t. rw t stops)
+
+-- ---- Periods.
+period-counts : (b : Bus) → b .periods < mostPeriods → after b period .periods ≡ b .periods + 1
+unfolding ran periodsRun runs
+period-counts b h = omega (arith, rw (period-not-refused b h) at (periods-counted (period ∷ []) b))
+
+event-counts : (b : Bus) (unit number : ℕ) (value : List ℕ) → after b (event unit number value) .periods ≡ b .periods
+unfolding ran periodsRun runs
+event-counts b unit number value = omega (arith, periods-counted (event unit number value ∷ []) b)
+
+pub run-counts : (n : ℕ) (b : Bus) → b .periods + n ≤ mostPeriods → ran b (replicate n period) .periods ≡ b .periods + n
+unfolding ran
+run-counts zero b h = omega arith
+run-counts (suc n) b h =
+    let one = period-counts b (omega arith) in
+    omega (arith, run-counts n (after b period) (omega arith))
+
+pub runs-to : RunsToLine
+runs-to b at h k = omega (arith, run-counts (at - b .periods) b (omega arith))
+
+-- ---- The numbers that come back: of a hit that is of right form the letters are letters, so that no reason before 3 holds.
+no-wrong-letters : (number : ℕ) (value : List ℕ) → valueFits number value ≡ true
+    → (eqb number bus.HIT && not (fits lineLength noneLetter (valueOctets number value))) ≡ false
+no-wrong-letters number value h =
+    by-test (eqb number bus.HIT)
+    (λ t. let hit = eqb-true number bus.HIT t in rw hit (rw (hit-fits value (rw hit at h))))
+    (λ t. rw t)
+
+first-from : (k : ℕ) (holding : List Bool) → (firstOf k holding ≡ 0 → ⊥) → (k ≤ firstOf k holding) × (firstOf k holding < k + length holding)
+unfolding firstOf
+first-from k [] h = absurd (h refl)
+first-from k (true ∷ holding) h = (omega arith, omega arith)
+first-from k (false ∷ holding) h = let l = first-from (suc k) holding h in (omega arith, omega arith)
+
+from-three : (holding : List Bool) → length holding ≡ 7 → getD holding 0 false ≡ false → InBook (firstOf 2 holding)
+unfolding firstOf
+from-three [] n h = absurd (omega arith)
+from-three (first ∷ holding) n h =
+    let e : first ≡ false = h in
+    rw e (λ some. let l = first-from 3 holding some in (omega arith, omega arith))
+
+event-in-book : (b : Bus) (unit number : ℕ) (value : List ℕ) → valueFits number value ≡ true
+    → InBook (reply b (event unit number (valueOctets number value)))
+unfolding reply refusal reasons
+event-in-book b unit number value h = from-three (reasons b unit number (valueOctets number value)) refl (no-wrong-letters number value h)
+
+run-in-book : (n : ℕ) (b : Bus) (more : List Call) → b .periods + n ≤ mostPeriods → AllInBook (ran b (replicate n period)) more
+    → AllInBook b (replicate n period ++ more)
+unfolding AllInBook ran
+run-in-book zero b more h m = m
+run-in-book (suc n) b more h m = (
+  λ some. absurd (some (period-not-refused b (omega arith))),
+  run-in-book n (after b period) more (let one = period-counts b (omega arith) in omega arith) m,
+)
+
+line-in-book : (b : Bus) (unit number : ℕ) (value : List ℕ) (more : List Call) → valueFits number value ≡ true
+    → ((c : Bus) → c .periods ≡ b .periods → AllInBook c more) → AllInBook b (callAt unit number value ++ more)
+unfolding callAt AllInBook
+line-in-book b unit number value more fit h =
+    by-test (isEnd unit number)
+    (λ t. rw t (h b refl))
+    (λ t. rw t (
+      event-in-book b unit number value fit,
+      h (after b (event unit number (valueOctets number value))) (event-counts b unit number (valueOctets number value)),
+    ))
+
+calls-in-book : {run : ℕ} {given : List Answer} → InTime run given → (b : Bus) → b .periods ≡ run → AllInBook b (callsOf run given)
+unfolding callsOf AllInBook
+calls-in-book none b e = tt
+calls-in-book stops b e = tt
+calls-in-book (goes {run = run} {at = at} {unit = unit} {number = number} {value = value} {more = more} from to fit rest) b e =
+    let there = run-counts (at - run) b (omega arith) in
+    run-in-book (at - run) b (callAt unit number value ++ callsOf at more) (omega arith)
+    (line-in-book (ran b (replicate (at - run) period)) unit number value (callsOf at more) fit (λ c same. calls-in-book rest c (omega arith)))
+
+pub books-refused : BooksRefused
+unfolding bookCalls
+books-refused book = calls-in-book (answers-in-time book) freshBus refl
+
+-- 9 is none of them
+in-time : (b : Bus) (calls : List Call) → AllInBook b calls → NoneLate b calls
+unfolding AllInBook NoneLate
+in-time b [] a = tt
+in-time b (c ∷ more) a = (λ nine. omega (arith, a .0 (λ z. omega arith) .1), in-time (after b c) more (a .1))
+
+pub none-late : BooksInTime
+none-late book = in-time freshBus (bookCalls book) (books-refused book)
+
+-- ---- Values are octets.
+run-octets : (n : ℕ) (more : List Call) → OctetValues more → OctetValues (replicate n period ++ more)
+unfolding OctetValues
+run-octets zero more h = h
+run-octets (suc n) more h = (tt, run-octets n more h)
+
+line-octets : (unit number : ℕ) (value : List ℕ) (more : List Call) → OctetValues more
+    → OctetValues (callAt unit number value ++ more)
+unfolding callAt OctetValues
+line-octets unit number value more h = by-test (isEnd unit number) (λ t. rw t h) (λ t. rw t (value-octets number value, h))
+
+calls-octets : {run : ℕ} {given : List Answer} → InTime run given → OctetValues (callsOf run given)
+unfolding callsOf OctetValues
+calls-octets none = tt
+calls-octets stops = tt
+calls-octets (goes {run = run} {at = at} {unit = unit} {number = number} {value = value} {more = more} from to fit rest) =
+    run-octets (at - run) (callAt unit number value ++ callsOf at more) (line-octets unit number value (callsOf at more) (calls-octets rest))
+
+pub books-octets : BooksOctets
+unfolding bookCalls
+books-octets book = calls-octets (answers-in-time book)
+
+-- ---- Demand 3 of a book's calls is demand 3 of the bus.
+pub book-calls : BookCalls
+book-calls book before during later is stretch = demand3 before during later stretch

@@ -1,0 +1,228 @@
+-- A run of at most so many periods is some calls of one period: `specs/Told.antt`.
+use mathlib.Core.Path.{_≡_, refl, sym, ap, _∙_}
+use mathlib.Core.Bool.{Bool, true, false}
+use mathlib.Core.List.{List, [], _∷_, _++_, append-nil}
+use Prim.Native.Nat.{ℕ, zero, suc, _+_, _-_, _≤_, _<_}
+use native.Mathlib.Omega.{arith}
+use lib.ListN.{length, take, replicate, length-take}
+use lib.Seq.{take-take}
+use borrow.Author.Tests.{lt-ltb, ltb-true, lt-leb}
+use Rattle.cases.proofs.ByCases.{by-test}
+use Rattle.hdlc.specs.Image.{longestBody}
+use Rattle.timing.specs.Counts.{mostPeriods}
+use Rattle.reader.specs.Counters.{readBit, readOctets}
+use Rattle.reader.specs.Calls.{answersAfter}
+use Rattle.reader.specs.declared.Reader.{Reader}
+use Rattle.reader.specs.declared.ReaderAnswer.{ReaderAnswer}
+use Rattle.reader.specs.declared.ReaderAnswer.the-variants.{Nothing, Heard, Torn, Refused}
+use Rattle.reader.proofs.AnswerLaws.{heard-call}
+use Rattle.bus.specs.Bus.{Note}
+use Rattle.bus.specs.Period.{heardBy, timed, periodRun}
+use Rattle.bus.specs.Calls.{Call}
+use Rattle.bus.specs.Calls.Call.{period}
+use Rattle.bus_record.specs.NetworkSide.{refusedRun}
+use Rattle.listening.specs.declared.hears.UnitNotes.{UnitNotes}
+use Rattle.bus_record.specs.declared.side.Ran.{Ran}
+use Rattle.bus_calls.specs.Kept.{Kept}
+use Rattle.bus_calls.specs.Shown.{busIn}
+use Rattle.bus_calls.specs.Period.{dRead, readerRun, octetsRun, bodyOf, answersIn, hasNotes, periodRan, keptRun}
+use Rattle.bus_calls.specs.Ready.{runReply, goesOn}
+use Rattle.bus_calls.specs.Run.{ranOn, notYet, ran, keptAfter}
+use Rattle.bus_calls.specs.Lists.{called, replied, notesTold, periodTold, allTold, callsIn, calledAll, runTold, readerTold}
+use Rattle.bus_calls.proofs.InOrder.{InOrder, in-order, order-reply}
+use Rattle.bus_calls.proofs.RunSingle.{goes-facts, first-ran, first-kept, period-single, run-single}
+use Rattle.bus_calls.proofs.QuietRuns.{runs-are-calls}
+use Rattle.period_text.proofs.Room.{period-fits}
+use Rattle.report.specs.Told.{settled, done, doneAll, bookTold, allBookTold, RunsOn, OneRun, RunFits}
+use Rattle.report.proofs.Order.{order-settled, order-called}
+
+-- ---- A period looks at no notes of the one before.
+settled-ran : (k : Kept) → periodRan (settled k) ≡ periodRan k
+unfolding settled periodRan busIn readerRun answersIn hasNotes
+settled-ran k = refl
+
+settled-kept : (k : Kept) → keptRun (settled k) ≡ keptRun k
+unfolding settled keptRun periodRan busIn readerRun octetsRun answersIn hasNotes
+settled-kept k = refl
+
+-- ---- The first period, where all is in order and one can be run.
+module _ (k : Kept) (o : InOrder k) (l : k .bus .periods .0 < mostPeriods) where
+  not-refused : (n : ℕ) → runReply (suc n) k ≡ 0
+  not-refused n = order-reply (suc n) k o ∙ rw (lt-ltb 0 (suc n) (omega arith), lt-leb mostPeriods (k .bus .periods .0) l)
+
+  one-accepted : ran 1 k .reply ≡ 0
+  unfolding periodRan
+  one-accepted = rw (period-single k (not-refused 0) .ran-is)
+
+  one-bus : ran 1 k .bus ≡ keptAfter 1 k .bus
+  unfolding keptRun
+  one-bus = rw (period-single k (not-refused 0) .ran-is, period-single k (not-refused 0) .kept-is)
+
+  one-more : ran 1 k .bus .periods .0 ≡ k .bus .periods .0 + 1
+  unfolding periodRan periodRun timed heardBy busIn
+  one-more = rw (period-single k (not-refused 0) .ran-is)
+
+  period-told : bookTold k period ≡ periodTold (k .bus .periods .0) (ran 1 k) (keptAfter 1 k .notes) (keptAfter 1 k .octets)
+  unfolding bookTold notesTold replied
+  period-told = rw one-accepted
+
+  told-book : notesTold k period ≡ bookTold k period
+  unfolding bookTold notesTold replied
+  told-book = rw one-accepted
+
+  -- the run ends after it
+  run-ends : (n : ℕ) → goesOn (ran 1 k) n ≡ false → RunsOn k (suc n)
+  unfolding doneAll done called allBookTold
+  run-ends n g =
+      let s = run-single n k in
+      let now : ran 1 k .bus .periods .0 - 1 ≡ k .bus .periods .0 = omega (arith, one-more) in
+      record {
+        count = 1;
+        some = omega arith;
+        within = omega arith;
+        accepted = rw (s .ran-is, g) one-accepted;
+        same-bus = rw (s .ran-is, s .kept-is, g) one-bus;
+        left = rw (s .kept-is, g);
+        run = rw (s .ran-is, g) one-more;
+        tells =
+            rw (s .ran-is, s .kept-is, g, now, append-nil (bookTold k period), period-told);
+      }
+
+-- a run of one ends there
+no-more : (last : Ran) → goesOn last 0 ≡ false
+no-more last =
+    by-test (goesOn last 0) (λ g. absurd (omega (arith, ltb-true 0 0 (goes-facts last 0 g .0)))) (λ g. g)
+
+-- ---- What a run tells.
+run-told : (n : ℕ) (k : Kept) → ran n k .reply ≡ 0
+    → runTold n k ≡ periodTold (ran n k .bus .periods .0 - 1) (ran n k) (keptAfter n k .notes) (keptAfter n k .octets)
+unfolding runTold
+run-told n k e = rw e
+
+told-on : (n : ℕ) (k : Kept) → goesOn (ran 1 k) (suc n) ≡ true → runTold (suc (suc n)) k ≡ notesTold k period ++ runTold (suc n) (keptAfter 1 k)
+unfolding callsIn allTold called
+told-on n k g =
+    runs-are-calls (suc n) k .tells
+    ∙ rw g (ap (λ (ns : List Note). notesTold k period ++ ns) (sym (runs-are-calls n (keptAfter 1 k) .tells)))
+
+-- ---- .. or goes on from there, whatever the notes of the first: it has none.
+module _ (n : ℕ) (k : Kept) (o : InOrder k) (l : k .bus .periods .0 + 1 < mostPeriods) (g : goesOn (ran 1 k) (suc n) ≡ true) where
+  abbrev next : Kept
+  next = keptAfter 1 k
+
+  first : k .bus .periods .0 < mostPeriods
+  first = omega arith
+
+  next-order : InOrder next
+  unfolding called
+  next-order = order-called k period o
+
+  next-periods : next .bus .periods .0 ≡ k .bus .periods .0 + 1
+  next-periods = rw (sym (one-bus k o first)) (one-more k o first)
+
+  settled-periods : settled next .bus .periods .0 ≡ k .bus .periods .0 + 1
+  unfolding settled
+  settled-periods = next-periods
+
+  again : next .bus .periods .0 < mostPeriods
+  again = omega (arith, next-periods)
+
+  ran-on : ran (suc n) (settled next) ≡ ran (suc n) next
+  ran-on =
+      first-ran n (settled next) (not-refused (settled next) (order-settled next next-order) (omega (arith, settled-periods)) n)
+      ∙ (rw (settled-ran next, settled-kept next) (sym (first-ran n next (not-refused next next-order again n))))
+
+  kept-on : keptAfter (suc n) (settled next) ≡ keptAfter (suc n) next
+  kept-on =
+      first-kept n (settled next) (not-refused (settled next) (order-settled next next-order) (omega (arith, settled-periods)) n)
+      ∙ (rw (settled-ran next, settled-kept next) (sym (first-kept n next (not-refused next next-order again n))))
+
+  run-on : RunsOn (settled next) (suc n) → RunsOn k (suc (suc n))
+  unfolding doneAll done called allBookTold
+  run-on r =
+      let s = run-single (suc n) k in
+      let ran-is : ran (suc (suc n)) k ≡ ran (suc n) next = s .ran-is ∙ rw g in
+      let kept-is : keptAfter (suc (suc n)) k ≡ keptAfter (suc n) next = s .kept-is ∙ rw g in
+      let accepted : ran (suc n) next .reply ≡ 0 = rw ran-on at (r .accepted) in
+      let all : ran (suc (suc n)) k .reply ≡ 0 = rw ran-is accepted in
+      record {
+        count = suc (r .count);
+        some = omega arith;
+        within = omega (arith, r .within);
+        accepted = all;
+        same-bus = rw (ran-is, kept-is) (rw (ran-on, kept-on) at (r .same-bus));
+        left = rw kept-is (rw kept-on at (r .left));
+        run = rw ran-is (omega (arith, settled-periods, rw ran-on at (r .run)));
+        tells =
+            sym (run-told (suc (suc n)) k all)
+            ∙ (told-on n k g
+            ∙ (ap (λ (ns : List Note). notesTold k period ++ ns) (run-told (suc n) next accepted ∙ (rw (ran-on, kept-on) at (r .tells)))
+            ∙ ap (λ (ns : List Note). ns ++ allBookTold (settled next) (replicate (r .count) period)) (told-book k o first)));
+      }
+
+-- ---- Every run.
+runs-on : (n : ℕ) (k : Kept) → InOrder k → k .bus .periods .0 + suc n ≤ mostPeriods → RunsOn k (suc n)
+runs-on zero k o l = run-ends k o (omega arith) 0 (no-more (ran 1 k))
+runs-on (suc n) k o l =
+    by-test (goesOn (ran 1 k) (suc n))
+    (λ g.
+    run-on n k o (omega arith) g
+    (runs-on n (settled (keptAfter 1 k)) (order-settled (keptAfter 1 k) (next-order n k o (omega arith) g))
+    (omega (arith, settled-periods n k o (omega arith) g))))
+    (λ g. run-ends k o (omega arith) (suc n) g)
+
+pub one-run : OneRun
+one-run k zero h l m = absurd (omega arith)
+one-run k (suc n) h l m = runs-on n k (in-order 0 k h) m
+
+-- ---- What it tells has room: a heard body is one that a body may be, and the notes are those of eight terminals.
+body-first : (a : ReaderAnswer) (more : List ReaderAnswer) → ((n : ℕ) → a ≡ Heard n → n ≤ longestBody) → bodyOf more ≤ longestBody →
+    bodyOf (a ∷ more) ≤ longestBody
+unfolding bodyOf
+body-first (Heard n) more h rest = h n refl
+body-first Torn more h rest = omega arith
+body-first Nothing more h rest = rest
+body-first (Refused k) more h rest = rest
+
+body-most : (bs : List Bool) (r : Reader) (buf : List ℕ) → bodyOf (answersAfter bs r buf) ≤ longestBody
+unfolding answersAfter
+body-most [] r buf = unfold bodyOf in omega arith
+body-most (b ∷ bs) r buf =
+    body-first (readBit b buf r .answer) (answersAfter bs (readBit b buf r .reader) (readOctets b r buf)) (λ n e. heard-call b r buf n e .2)
+    (body-most bs (readBit b buf r .reader) (readOctets b r buf))
+
+ran-body : (n : ℕ) (last : Ran) (k : Kept) → last .body ≤ longestBody → ranOn n last k .body ≤ longestBody
+unfolding ranOn periodRan answersIn
+ran-body zero last k h = h
+ran-body (suc n) last k h =
+    by-test (goesOn last (suc n))
+    (λ g. rw g (ran-body n (periodRan k) (keptRun k) (body-most (dRead (busIn k)) (k .bus .reader) (k .octets))))
+    (λ g. rw g h)
+
+run-body : (n : ℕ) (k : Kept) → ran n k .body ≤ longestBody
+unfolding ran notYet refusedRun
+run-body n k = ran-body n (notYet n k) k (omega arith)
+
+order-calls : (k : Kept) (calls : List Call) → InOrder k → InOrder (calledAll k calls)
+unfolding calledAll
+order-calls k [] o = o
+order-calls k (c ∷ more) o = order-calls (called k c) more (order-called k c o)
+
+run-order : (n : ℕ) (k : Kept) → InOrder k → InOrder (keptAfter (suc n) k)
+run-order n k o = rw (runs-are-calls n k .leaves) (order-calls k (callsIn (suc n) k) o)
+
+-- of the octets lent only the body's are told
+body-alone : (now : ℕ) (r : Ran) (ns : List UnitNotes) (octets : List ℕ) → periodTold now r ns octets ≡ periodTold now r ns (take (r .body) octets)
+unfolding periodTold readerTold
+body-alone now r ns octets = rw (take-take (r .body) (r .body) octets (omega arith))
+
+pub run-fits : RunFits
+run-fits k zero h l m = absurd (omega arith)
+run-fits k (suc n) h l m =
+    let r : RunsOn k (suc n) = one-run k (suc n) h l m in
+    let last : ℕ = ran (suc n) k .bus .periods .0 - 1 in
+    let body : List ℕ = take (ran (suc n) k .body) (keptAfter (suc n) k .octets) in
+    let few : length body ≤ longestBody = rw (length-take (ran (suc n) k .body) (keptAfter (suc n) k .octets)) (omega (arith, run-body (suc n) k)) in
+    rw (body-alone last (ran (suc n) k) (keptAfter (suc n) k .notes) (keptAfter (suc n) k .octets))
+    (period-fits last (ran (suc n) k) (keptAfter (suc n) k .notes) body
+    (omega (arith, r .run, r .within)) (run-order n k (in-order 0 k h) .notes-fit) few)

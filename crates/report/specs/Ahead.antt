@@ -1,0 +1,174 @@
+-- A book that comes in parts, with lent room for its report: how far it has come, what is still ahead, and what one call may do.
+use mathlib.Core.Bool.{Bool, true, false, cond}
+use mathlib.Core.List.{List, [], _∷_, _++_}
+use mathlib.Core.Path.{_≡_}
+use Prim.Native.Nat.{ℕ, _+_, _≤_, _<_}
+use lib.ListN.{length, take, drop}
+use Rattle.hdlc.specs.Image.{longestBody}
+use Rattle.bus.specs.Calls.{Call}
+use Rattle.bus_event.specs.Event.{imagesRoom, areLetters}
+use Rattle.bus_calls.specs.Kept.{Kept}
+use Rattle.book_line.specs.Line.{longestLine}
+use Rattle.book_reader.specs.Book.{Answer}
+use Rattle.book_reader.specs.Step.{BEFORE-FIRST-LINE, stepAt}
+use Rattle.book_reader.specs.Parts.{toCome, joined}
+use Rattle.book_reader.specs.declared.step.Step.{Step}
+use Rattle.note_text.specs.NoteText.{heading, notesText}
+use Rattle.period_text.specs.PeriodText.{periodRoom}
+use Rattle.report.specs.Report.{callsOf, stopOf, report, bookCalls}
+use Rattle.report.specs.Told.{Ready, doneAll, allBookTold, freshFound}
+
+-- How far a book has come. The last line's period is the number of periods run: the periods before a line are run up to its own. A stand on
+-- which periods are run while the book's first line is to come is none of a book from its beginning; its lines come after those periods.
+pub record Stand : Type 0 where
+  pub kept : Kept
+  -- the stage of the book's reader (crate `book_reader`, specs/Step.antt)
+  pub stage : ℕ
+  -- whether the report's first line is written, and whether all is
+  pub begun : Bool
+  pub over : Bool
+
+abbrev pub fresh : List ℕ → List ℕ → List ℕ → Stand
+fresh images octets letters = record { kept = freshFound images octets letters; stage = BEFORE-FIRST-LINE; begun = false; over = false }
+
+-- ---- What is ahead, where these octets of the book are left.
+unfoldable pub answersAhead : Stand → List ℕ → List Answer
+answersAhead s left = toCome (record { stage = s .stage; last = s .kept .bus .periods .0 }) left
+
+-- the calls
+unfoldable pub callsAhead : Stand → List ℕ → List Call
+callsAhead s left = cond (s .over) [] (callsOf (s .kept .bus .periods .0) (answersAhead s left))
+
+-- the report's octets
+unfoldable pub textAhead : Stand → List ℕ → List ℕ
+textAhead s left =
+    cond (s .over) []
+    (cond (s .begun) [] heading
+    ++ (notesText (allBookTold (s .kept) (callsOf (s .kept .bus .periods .0) (answersAhead s left))) ++ stopOf (answersAhead s left)))
+
+-- ---- One call with lent text and room. Why it stopped: 0 where it goes on.
+abbrev pub TEXT : ℕ
+TEXT = 1
+
+abbrev pub ROOM : ℕ
+ROOM = 2
+
+abbrev pub OVER : ℕ
+OVER = 3
+
+-- It has taken so many octets of the text and written so many into the room. `whole` says that no octets come later.
+pub record Advanced (s : Stand) (text room : List ℕ) (whole : Bool) (s′ : Stand) (taken wrote why : ℕ) (room′ : List ℕ) : Type 0 where
+  -- the calls that it has made on the bus are the next ones, and it has left what they left
+  pub made : List Call
+  pub left : s′ .kept ≡ doneAll (s .kept) made
+  pub calls : (later : List ℕ) → (whole ≡ true → later ≡ [])
+      → callsAhead s (text ++ later) ≡ made ++ callsAhead s′ (drop taken text ++ later)
+  -- what it has written is what was to be written next, no octet more or less; the octets behind it are as they were
+  pub written : (later : List ℕ) → (whole ≡ true → later ≡ [])
+      → textAhead s (text ++ later) ≡ take wrote room′ ++ textAhead s′ (drop taken text ++ later)
+  pub behind : drop wrote room′ ≡ drop wrote room
+  pub long : length room′ ≡ length room
+  pub fits : wrote ≤ length room
+  pub within : taken ≤ length text
+  -- it stops for text: the report has its first line, the book is not over, the text left holds no whole line and nothing that decides the
+  -- book, and more may come
+  pub for-text : why ≡ TEXT
+      → (whole ≡ false) × (s′ .over ≡ false) × (s′ .begun ≡ true)
+      × (stepAt text taken (s′ .stage) (s′ .kept .bus .periods .0) false ≡ Step.More)
+  -- it stops for room: less is left than the notes of a period may take
+  pub for-room : why ≡ ROOM → length room < wrote + periodRoom
+  -- it says that it is finished exactly where it is
+  pub finished : why ≡ OVER → s′ .over ≡ true
+  pub over-said : s′ .over ≡ true → why ≡ OVER
+
+-- so that it has stopped for one of these
+pub record Stopped (s : Stand) (text room : List ℕ) (whole : Bool) (s′ : Stand) (taken wrote why : ℕ) (room′ : List ℕ) : Type 0 where
+  pub went : Advanced s text room whole s′ taken wrote why room′
+  pub goes-not-on : why ≡ 0 → ⊥
+  pub listed : why ≤ OVER
+
+-- Where it stops for text less than a line is left: a buffer that holds a longest line has room for more (proofs/Driving.antt).
+abbrev pub TextFew : Type 0
+TextFew =
+    (s s′ : Stand) (text room room′ : List ℕ) (whole : Bool) (taken wrote why : ℕ)
+    → Advanced s text room whole s′ taken wrote why room′ → why ≡ TEXT → length (drop taken text) < longestLine
+
+-- ---- A driver: it lends what it holds and some room, takes away what was written, and adds a part of the book where text is needed; where
+-- no part is left it says that the text is whole. The octets written and the calls made, taken together. A driver that learns of the book's
+-- end by reading nothing has an empty last part.
+pub data Driven : Stand → List ℕ → Bool → List (List ℕ) → List ℕ → List Call → Type 0 where
+  over : {s : Stand} {held : List ℕ} {whole : Bool} {parts : List (List ℕ)} (room room′ : List ℕ) (s′ : Stand) (taken wrote : ℕ)
+      → (g : Stopped s held room whole s′ taken wrote OVER room′) → Driven s held whole parts (take wrote room′) (g .went .made)
+  emptied : {s : Stand} {held : List ℕ} {whole : Bool} {parts : List (List ℕ)} {w : List ℕ} {calls : List Call}
+      (room room′ : List ℕ) (s′ : Stand) (taken wrote : ℕ)
+      → (g : Stopped s held room whole s′ taken wrote ROOM room′) → Driven s′ (drop taken held) whole parts w calls
+      → Driven s held whole parts (take wrote room′ ++ w) (g .went .made ++ calls)
+  filled : {s : Stand} {held part : List ℕ} {parts : List (List ℕ)} {w : List ℕ} {calls : List Call}
+      (room room′ : List ℕ) (s′ : Stand) (taken wrote : ℕ)
+      → (g : Stopped s held room false s′ taken wrote TEXT room′) → Driven s′ (drop taken held ++ part) false parts w calls
+      → Driven s held false (part ∷ parts) (take wrote room′ ++ w) (g .went .made ++ calls)
+  told : {s : Stand} {held : List ℕ} {w : List ℕ} {calls : List Call} → Driven s held true [] w calls → Driven s held false [] w calls
+
+-- However the book is cut into parts and whatever room is lent each time: what is written is the report of the book, and the calls made are the
+-- book's (proofs/Driving.antt).
+pub record DrivenRight (parts : List (List ℕ)) (w : List ℕ) (calls : List Call) : Type 0 where
+  pub report-is : w ≡ report (joined parts)
+  pub calls-are : calls ≡ bookCalls (joined parts)
+
+abbrev pub WrittenRight : Type 0
+WrittenRight =
+    (images octets letters : List ℕ) (parts : List (List ℕ)) (w : List ℕ) (calls : List Call)
+    → length images ≡ imagesRoom → longestBody ≤ length octets → areLetters letters ≡ true
+    → Driven (fresh images octets letters) [] false parts w calls → DrivenRight parts w calls
+
+-- ---- No driver goes on for ever from here: whatever parts come and whatever it lends, as long as the room holds the notes of a period each
+-- time, and whatever the calls do, as long as each does what `Stopped` says.
+pub data Ending : Stand → List ℕ → Bool → List (List ℕ) → Type 0 where
+  ending : {s : Stand} {held : List ℕ} {whole : Bool} {parts : List (List ℕ)}
+      → (emptied : (room room′ : List ℕ) (s′ : Stand) (taken wrote : ℕ) → periodRoom ≤ length room
+      → Stopped s held room whole s′ taken wrote ROOM room′ → Ending s′ (drop taken held) whole parts)
+      → (filled : (room room′ : List ℕ) (s′ : Stand) (taken wrote : ℕ) (part : List ℕ) (rest : List (List ℕ)) → parts ≡ part ∷ rest
+      → Stopped s held room whole s′ taken wrote TEXT room′ → Ending s′ (drop taken held ++ part) whole rest)
+      → (told : whole ≡ false → parts ≡ [] → Ending s held true [])
+      → Ending s held whole parts
+
+-- (proofs/Driving.antt)
+abbrev pub NoneGoesOn : Type 0
+NoneGoesOn = (s : Stand) (held : List ℕ) (parts : List (List ℕ)) → Ending s held false parts
+
+-- ---- No call of a driver is refused: at first everything is in order, and so it is after each call (proofs/Driving.antt).
+abbrev pub Sound : Stand → Type 0
+Sound s = Ready (s .kept)
+
+abbrev pub FreshSound : Type 0
+FreshSound =
+    (images octets letters : List ℕ) → length images ≡ imagesRoom → longestBody ≤ length octets → areLetters letters ≡ true
+    → Sound (fresh images octets letters)
+
+abbrev pub StaysSound : Type 0
+StaysSound =
+    (s s′ : Stand) (text room room′ : List ℕ) (whole : Bool) (taken wrote why : ℕ)
+    → Stopped s text room whole s′ taken wrote why room′ → Sound s → Sound s′
+
+-- A call for every argument that is not refused.
+pub record OneCall (s : Stand) (text room : List ℕ) (whole : Bool) : Type 0 where
+  pub after : Stand
+  pub taken : ℕ
+  pub wrote : ℕ
+  pub why : ℕ
+  pub room-after : List ℕ
+  pub stopped : Stopped s text room whole after taken wrote why room-after
+
+abbrev pub EveryCall : Type 0
+EveryCall = (s : Stand) (text room : List ℕ) (whole : Bool) → Sound s → OneCall s text room whole
+
+pub record Ends (s : Stand) (held : List ℕ) (whole : Bool) (parts : List (List ℕ)) : Type 0 where
+  pub written : List ℕ
+  pub made : List Call
+  pub driven : Driven s held whole parts written made
+
+-- So where there is such a call, a driver whose room holds the notes of a period comes to its end, whatever the parts.
+abbrev pub DriverEnds : Type 0
+DriverEnds =
+    EveryCall → (room : List ℕ) → periodRoom ≤ length room
+    → (s : Stand) (held : List ℕ) (parts : List (List ℕ)) → Sound s → Ends s held false parts
