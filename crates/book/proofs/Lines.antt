@@ -1,0 +1,89 @@
+-- What `line` gives back at each of its returns: as its contract says it.
+use mathlib.Core.Path.{_≡_, refl}
+use mathlib.Core.Bool.{Bool, true, false}
+use mathlib.Core.List.{List}
+use Prim.Native.Nat.{ℕ, _+_, _≤_, _<_}
+use native.Mathlib.Omega.{arith}
+use lib.Dec.{ltb, leb}
+use lib.ListN.{length}
+use borrow.Author.Tests.{ltb-true, ltb-false, leb-true}
+use Rattle.cases.proofs.ByCases.{by-test}
+use Rattle.book_line.specs.Line.{valueOf, isEnd}
+use Rattle.book_line.specs.Value.{valueOctets, valueRoom}
+use Rattle.book_line.proofs.Values.{value-length}
+use Rattle.book_reader.specs.Step.{AT-LINES, AFTER-END, stepAt, lineAt, fieldOf}
+use Rattle.book_reader.specs.Laws.{Entered}
+use Rattle.book_reader.specs.declared.step.Step.the-variants.{Entry}
+use Rattle.bus_held.specs.Held.{found}
+use Rattle.note_text.proofs.RoomLaws.{put-length}
+use Rattle.period_text.specs.PeriodText.{periodRoom}
+use Rattle.report.specs.Ahead.{ROOM}
+use Rattle.report.proofs.AheadLaws.{UnderWay}
+use Rattle.book.specs.Progress.{standOf, reached}
+use Rattle.book.specs.Until.{RunsTo, Gives}
+use Rattle.book.specs.Steps.{Steps}
+use Rattle.book.specs.declared.progress.Went.{Went}
+use Rattle.book.specs.declared.until.Until.{Until}
+use Rattle.book.proofs.Moving.{stops-room, line-ran, line-ends, line-gives}
+
+-- the octets of an entry's value are few
+pub short-value : {text : List ℕ} {at stage last period unit number end : ℕ} → Entered text at stage last period unit number end
+    → length (valueOctets number (fieldOf text at end 3)) ≤ valueRoom
+short-value {text} {at} {end = end} e = rw (e .event-is) (omega (arith, value-length (lineAt text at end) (e .form)))
+
+module _ (w : Went) (images octets letters text room : List ℕ) (period unit number end : ℕ) (b : w .progress .begun ≡ true)
+    (o : w .progress .over ≡ false)
+    (u : Until) (octets₁ room₁ : List ℕ)
+    (r : RunsTo (found (w .progress .bus) (w .progress .terminals) images octets letters) period room (w .wrote)
+    (found (u .bus) (u .terminals) images octets₁ letters) (u .wrote) room₁) where
+  -- what a return has to say
+  abbrev Returns : List ℕ → List ℕ → List ℕ → Went → Type 0
+  Returns images′ letters′ room′ x =
+      ((whole : Bool) → stepAt text (w .taken) (w .progress .stage) (w .progress .bus .periods .0) whole ≡ Entry period unit number end
+      → Steps text whole (standOf (w .progress) images octets letters) (w .taken) room (w .wrote)
+      (standOf (x .progress) images′ octets₁ letters′) (x .taken) room′ (x .wrote) (x .why)) × (x .reply ≡ 0)
+
+  way : UnderWay (standOf (w .progress) images octets letters)
+  way = record { begun-is = b; over-is = o }
+
+  pub full-line : leb (u .wrote + periodRoom) (length room₁) ≡ false → (x : Went) → x ≡ reached w u (w .progress .stage) (w .taken) ROOM
+      → Returns images letters room₁ x
+  full-line h x e =
+      rw e (
+        λ whole q. stops-room
+            (line-ran text whole (standOf (w .progress) images octets letters) (w .taken) room (w .wrote) period unit number end way q
+            (found (u .bus) (u .terminals) images octets₁ letters) (u .wrote) room₁ r) h o,
+        refl,
+      )
+
+  -- there is room, so that the line's period has been reached
+  module _ (more : u .bus .periods .0 < period → length room < u .wrote + periodRoom) (h : leb (u .wrote + periodRoom) (length room₁) ≡ true) where
+    pub has-room : u .wrote + periodRoom ≤ length room₁
+    has-room = leb-true (u .wrote + periodRoom) (length room₁) h
+
+    pub there : u .bus .periods .0 ≡ period
+    there = by-order (u .bus .periods .0) period (r .up-to) (λ l. omega (arith, more l, has-room, put-length (r .put)))
+      where
+        by-order : (a c : ℕ) → a ≤ c → (a < c → ⊥) → a ≡ c
+        by-order a c l n = by-test (ltb a c) (λ t. absurd (n (ltb-true a c t))) (λ t. omega (arith, ltb-false a c t))
+
+    pub end-line : isEnd unit number ≡ true → (x : Went) → x ≡ reached w u AFTER-END (end + 1) 0 → Returns images letters room₁ x
+    end-line t x e =
+        rw e (
+          λ whole q. line-ends text whole (standOf (w .progress) images octets letters) (w .taken) room (w .wrote) period unit number end way q
+              (found (u .bus) (u .terminals) images octets₁ letters) (u .wrote) room₁ r there t,
+          refl,
+        )
+
+    pub given-line : isEnd unit number ≡ false → (value : List ℕ) → value ≡ valueOf (lineAt text (w .taken) end)
+        → (g : Until) (images′ letters′ room₂ : List ℕ)
+        → ((kept : List ℕ) → Gives (found (u .bus) (u .terminals) images kept letters) unit number value room₁ (u .wrote)
+        (found (g .bus) (g .terminals) images′ kept letters′) (g .wrote) room₂)
+        → (x : Went) → x ≡ reached w g AT-LINES (end + 1) 0 → Returns images′ letters′ room₂ x
+    given-line t value v g images′ letters′ room₂ gives x e =
+        rw e (
+          λ whole q. line-gives text whole (standOf (w .progress) images octets letters) (w .taken) room (w .wrote) period unit number end way q
+              (found (u .bus) (u .terminals) images octets₁ letters) (u .wrote) room₁ r there t
+              (found (g .bus) (g .terminals) images′ octets₁ letters′) (g .wrote) room₂ (rw v at (gives octets₁)),
+          refl,
+        )

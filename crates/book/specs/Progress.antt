@@ -1,0 +1,57 @@
+-- How far a book has come, as the code holds it: with what is lent it is crate `report`'s `Stand` (specs/Ahead.antt there).
+use mathlib.Core.Bool.{Bool, false}
+use mathlib.Core.List.{List}
+use Prim.Native.Nat.{ℕ, _≤_}
+use lib.ListN.{length, replicate}
+use Rattle.terminal.specs.Terminal as terminal
+use Rattle.bus.specs.Bus.{terminals}
+use Rattle.bus_record.specs.Record.{freshRecord}
+use Rattle.bus_calls.specs.Ready.{runReply}
+use Rattle.bus_held.specs.Held.{found}
+use Rattle.book_reader.specs.Step.{BEFORE-FIRST-LINE}
+use Rattle.report.specs.Told.{Ready}
+use Rattle.report.specs.Ahead.{Stand}
+use Rattle.book.specs.declared.progress.Progress.{Progress}
+use Rattle.book.specs.declared.progress.Went.{Went}
+use Rattle.book.specs.declared.until.Until.{Until}
+
+-- of which nothing has been read, on a fresh bus
+unfoldable pub freshProgress : Progress
+freshProgress =
+    record { bus = freshRecord; terminals = replicate terminals terminal.fresh; stage = BEFORE-FIRST-LINE; begun = false; over = false }
+
+abbrev pub standOf : Progress → List ℕ → List ℕ → List ℕ → Stand
+standOf p images octets letters =
+    record { kept = found (p .bus) (p .terminals) images octets letters; stage = p .stage; begun = p .begun; over = p .over }
+
+-- The first of the reasons 1 and 2 that holds, or 0: as for a run of no period.
+unfoldable pub reason : Stand → ℕ
+reason s = runReply 0 (s .kept)
+
+-- The same bus, at another stage of the book and of its report.
+abbrev pub turned : Went → ℕ → Bool → Bool → ℕ → ℕ → ℕ → Went
+turned w stage begun over taken wrote why =
+    record {
+      progress = record { bus = w .progress .bus; terminals = w .progress .terminals; stage = stage; begun = begun; over = over };
+      taken = taken;
+      wrote = wrote;
+      why = why;
+      reply = 0;
+    }
+
+-- Another bus and other octets written, at a stage.
+abbrev pub reached : Went → Until → ℕ → ℕ → ℕ → Went
+reached w u stage taken why =
+    record {
+      progress = record { bus = u .bus; terminals = u .terminals; stage = stage; begun = w .progress .begun; over = w .progress .over };
+      taken = taken;
+      wrote = u .wrote;
+      why = why;
+      reply = 0;
+    }
+
+-- What a step is for: the record and what is lent are in order, and text and room reach as far as is taken and written.
+pub record Goes (w : Went) (images octets letters text room : List ℕ) : Type 0 where
+  pub ready : Ready (found (w .progress .bus) (w .progress .terminals) images octets letters)
+  pub within : w .taken ≤ length text
+  pub fits : w .wrote ≤ length room

@@ -1,0 +1,93 @@
+// Periods are run up to a line's, as long as there is room for the notes of one.
+ghost use mathlib.Core.Path.{_≡_};
+ghost use Prim.Native.Nat.{_+_, _≤_, _<_};
+ghost use lib.Dec.{leb};
+ghost use lib.ListN.{length};
+ghost use Rattle.bus_held.specs.Held.{found};
+ghost use Rattle.timing.specs.Counts.{mostPeriods};
+ghost use Rattle.period_text.specs.PeriodText.{periodRoom};
+ghost use Rattle.report.specs.Told.{Ready};
+ghost use Rattle.book.specs.Until.{RunsTo};
+use super::progress::PERIOD_ROOM;
+use super::progress::Went;
+use bus_record::record::BusRecord;
+use period_text::period::put_period;
+use terminal::Terminal;
+
+// The bus with its terminals, and the octets written into the room.
+pub(crate) struct Until {
+    pub(crate) bus: BusRecord,
+    pub(crate) terminals: [Terminal; 8],
+    pub(crate) wrote: usize,
+}
+
+// Whether so much room, so many octets of it written, holds the notes of one more period.
+pub(crate) fn has_room(room: usize, wrote: usize) -> bool
+    ensures { λ r. ⌜ r ≡ leb (wrote + periodRoom) room ⌝ }
+{
+    if room < PERIOD_ROOM {
+        return false;
+    }
+    wrote <= room - PERIOD_ROOM
+}
+
+// One run of periods, up to the one of number `to` at most, and its notes as text.
+fn advance(
+    u: Until,
+    images: &[u8],
+    octets: &mut [u8],
+    letters: &[u8],
+    room: &mut [u8],
+    to: u32,
+) -> Until
+    requires { ⌜ Ready (found (u .bus) (u .terminals) (now images) (now octets) (now letters)) × (u .bus .periods .0 < to)
+        × (to ≤ mostPeriods) × (u .wrote + periodRoom ≤ length (now room)) ⌝ }
+    ensures { λ r. ⌜ RunsTo (found (u .bus) (u .terminals) (now (images .entry)) (now (octets .entry)) (now (letters .entry)))
+        to (now (room .entry)) (u .wrote)
+        (found (r .bus) (r .terminals) (now (images .entry)) (now (octets .exit)) (now (letters .entry))) (r .wrote) (now (room .exit))
+        × (u .bus .periods .0 < r .bus .periods .0) ⌝ }
+{
+    let before = u.terminals;
+    let g = bus_held::run(u.bus, before, images, octets, letters, to - u.bus.periods.0);
+    let ran = g.ran;
+    let bus = ran.bus;
+    let terminals = g.terminals;
+    let notes = g.notes;
+    let wrote = put_period(room, u.wrote, bus.periods.0 - 1, ran, notes, octets);
+    Until {
+        bus,
+        terminals,
+        wrote,
+    }
+}
+
+// Runs the periods before the one of number `to`, as far as the room goes.
+pub(crate) fn run_to(
+    w: Went,
+    images: &[u8],
+    octets: &mut [u8],
+    letters: &[u8],
+    room: &mut [u8],
+    to: u32,
+) -> Until
+    requires { ⌜ Ready (found (w .progress .bus) (w .progress .terminals) (now images) (now octets) (now letters))
+        × (w .progress .bus .periods .0 ≤ to) × (to ≤ mostPeriods) × (w .wrote ≤ length (now room)) ⌝ }
+    ensures { λ r. ⌜ RunsTo
+        (found (w .progress .bus) (w .progress .terminals) (now (images .entry)) (now (octets .entry)) (now (letters .entry)))
+        to (now (room .entry)) (w .wrote)
+        (found (r .bus) (r .terminals) (now (images .entry)) (now (octets .exit)) (now (letters .entry))) (r .wrote) (now (room .exit))
+        × (r .bus .periods .0 < to → length (now (room .entry)) < r .wrote + periodRoom) ⌝ }
+{
+    let p = w.progress;
+    let bus = p.bus;
+    let terminals = p.terminals;
+    let mut u = Until {
+        bus,
+        terminals,
+        wrote: w.wrote,
+    };
+    while (u.bus.periods.0 < to) & has_room(room.len(), u.wrote) {
+        u = advance(u, images, octets, letters, room, to);
+    }
+    u
+}
