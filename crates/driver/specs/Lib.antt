@@ -1,0 +1,2 @@
+-- What a driver keeps, and what its turn does.
+pub mod Turn

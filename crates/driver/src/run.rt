@@ -1,0 +1,69 @@
+// All turns, from a fresh bus to the end of the book.
+ghost use mathlib.Core.Path.{_≡_};
+ghost use Prim.Native.Nat.{_≤_, _<_};
+ghost use mathlib.Core.Bool.{true};
+ghost use lib.ListN.{length};
+ghost use Rattle.hdlc.specs.Image.{longestBody};
+ghost use Rattle.bus_event.specs.Event.{imagesRoom, areLetters};
+ghost use Rattle.book_line.specs.Line.{longestLine};
+ghost use Rattle.driver.specs.Turn.{Drives, Runs};
+use super::turn::Held;
+use super::turn::turn;
+use book::progress::OVER;
+use book::progress::PERIOD_ROOM;
+use book::progress::Progress;
+use book::progress::TEXT;
+use bus_event::event::IMAGES_ROOM;
+use packing::image::LONGEST_BODY;
+use symbols::LINE_LENGTH;
+
+// Nothing says that the input ends, so the turns are counted down, from a number that no run uses up (`RunEnds`).
+fn drive(
+    text: &mut [u8],
+    room: &mut [u8],
+    images: &mut [u8],
+    octets: &mut [u8],
+    letters: &mut [u8],
+    most: usize,
+)
+    requires { ⌜ (longestLine ≤ length (now text)) × (0 < most) ⌝ }
+    requires { ⌜ (length (now images) ≡ imagesRoom) × (longestBody ≤ length (now octets)) × (areLetters (now letters) ≡ true) ⌝ }
+    ensures { λ r. ⌜ Drives most (now (text .entry)) (now (room .entry)) (now (images .entry)) (now (octets .entry)) (now (letters .entry))
+        (now (text .exit)) (now (room .exit)) (now (images .exit)) (now (octets .exit)) (now (letters .exit)) ⌝ }
+{
+    let mut turns = u64::MAX;
+    let mut h = Held {
+        progress: Progress::fresh(),
+        have: 0,
+        why: TEXT,
+        whole: false,
+        failed: false,
+    };
+    while (turns > 0) & (!h.failed & (h.why != OVER)) {
+        h = turn(h, text, room, images, octets, letters, most);
+        turns -= 1;
+    }
+}
+
+// The book on standard input, read in parts of at most `most` octets (0 counts as 1), and its report on standard output, through lent room.
+// With less room than the notes of a period may take a call does nothing: there is nothing to drive.
+pub fn run(room: &mut [u8], most: usize)
+    ensures { λ r. ⌜ Runs most (now (room .entry)) (now (room .exit)) ⌝ }
+{
+    if room.len() < PERIOD_ROOM {
+        return;
+    }
+    let mut text = io::large_buffer();
+    let mut images = [0u8; IMAGES_ROOM];
+    let mut octets = [0u8; LONGEST_BODY];
+    let mut letters = [0u8; LINE_LENGTH];
+    let part = if most == 0 { 1 } else { most };
+    drive(
+        &mut text,
+        room,
+        &mut images,
+        &mut octets,
+        &mut letters,
+        part,
+    );
+}
