@@ -8,11 +8,11 @@ use lib.Seq.{take-all, take-append-seam}
 use Rattle.timing.specs.Counts.{mostPeriods}
 use Rattle.terminal.specs.declared.Terminal.{Terminal}
 use Rattle.bus_record.specs.declared.record.BusRecord.{BusRecord}
-use Rattle.bus_calls.specs.Kept.{Kept}
-use Rattle.bus_calls.specs.Event as events
-use Rattle.bus_calls.specs.Lists as lists
-use Rattle.bus_calls.specs.Lists.{called}
-use Rattle.bus_held.specs.Held.{found}
+use Rattle.call_rules.specs.Kept.{Kept}
+use Rattle.call_rules.specs.Event as events
+use Rattle.call_rules.specs.Lists as lists
+use Rattle.call_rules.specs.Lists.{called}
+use Rattle.call_rules.specs.Kept.{found}
 use Rattle.bus_held.specs.declared.HeldEvent.{HeldEvent}
 use Rattle.book_line.specs.Value.{Laid, valueOctets}
 use Rattle.note_text.specs.Room.{Put}

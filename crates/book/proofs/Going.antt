@@ -9,9 +9,9 @@ use lib.ListN.{length, take}
 use borrow.Author.Tests.{ne-eqb}
 use Rattle.bus_record.specs.NetworkSide.{refusedRun}
 use Rattle.bus_record.specs.declared.side.Ran.{Ran}
-use Rattle.bus_calls.specs.Kept.{Kept}
-use Rattle.bus_calls.specs.Run.{ran, ranOn, keptAfter, keptOn, notYet}
-use Rattle.bus_held.specs.Held.{found}
+use Rattle.call_rules.specs.Kept.{Kept}
+use Rattle.call_rules.specs.Run.{ran, ranOn, keptAfter, keptOn, notYet}
+use Rattle.call_rules.specs.Kept.{found}
 use Rattle.book_reader.specs.Step.{stepAt}
 use Rattle.book_reader.specs.declared.step.Step.{Step}
 use Rattle.note_text.proofs.RoomLaws.{put-length, take-laid, drop-laid}

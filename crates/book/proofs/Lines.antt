@@ -14,7 +14,7 @@ use Rattle.book_line.proofs.Values.{value-length}
 use Rattle.book_reader.specs.Step.{AT-LINES, AFTER-END, stepAt, lineAt, fieldOf}
 use Rattle.book_reader.specs.Laws.{Entered}
 use Rattle.book_reader.specs.declared.step.Step.the-variants.{Entry}
-use Rattle.bus_held.specs.Held.{found}
+use Rattle.call_rules.specs.Kept.{found}
 use Rattle.note_text.proofs.RoomLaws.{put-length}
 use Rattle.period_text.specs.PeriodText.{periodRoom}
 use Rattle.report.specs.Ahead.{ROOM}

@@ -9,7 +9,7 @@ use lib.ListN.{length, drop, length-append}
 use borrow.Author.Tests.{leb-false}
 use Rattle.cases.proofs.ByCases.{clash}
 use Rattle.bus.specs.Calls.{Call}
-use Rattle.bus_calls.specs.Kept.{Kept}
+use Rattle.call_rules.specs.Kept.{Kept}
 use Rattle.book_line.specs.Line.{valueOf, isEnd}
 use Rattle.book_reader.specs.Step.{AT-LINES, AFTER-END, stepAt, lineAt}
 use Rattle.book_reader.specs.Book.Answer.{entry}

@@ -14,16 +14,17 @@ use Rattle.bus.specs.Calls.Call.{period}
 use Rattle.terminal.specs.declared.Terminal.{Terminal}
 use Rattle.bus_record.specs.declared.record.BusRecord.{BusRecord}
 use Rattle.bus_record.specs.declared.side.Ran.{Ran}
-use Rattle.bus_calls.specs.Kept.{Kept}
-use Rattle.bus_calls.specs.Ready.{goesOn}
-use Rattle.bus_calls.specs.Period.{periodRan, keptRun}
-use Rattle.bus_calls.specs.Run.{ran, keptAfter, keptOn, notYet}
-use Rattle.bus_calls.specs.Lists.{periodTold}
-use Rattle.bus_held.specs.Held.{found}
+use Rattle.call_rules.specs.Kept.{Kept}
+use Rattle.call_rules.specs.Ready.{goesOn}
+use Rattle.call_rules.specs.Period.{periodRan, keptRun}
+use Rattle.call_rules.specs.Run.{ran, keptAfter, keptOn, notYet}
+use Rattle.call_rules.specs.Lists.{periodTold}
+use Rattle.call_rules.specs.Kept.{found}
 use Rattle.bus_held.specs.declared.HeldRun.{HeldRun}
 use Rattle.note_text.specs.Room.{Put}
-use Rattle.note_text.specs.NoteText.{notesText}
-use Rattle.note_text.proofs.NoteLaws.{text-append}
+use Rattle.note_text.specs.NoteText.{notesIn, notesText}
+use Rattle.note_text.specs.declared.form.Form.the-variants.{Line}
+use Rattle.note_text.proofs.NoteLaws.{form-append}
 use Rattle.note_text.proofs.RoomLaws.{put-put, put-none, put-length}
 use Rattle.period_text.specs.PeriodText.{periodRoom}
 use Rattle.report.specs.Told.{Ready, settled, doneAll, allBookTold, RunsOn}
@@ -92,7 +93,7 @@ module _ (bus : BusRecord) (ts : List Terminal) (images octets letters : List �
 
 -- ---- None yet, and runs one after another.
 pub ran-none : (k : Kept) (to : ℕ) (room : List ℕ) (wrote : ℕ) → k .bus .periods .0 ≤ to → wrote ≤ length room → RunsTo k to room wrote k wrote room
-unfolding doneAll allBookTold notesText
+unfolding doneAll allBookTold notesIn
 ran-none k to room wrote h f =
     let z : k .bus .periods .0 - k .bus .periods .0 ≡ 0 = omega arith in
     record { from = omega arith; up-to = h; left = rw z; put = rw z (put-none room wrote f); fits = rw z (omega arith) }
@@ -110,7 +111,7 @@ module _ {k : Kept} {to : ℕ} {room : List ℕ} {wrote : ℕ} {k₁ : Kept} {w�
       rw (
         sym both,
         told-append k (periodsTo k k₁) (periodsTo k₁ k₂),
-        text-append (allBookTold k (periodsTo k k₁)) (allBookTold (doneAll k (periodsTo k k₁)) (periodsTo k₁ k₂)),
+        form-append Line (allBookTold k (periodsTo k k₁)) (allBookTold (doneAll k (periodsTo k k₁)) (periodsTo k₁ k₂)),
         sym (a .left),
       )
 

@@ -6,8 +6,8 @@ use lib.ListN.{length, replicate}
 use Rattle.terminal.specs.Terminal as terminal
 use Rattle.bus.specs.Bus.{terminals}
 use Rattle.bus_record.specs.Record.{freshRecord}
-use Rattle.bus_calls.specs.Ready.{runReply}
-use Rattle.bus_held.specs.Held.{found}
+use Rattle.call_rules.specs.Ready.{runReply}
+use Rattle.call_rules.specs.Kept.{found}
 use Rattle.book_reader.specs.Step.{BEFORE-FIRST-LINE}
 use Rattle.report.specs.Told.{Ready}
 use Rattle.report.specs.Ahead.{Stand}

@@ -5,7 +5,7 @@ use Prim.Native.Nat.{ℕ, _+_, _-_, _≤_}
 use lib.ListN.{length, replicate}
 use Rattle.bus.specs.Calls.{Call}
 use Rattle.bus.specs.Calls.Call.{event, period}
-use Rattle.bus_calls.specs.Kept.{Kept}
+use Rattle.call_rules.specs.Kept.{Kept}
 use Rattle.book_line.specs.Value.{valueOctets}
 use Rattle.note_text.specs.Room.{Put}
 use Rattle.note_text.specs.NoteText.{notesText}

@@ -2,7 +2,7 @@
 ghost use mathlib.Core.List.{List};
 ghost use Prim.Native.Nat.{ℕ, _+_, _≤_};
 ghost use lib.ListN.{length};
-ghost use Rattle.bus_held.specs.Held.{found};
+ghost use Rattle.call_rules.specs.Kept.{found};
 ghost use Rattle.timing.specs.Counts.{mostPeriods};
 ghost use Rattle.book_line.specs.Value.{valueOctets, valueRoom};
 ghost use Rattle.period_text.specs.PeriodText.{periodRoom};

@@ -3,7 +3,7 @@ ghost use mathlib.Core.Path.{_≡_};
 ghost use Prim.Native.Nat.{_+_, _≤_, _<_};
 ghost use lib.Dec.{leb};
 ghost use lib.ListN.{length};
-ghost use Rattle.bus_held.specs.Held.{found};
+ghost use Rattle.call_rules.specs.Kept.{found};
 ghost use Rattle.timing.specs.Counts.{mostPeriods};
 ghost use Rattle.period_text.specs.PeriodText.{periodRoom};
 ghost use Rattle.report.specs.Told.{Ready};
@@ -11,6 +11,7 @@ ghost use Rattle.book.specs.Until.{RunsTo};
 use super::progress::PERIOD_ROOM;
 use super::progress::Went;
 use bus_record::record::BusRecord;
+use note_text::form::Form;
 use period_text::period::put_period;
 use terminal::Terminal;
 
@@ -53,7 +54,15 @@ fn advance(
     let bus = ran.bus;
     let terminals = g.terminals;
     let notes = g.notes;
-    let wrote = put_period(room, u.wrote, bus.periods.0 - 1, ran, notes, octets);
+    let wrote = put_period(
+        Form::Line,
+        room,
+        u.wrote,
+        bus.periods.0 - 1,
+        ran,
+        notes,
+        octets,
+    );
     Until {
         bus,
         terminals,

@@ -4,7 +4,7 @@ ghost use mathlib.Core.List.{[]};
 ghost use Prim.Native.Nat.{_-_};
 ghost use Rattle.cells.specs.Notes.{packedNotes};
 ghost use Rattle.bus_event.specs.Event.{told};
-ghost use Rattle.bus_calls.specs.Event.{eventTold, terminalsAfter, imagesAfter, lettersAfter};
+ghost use Rattle.call_rules.specs.Event.{eventTold, terminalsAfter, imagesAfter, lettersAfter};
 use super::ready::in_range;
 use bus_event::event::Told;
 use bus_event::event::first_reason;

@@ -1,6 +1,6 @@
 // The checks before a run: refusals 1, 2 and 9; and whether a run goes on. `in_range` serves `event` too.
 ghost use mathlib.Core.Path.{_≡_};
-ghost use Rattle.bus_calls.specs.Ready.{eightInRange, runReason, goesOn};
+ghost use Rattle.call_rules.specs.Ready.{eightInRange, runReason, goesOn};
 use bus_event::event::IMAGES_ROOM;
 use bus_record::record::BusRecord;
 use bus_record::side::Ran;

@@ -1,7 +1,7 @@
 // Periods are run.
 ghost use mathlib.Core.Path.{_≡_};
-ghost use Rattle.bus_calls.specs.Kept.{kept};
-ghost use Rattle.bus_calls.specs.Run.{ran, keptAfter};
+ghost use Rattle.call_rules.specs.Kept.{kept};
+ghost use Rattle.call_rules.specs.Run.{ran, keptAfter};
 use super::ready::goes_on;
 use super::ready::in_range;
 use super::ready::run_reason;

@@ -1,7 +1,7 @@
 // One period: exchange, hearing, then the timers due at the next one's start.
 ghost use mathlib.Core.Path.{_≡_};
 ghost use lib.ListN.{length};
-ghost use Rattle.bus_calls.specs.Step.{stepRan, stepTerminals, stepOctets, stepNotes};
+ghost use Rattle.call_rules.specs.Step.{stepRan, stepTerminals, stepOctets, stepNotes};
 use bus_record::echo::first_moment;
 use bus_record::echo::heard_down;
 use bus_record::record::BusRecord;

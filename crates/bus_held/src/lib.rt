@@ -1,9 +1,9 @@
 // The calls over terminals held by value: who has the eight records in an array hands it over and has it back, and lends no terminal.
 ghost use mathlib.Core.Path.{_≡_};
 ghost use Rattle.exchange.specs.Opportunities as opportunities;
-ghost use Rattle.bus_calls.specs.Event as events;
-ghost use Rattle.bus_calls.specs.Run.{ran, keptAfter};
-ghost use Rattle.bus_held.specs.Held.{found};
+ghost use Rattle.call_rules.specs.Event as events;
+ghost use Rattle.call_rules.specs.Run.{ran, keptAfter};
+ghost use Rattle.call_rules.specs.Kept.{found};
 use bus_event::event::Told;
 use bus_record::record::BusRecord;
 use bus_record::side::Ran;

@@ -1,5 +1,5 @@
 -- What of the downward line the exchange and the terminals' hearing need. A line is built under a hit alone (crate `bus`, specs/Quick.antt).
--- This is how the code goes; crate `bus_calls`' law `step-shown` holds it to document 01's period.
+-- This is how the code goes; crate `call_rules`' law `step-shown` holds it to document 01's period.
 use mathlib.Core.Bool.{Bool, cond}
 use mathlib.Core.List.{List}
 use Prim.Native.Nat.{ℕ}

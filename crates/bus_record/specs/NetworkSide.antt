@@ -1,5 +1,5 @@
 -- The network end's side of a period: it reads D, hears the upward line, and then come the timers due at the next one's start.
--- This is how the code goes; crate `bus_calls`' law `step-shown` holds it to document 01's period.
+-- This is how the code goes; crate `call_rules`' law `step-shown` holds it to document 01's period.
 use mathlib.Core.Bool.{Bool, false, cond, not, _&&_, _||_}
 use mathlib.Core.List.{List, []}
 use Prim.Native.Nat.{ℕ}

@@ -1,5 +1,5 @@
 -- The network end reads the four D of a period in G3 (document 01, "D access (6.1)"), bit by bit.
--- This is how the code goes; crate `bus_calls`' law `step-shown` holds it to document 01's period.
+-- This is how the code goes; crate `call_rules`' law `step-shown` holds it to document 01's period.
 use mathlib.Core.Bool.{Bool, cond}
 use mathlib.Core.List.{List}
 use Prim.Native.Nat.{ℕ}

@@ -1,4 +1,4 @@
--- Lines are as long as specs/Lengths.antt says.
+-- Notes are as long as specs/Lengths.antt says.
 use mathlib.Core.Bool.{Bool}
 use mathlib.Core.List.{[], _∷_}
 use mathlib.Core.Path.{_≡_, refl, sym, ap, _∙_}
@@ -13,7 +13,8 @@ use Rattle.cells.specs.Notes.{HEARD, REFUSED}
 use Rattle.bus.specs.Bus.{Note}
 use Rattle.text.specs.Text.{LF}
 use Rattle.note_text.specs.NoteText.{decimalIn, decimal, hexOf, note, named, openValue, noteLine}
-use Rattle.note_text.specs.Lengths.{DecimalFits, LineFits, RefusedFits, HeardFits}
+use Rattle.note_text.specs.NoteOctets.{noteOctets}
+use Rattle.note_text.specs.Lengths.{DecimalFits, LineFits, RefusedFits, HeardFits, OctetsLength}
 use Rattle.note_text.proofs.DecimalLaws.{decimal-length}
 use Rattle.note_text.proofs.HexLaws.{length-hex}
 use Rattle.note_text.proofs.NameTable.{noCode}
@@ -67,3 +68,7 @@ unfolding named printedAs printed
 heard-fits period unit body h k l =
     rw (line-length (note period unit HEARD body), length-hex body)
     (omega (arith, decimal-fits period h, decimal-length 0 unit (omega arith)))
+
+pub octets-length : OctetsLength
+unfolding noteOctets
+octets-length n = omega arith

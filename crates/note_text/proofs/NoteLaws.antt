@@ -1,4 +1,4 @@
--- The line of a note from its parts, and the lines of several.
+-- The line of a note from its parts, and several notes in either form.
 use mathlib.Core.List.{List, [], _∷_, _++_, append-assoc, append-nil}
 use mathlib.Core.Path.{_≡_, refl, sym, _∙_}
 use Prim.Native.Nat.{ℕ, _+_, _<_, min}
@@ -13,7 +13,8 @@ use Rattle.cells.specs.Names.{Value, printedAs}
 use Rattle.cells.specs.Names.Value.{no-value, body, number, word}
 use Rattle.bus.specs.Bus.{Note, notesOf}
 use Rattle.text.specs.Text.{LF, space}
-use Rattle.note_text.specs.NoteText.{decimal, valueText, fixedValue, named, openValue, note, noteLine, notesText}
+use Rattle.note_text.specs.NoteText.{decimal, valueText, fixedValue, named, openValue, note, noteLine, noteIn, notesIn}
+use Rattle.note_text.specs.declared.form.Form.{Form}
 
 -- a value in the part that the code decides and the other
 values-are : (v : Value) (value : List ℕ) → fixedValue v ++ openValue v value ≡ valueText v value
@@ -35,10 +36,10 @@ line-parts n =
       values-are (p .value) (n .value),
     )
 
-pub text-append : (a b : List Note) → notesText (a ++ b) ≡ notesText a ++ notesText b
-unfolding notesText
-text-append [] b = refl
-text-append (n ∷ a) b = rw (text-append a b) (sym (append-assoc (noteLine n) (notesText a) (notesText b)))
+pub form-append : (form : Form) (a b : List Note) → notesIn form (a ++ b) ≡ notesIn form a ++ notesIn form b
+unfolding notesIn
+form-append form [] b = refl
+form-append form (n ∷ a) b = rw (form-append form a b) (sym (append-assoc (noteIn form n) (notesIn form a) (notesIn form b)))
 
 pub notes-append : (now unit : ℕ) (a b : List ℕ) → notesOf now unit (a ++ b) ≡ notesOf now unit a ++ notesOf now unit b
 unfolding notesOf
@@ -46,16 +47,16 @@ notes-append now unit [] b = refl
 notes-append now unit (c ∷ a) b = rw (notes-append now unit a b)
 
 -- ---- The loop of `put_notes`: a note more, and all of them.
-pub notes-next : (now unit : ℕ) (codes : List ℕ) (i : ℕ) → i < length codes
-    → notesText (notesOf now unit (take (i + 1) codes))
-    ≡ notesText (notesOf now unit (take i codes)) ++ noteLine (note now unit (getD codes i 0) [])
-unfolding notesText notesOf
-notes-next now unit codes i h =
+pub notes-next : (form : Form) (now unit : ℕ) (codes : List ℕ) (i : ℕ) → i < length codes
+    → notesIn form (notesOf now unit (take (i + 1) codes))
+    ≡ notesIn form (notesOf now unit (take i codes)) ++ noteIn form (note now unit (getD codes i 0) [])
+unfolding notesIn notesOf
+notes-next form now unit codes i h =
     rw (
       add-one i,
       take-suc codes i 0 h,
       notes-append now unit (take i codes) (getD codes i 0 ∷ []),
-      text-append (notesOf now unit (take i codes)) (notesOf now unit (getD codes i 0 ∷ [])),
+      form-append form (notesOf now unit (take i codes)) (notesOf now unit (getD codes i 0 ∷ [])),
       append-nil,
     )
 
@@ -66,10 +67,10 @@ take-count codes n i h =
     (λ t. let l = leb-false n (length codes) t in take-all i codes (omega arith) ∙ sym (take-all n codes (omega arith)))
 
 -- ---- For the layers above.
-pub one-line : (n : Note) → notesText (n ∷ []) ≡ noteLine n
-unfolding notesText
-one-line n = append-nil (noteLine n)
+pub one-note : (form : Form) (n : Note) → notesIn form (n ∷ []) ≡ noteIn form n
+unfolding notesIn
+one-note form n = append-nil (noteIn form n)
 
-pub notes-text-append : (now unit : ℕ) (a b : List ℕ)
-    → notesText (notesOf now unit (a ++ b)) ≡ notesText (notesOf now unit a) ++ notesText (notesOf now unit b)
-notes-text-append now unit a b = rw notes-append (text-append (notesOf now unit a) (notesOf now unit b))
+pub codes-append : (form : Form) (now unit : ℕ) (a b : List ℕ)
+    → notesIn form (notesOf now unit (a ++ b)) ≡ notesIn form (notesOf now unit a) ++ notesIn form (notesOf now unit b)
+codes-append form now unit a b = rw notes-append (form-append form (notesOf now unit a) (notesOf now unit b))

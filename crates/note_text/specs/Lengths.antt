@@ -1,9 +1,12 @@
--- How long lines are, so that room can be lent that is large enough.
+-- How long notes are, as lines and as octets, so that room can be lent that is large enough.
 use mathlib.Core.List.{List, [], _∷_}
+use mathlib.Core.Path.{_≡_}
 use Prim.Native.Nat.{ℕ, _+_, _*_, _^_, _≤_, _<_}
 use lib.ListN.{length}
 use Rattle.cells.specs.Notes.{HEARD, REFUSED}
 use Rattle.hdlc.specs.Image.{longestBody}
+use Rattle.bus.specs.Bus.{Note}
+use Rattle.note_text.specs.NoteOctets.{noteOctets}
 use Rattle.note_text.specs.NoteText.{decimal, note, noteLine}
 
 -- Numbers are below this: they have at most ten digits.
@@ -35,3 +38,10 @@ abbrev pub HeardFits : Type 0
 HeardFits =
     (period unit : ℕ) (body : List ℕ) → period < numbers → unit < 10 → length body ≤ longestBody
     → length (noteLine (note period unit HEARD body)) ≤ heardRoom
+
+-- As octets a note takes so many, and those of its value.
+abbrev pub octetsRoom : ℕ
+octetsRoom = 8
+
+abbrev pub OctetsLength : Type 0
+OctetsLength = (n : Note) → length (noteOctets n) ≡ octetsRoom + length (n .value)

@@ -1,4 +1,7 @@
--- Notes as text in lent room: what is laid behind what stands there (Room), the text of a note (NoteText), and how long it is (Lengths).
+-- Notes as text or as octets in lent room: what is laid behind what stands there (Room), numbers as octets (LowFirst), a note as octets
+-- (NoteOctets) and as text, and notes in either form (NoteText), and how long they are (Lengths).
 pub mod Room
+pub mod LowFirst
+pub mod NoteOctets
 pub mod NoteText
 pub mod Lengths

@@ -1,4 +1,4 @@
--- The text of notes (document 01, "Bench book and report"), in ASCII codes.
+-- The text of notes (document 01, "Bench book and report"), in ASCII codes, and notes in either form.
 use mathlib.Core.Bool.{cond}
 use mathlib.Core.List.{List, [], _∷_, _++_, map}
 use mathlib.Core.Path.{_≡_, refl}
@@ -10,6 +10,9 @@ use Rattle.cells.specs.Names.Value.{no-value, body, number, word}
 use Rattle.cells.specs.Notes.{PH-ACT, MPH-ACT, MPH-EI2, MPH-II-CONNECTED, HEARD, DONE1, REFUSED}
 use Rattle.text.specs.Text.{LF, space}
 use Rattle.bus.specs.Bus.{Note}
+use Rattle.note_text.specs.NoteOctets.{noteOctets}
+use Rattle.note_text.specs.declared.form.Form.{Form}
+use Rattle.note_text.specs.declared.form.Form.the-variants.{Line, Octets}
 
 -- ---- Numbers and octets.
 
@@ -60,10 +63,6 @@ noteLine n =
     let p = printedAs (n .code) in
     line (decimal (n .period) ∷ decimal (n .unit) ∷ p .name ∷ valueText (p .value) (n .value) ∷ [])
 
-unfoldable pub notesText : List Note → List ℕ
-notesText [] = []
-notesText (n ∷ notes) = noteLine n ++ notesText notes
-
 -- "The report's first line is printed for every book."
 unfoldable pub heading : List ℕ
 heading = line (ascii "period unit note value" ∷ [])
@@ -72,7 +71,20 @@ heading = line (ascii "period unit note value" ∷ [])
 unfoldable pub stoppedLine : ℕ → List ℕ
 stoppedLine n = line (ascii "- - stopped" ∷ decimal n ∷ [])
 
--- ---- The same line in the parts in which it is put: behind the unit what the code decides, then the rest of the value, then LF.
+-- ---- Notes in either form.
+abbrev pub noteIn : Form → Note → List ℕ
+noteIn Line n = noteLine n
+noteIn Octets n = noteOctets n
+
+unfoldable pub notesIn : Form → List Note → List ℕ
+notesIn form [] = []
+notesIn form (n ∷ notes) = noteIn form n ++ notesIn form notes
+
+-- The lines of notes.
+abbrev pub notesText : List Note → List ℕ
+notesText notes = notesIn Line notes
+
+-- ---- A note's line in the parts in which it is put: behind the unit what the code decides, then the rest of the value, then LF.
 abbrev pub fixedValue : Value → List ℕ
 fixedValue no-value = ascii "-"
 fixedValue body = []

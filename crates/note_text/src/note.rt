@@ -1,4 +1,4 @@
-// Notes as lines of the report: "The fields are the period, the unit, the note and its value."
+// Notes as lines of the report ("The fields are the period, the unit, the note and its value."), or as octets for a host.
 ghost use mathlib.Core.Path.{_≡_};
 ghost use Rattle.bus.specs.Bus.{notesOf};
 ghost use lib.ListN.{getD};
@@ -6,8 +6,12 @@ ghost use mathlib.Core.List.{[]};
 ghost use Rattle.cells.specs.Names.{printedAs};
 ghost use Rattle.cells.specs.Notes.{noted};
 ghost use Rattle.note_text.specs.Room.{Put};
-ghost use Rattle.note_text.specs.NoteText.{note, named, openValue, noteLine, notesText, heading, stoppedLine};
+ghost use Rattle.note_text.specs.NoteOctets.{noteOctets};
+ghost use Rattle.note_text.specs.NoteText.{note, named, openValue, noteLine, noteIn, notesIn, heading, stoppedLine};
+use super::form::Form;
 use super::hex::put_hex;
+use super::low::put_half;
+use super::low::put_word;
 use super::number::put_decimal;
 use super::room::put;
 use cells::notes::HEARD;
@@ -77,14 +81,7 @@ fn put_value(room: &mut [u8], wrote: usize, code: u8, value: &[u8]) -> usize
 }
 
 // The line of a note.
-pub fn put_note(
-    room: &mut [u8],
-    wrote: usize,
-    period: u64,
-    unit: u32,
-    code: u8,
-    value: &[u8],
-) -> usize
+fn put_line(room: &mut [u8], wrote: usize, period: u64, unit: u32, code: u8, value: &[u8]) -> usize
     ensures { λ r. ⌜ Put (now (room .entry)) wrote (noteLine (note period unit code (now (value .entry)))) r (now (room .exit)) ⌝ }
 {
     let a = put_decimal(room, wrote, period);
@@ -95,23 +92,73 @@ pub fn put_note(
     put(room, e, b"\n")
 }
 
-// The line of a note whose value its code decides.
-pub fn put_plain(room: &mut [u8], wrote: usize, period: u64, unit: u32, code: u8) -> usize
-    ensures { λ r. ⌜ Put (now (room .entry)) wrote (noteLine (note period unit code [])) r (now (room .exit)) ⌝ }
+// The octets of a note: its code, its unit, how many octets its value has, its period and its value. A number that needs more octets than
+// it gets loses the high-order ones.
+fn put_octets(
+    room: &mut [u8],
+    wrote: usize,
+    period: u64,
+    unit: u32,
+    code: u8,
+    value: &[u8],
+) -> usize
+    ensures { λ r. ⌜ Put (now (room .entry)) wrote (noteOctets (note period unit code (now (value .entry)))) r (now (room .exit)) ⌝ }
 {
-    put_note(room, wrote, period, unit, code, b"")
+    let a = put(room, wrote, &[code, (unit % 256) as u8]);
+    let b = put_half(room, a, (value.len() % 65536) as u16);
+    let c = put_word(room, b, (period % 4294967296) as u32);
+    put(room, c, value)
 }
 
-// The lines of a unit's notes.
-pub fn put_notes(room: &mut [u8], wrote: usize, period: u64, unit: u32, notes: Notes) -> usize
-    ensures { λ r. ⌜ Put (now (room .entry)) wrote (notesText (notesOf period unit (noted notes))) r (now (room .exit)) ⌝ }
+// A note.
+pub fn put_note(
+    form: Form,
+    room: &mut [u8],
+    wrote: usize,
+    period: u64,
+    unit: u32,
+    code: u8,
+    value: &[u8],
+) -> usize
+    ensures { λ r. ⌜ Put (now (room .entry)) wrote (noteIn form (note period unit code (now (value .entry)))) r (now (room .exit)) ⌝ }
+{
+    match form {
+        Form::Line => put_line(room, wrote, period, unit, code, value),
+        Form::Octets => put_octets(room, wrote, period, unit, code, value),
+    }
+}
+
+// A note whose value its code decides.
+pub fn put_plain(
+    form: Form,
+    room: &mut [u8],
+    wrote: usize,
+    period: u64,
+    unit: u32,
+    code: u8,
+) -> usize
+    ensures { λ r. ⌜ Put (now (room .entry)) wrote (noteIn form (note period unit code [])) r (now (room .exit)) ⌝ }
+{
+    put_note(form, room, wrote, period, unit, code, b"")
+}
+
+// A unit's notes.
+pub fn put_notes(
+    form: Form,
+    room: &mut [u8],
+    wrote: usize,
+    period: u64,
+    unit: u32,
+    notes: Notes,
+) -> usize
+    ensures { λ r. ⌜ Put (now (room .entry)) wrote (notesIn form (notesOf period unit (noted notes))) r (now (room .exit)) ⌝ }
 {
     let codes = [notes.1, notes.2, notes.3, notes.4];
     let count = least(notes.0 as usize, 4);
     let mut at = least(wrote, room.len());
     let mut i: usize = 0;
     while i < count {
-        at = put_plain(room, at, period, unit, codes[i]);
+        at = put_plain(form, room, at, period, unit, codes[i]);
         i += 1;
     }
     at

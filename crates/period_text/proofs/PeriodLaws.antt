@@ -14,11 +14,12 @@ use Rattle.cells.specs.Notes.{noted}
 use Rattle.bus.specs.Bus.{Note, terminals, notesOf}
 use Rattle.listening.specs.declared.hears.UnitNotes.{UnitNotes}
 use Rattle.bus_record.specs.declared.side.Ran.{Ran}
-use Rattle.bus_calls.specs.Lists.{readerTold, doneNotes, terminalsTold, timersTold, periodTold}
+use Rattle.call_rules.specs.Lists.{readerTold, doneNotes, terminalsTold, timersTold, periodTold}
 use Rattle.note_text.specs.Room.{Put}
-use Rattle.note_text.specs.NoteText.{notesText}
+use Rattle.note_text.specs.NoteText.{notesIn}
+use Rattle.note_text.specs.declared.form.Form.{Form}
 use Rattle.note_text.proofs.RoomLaws.{put-put, put-start, put-length}
-use Rattle.note_text.proofs.NoteLaws.{text-append, notes-text-append}
+use Rattle.note_text.proofs.NoteLaws.{form-append, codes-append}
 
 -- The notes of one terminal's hearing.
 abbrev pub heardOf : ℕ → Ran → ℕ → UnitNotes → List Note
@@ -51,38 +52,38 @@ timers-more now i (m ∷ ns) n =
 place-is : (ns : List UnitNotes) (i : ℕ) → i < length ns → 0 + length (take i ns) ≡ i
 place-is ns i h = rw (length-take-le i ns (omega arith)) (omega arith)
 
-terminals-next : (now : ℕ) (r : Ran) (ns : List UnitNotes) (i : ℕ) (d : UnitNotes) → i < length ns
-    → notesText (terminalsTold now r 0 (take (i + 1) ns)) ≡ notesText (terminalsTold now r 0 (take i ns)) ++ notesText (heardOf now r i (getD ns i d))
-terminals-next now r ns i d h =
+terminals-next : (form : Form) (now : ℕ) (r : Ran) (ns : List UnitNotes) (i : ℕ) (d : UnitNotes) → i < length ns
+    → notesIn form (terminalsTold now r 0 (take (i + 1) ns)) ≡ notesIn form (terminalsTold now r 0 (take i ns)) ++ notesIn form (heardOf now r i (getD ns i d))
+terminals-next form now r ns i d h =
     rw (add-one i, take-suc ns i d h, terminals-more now r 0 (take i ns) (getD ns i d), place-is ns i h)
-    (text-append (terminalsTold now r 0 (take i ns)) (heardOf now r i (getD ns i d)))
+    (form-append form (terminalsTold now r 0 (take i ns)) (heardOf now r i (getD ns i d)))
 
-timers-next : (now : ℕ) (ns : List UnitNotes) (i : ℕ) (d : UnitNotes) → i < length ns
-    → notesText (timersTold now 0 (take (i + 1) ns))
-    ≡ notesText (timersTold now 0 (take i ns)) ++ notesText (notesOf now (i + 1) (noted (getD ns i d .timed)))
-timers-next now ns i d h =
+timers-next : (form : Form) (now : ℕ) (ns : List UnitNotes) (i : ℕ) (d : UnitNotes) → i < length ns
+    → notesIn form (timersTold now 0 (take (i + 1) ns))
+    ≡ notesIn form (timersTold now 0 (take i ns)) ++ notesIn form (notesOf now (i + 1) (noted (getD ns i d .timed)))
+timers-next form now ns i d h =
     rw (add-one i, take-suc ns i d h, timers-more now 0 (take i ns) (getD ns i d), place-is ns i h)
-    (text-append (timersTold now 0 (take i ns)) (notesOf now (suc i) (noted (getD ns i d .timed))))
+    (form-append form (timersTold now 0 (take i ns)) (notesOf now (suc i) (noted (getD ns i d .timed))))
 
 -- ---- One terminal's hearing: the notes of completed frames, then the others.
-pub done-first : {room : List ℕ} {wrote r₁ : ℕ} {room₁ : List ℕ} {r₂ : ℕ} {room₂ : List ℕ} (now unit : ℕ) (one two : Bool) (done others : List ℕ)
-    → done ≡ doneNotes one two → Put room wrote (notesText (notesOf now unit done)) r₁ room₁ → Put room₁ r₁ (notesText (notesOf now unit others)) r₂ room₂
-    → Put room wrote (notesText (notesOf now unit (doneNotes one two ++ others))) r₂ room₂
-done-first now unit one two done others e p q = rw (← e, notes-text-append now unit done others) (put-put p q)
+pub done-first : {room : List ℕ} {wrote r₁ : ℕ} {room₁ : List ℕ} {r₂ : ℕ} {room₂ : List ℕ} (form : Form) (now unit : ℕ) (one two : Bool) (done others : List ℕ)
+    → done ≡ doneNotes one two → Put room wrote (notesIn form (notesOf now unit done)) r₁ room₁ → Put room₁ r₁ (notesIn form (notesOf now unit others)) r₂ room₂
+    → Put room wrote (notesIn form (notesOf now unit (doneNotes one two ++ others))) r₂ room₂
+done-first form now unit one two done others e p q = rw (← e, codes-append form now unit done others) (put-put p q)
 
 -- ---- Where the loop of `put_hearing` stands: the notes of i terminals are put, and so many bits are gone from the octets of completed frames.
-pub record Hearing (room₀ : List ℕ) (wrote now : ℕ) (ns : List UnitNotes) (done1 done2 : ℕ) (room : List ℕ) (first second at i : ℕ) : Type 0 where
+pub record Hearing (form : Form) (room₀ : List ℕ) (wrote now : ℕ) (ns : List UnitNotes) (done1 done2 : ℕ) (room : List ℕ) (first second at i : ℕ) : Type 0 where
   pub long : length ns ≡ terminals
   pub within : i ≤ terminals
   pub first-is : first ≡ done1 / (2 ^ i)
   pub second-is : second ≡ done2 / (2 ^ i)
   pub kept : length room ≡ length room₀
-  pub put-are : (r : Ran) → r .done1 ≡ done1 → r .done2 ≡ done2 → Put room₀ wrote (notesText (terminalsTold now r 0 (take i ns))) at room
+  pub put-are : (r : Ran) → r .done1 ≡ done1 → r .done2 ≡ done2 → Put room₀ wrote (notesIn form (terminalsTold now r 0 (take i ns))) at room
 
-pub hearing-starts : (room : List ℕ) (wrote now : ℕ) (ns : List UnitNotes) (done1 done2 at : ℕ) → length ns ≡ terminals → at ≡ min wrote (length room)
-    → Hearing room wrote now ns done1 done2 room done1 done2 at 0
-unfolding terminalsTold notesText
-hearing-starts room wrote now ns done1 done2 at long h =
+pub hearing-starts : (form : Form) (room : List ℕ) (wrote now : ℕ) (ns : List UnitNotes) (done1 done2 at : ℕ) → length ns ≡ terminals → at ≡ min wrote (length room)
+    → Hearing form room wrote now ns done1 done2 room done1 done2 at 0
+unfolding terminalsTold notesIn
+hearing-starts form room wrote now ns done1 done2 at long h =
     record {
       long = long;
       within = omega arith;
@@ -95,12 +96,12 @@ hearing-starts room wrote now ns done1 done2 at long h =
 half-again : (d i : ℕ) → d / (2 ^ i) / 2 ≡ d / (2 ^ (i + 1))
 half-again d i = rw (div-div-eq-div-mul d (2 ^ i) 2, add-one i, pow-succ' 2 i, mul-comm (2 ^ i) 2)
 
-module _ {room₀ : List ℕ} {wrote now : ℕ} {ns : List UnitNotes} {done1 done2 : ℕ} {room : List ℕ} {first second at i : ℕ}
-    (l : Hearing room₀ wrote now ns done1 done2 room first second at i) where
+module _ {form : Form} {room₀ : List ℕ} {wrote now : ℕ} {ns : List UnitNotes} {done1 done2 : ℕ} {room : List ℕ} {first second at i : ℕ}
+    (l : Hearing form room₀ wrote now ns done1 done2 room first second at i) where
   pub hearing-next : (d : UnitNotes) {room′ : List ℕ} {at′ : ℕ} → i < terminals
       → Put room at
-      (notesText (notesOf now (i + 1) (doneNotes (eqb (first % 2) 1) (eqb (second % 2) 1) ++ noted (getD ns i d .heard)))) at′ room′
-      → Hearing room₀ wrote now ns done1 done2 room′ (first / 2) (second / 2) at′ (i + 1)
+      (notesIn form (notesOf now (i + 1) (doneNotes (eqb (first % 2) 1) (eqb (second % 2) 1) ++ noted (getD ns i d .heard)))) at′ room′
+      → Hearing form room₀ wrote now ns done1 done2 room′ (first / 2) (second / 2) at′ (i + 1)
   unfolding bitOf
   hearing-next d {room′} {at′} h q =
       let long = l .long in
@@ -111,42 +112,42 @@ module _ {room₀ : List ℕ} {wrote now : ℕ} {ns : List UnitNotes} {done1 don
         second-is = rw (l .second-is) (half-again done2 i);
         kept = put-length q ∙ l .kept;
         put-are = λ r e f.
-            let q′ : Put room at (notesText (heardOf now r i (getD ns i d))) at′ room′ = rw (e, f, ← l .first-is, ← l .second-is, ← add-one i) q in
-            rw (terminals-next now r ns i d (omega arith)) (put-put (l .put-are r e f) q′);
+            let q′ : Put room at (notesIn form (heardOf now r i (getD ns i d))) at′ room′ = rw (e, f, ← l .first-is, ← l .second-is, ← add-one i) q in
+            rw (terminals-next form now r ns i d (omega arith)) (put-put (l .put-are r e f) q′);
       }
 
   pub hearing-ends : (r : Ran) → r .done1 ≡ done1 → r .done2 ≡ done2 → terminals ≤ i
-      → Put room₀ wrote (notesText (terminalsTold now r 0 ns)) at room
+      → Put room₀ wrote (notesIn form (terminalsTold now r 0 ns)) at room
   hearing-ends r e f h = let long = l .long in rw (take-all i ns (omega arith)) at (l .put-are r e f)
 
 -- ---- The same of `put_timers`.
-pub record Timing (room₀ : List ℕ) (wrote now : ℕ) (ns : List UnitNotes) (room : List ℕ) (at i : ℕ) : Type 0 where
+pub record Timing (form : Form) (room₀ : List ℕ) (wrote now : ℕ) (ns : List UnitNotes) (room : List ℕ) (at i : ℕ) : Type 0 where
   pub long : length ns ≡ terminals
   pub within : i ≤ terminals
-  pub put-are : Put room₀ wrote (notesText (timersTold now 0 (take i ns))) at room
+  pub put-are : Put room₀ wrote (notesIn form (timersTold now 0 (take i ns))) at room
 
-pub timing-starts : (room : List ℕ) (wrote now : ℕ) (ns : List UnitNotes) (at : ℕ) → length ns ≡ terminals → at ≡ min wrote (length room)
-    → Timing room wrote now ns room at 0
-unfolding timersTold notesText
-timing-starts room wrote now ns at long h = record { long = long; within = omega arith; put-are = put-start room wrote h }
+pub timing-starts : (form : Form) (room : List ℕ) (wrote now : ℕ) (ns : List UnitNotes) (at : ℕ) → length ns ≡ terminals → at ≡ min wrote (length room)
+    → Timing form room wrote now ns room at 0
+unfolding timersTold notesIn
+timing-starts form room wrote now ns at long h = record { long = long; within = omega arith; put-are = put-start room wrote h }
 
-module _ {room₀ : List ℕ} {wrote now : ℕ} {ns : List UnitNotes} {room : List ℕ} {at i : ℕ} (l : Timing room₀ wrote now ns room at i) where
+module _ {form : Form} {room₀ : List ℕ} {wrote now : ℕ} {ns : List UnitNotes} {room : List ℕ} {at i : ℕ} (l : Timing form room₀ wrote now ns room at i) where
   pub timing-next : (d : UnitNotes) {room′ : List ℕ} {at′ : ℕ} → i < terminals
-      → Put room at (notesText (notesOf now (i + 1) (noted (getD ns i d .timed)))) at′ room′ → Timing room₀ wrote now ns room′ at′ (i + 1)
+      → Put room at (notesIn form (notesOf now (i + 1) (noted (getD ns i d .timed)))) at′ room′ → Timing form room₀ wrote now ns room′ at′ (i + 1)
   timing-next d h q =
       let long = l .long in
-      record { long = long; within = omega arith; put-are = rw (timers-next now ns i d (omega arith)) (put-put (l .put-are) q) }
+      record { long = long; within = omega arith; put-are = rw (timers-next form now ns i d (omega arith)) (put-put (l .put-are) q) }
 
-  pub timing-ends : terminals ≤ i → Put room₀ wrote (notesText (timersTold now 0 ns)) at room
+  pub timing-ends : terminals ≤ i → Put room₀ wrote (notesIn form (timersTold now 0 ns)) at room
   timing-ends h = let long = l .long in rw (take-all i ns (omega arith)) at (l .put-are)
 
 -- ---- The parts of a period's notes, one behind the other.
-pub period-parts : (now : ℕ) (r : Ran) (ns : List UnitNotes) (octets : List ℕ)
-    → notesText (readerTold now r octets)
-    ++ (notesText (notesOf now 0 (noted (r .network .heard)))
-    ++ (notesText (terminalsTold now r 0 ns)
-    ++ (notesText (notesOf (now + 1) 0 (noted (r .network .timed))) ++ notesText (timersTold (now + 1) 0 ns))))
-    ≡ notesText (periodTold now r ns octets)
+pub period-parts : (form : Form) (now : ℕ) (r : Ran) (ns : List UnitNotes) (octets : List ℕ)
+    → notesIn form (readerTold now r octets)
+    ++ (notesIn form (notesOf now 0 (noted (r .network .heard)))
+    ++ (notesIn form (terminalsTold now r 0 ns)
+    ++ (notesIn form (notesOf (now + 1) 0 (noted (r .network .timed))) ++ notesIn form (timersTold (now + 1) 0 ns))))
+    ≡ notesIn form (periodTold now r ns octets)
 unfolding periodTold
-period-parts now r ns octets =
-    simp (← text-append, ← append-assoc)
+period-parts form now r ns octets =
+    simp (← form-append, ← append-assoc)

@@ -1,2 +1,2 @@
--- The text of a period's notes and of an event's, and the room that it takes.
+-- The notes of a period and of an event, and the room that they take as text and as octets.
 pub mod PeriodText

@@ -1,4 +1,4 @@
--- The notes of a call on the bus as text, and the most octets that they take (document 01, "Bench book and report").
+-- The notes of a call on the bus as text (document 01, "Bench book and report"), and the most octets that they take, as text and as octets.
 use mathlib.Core.Bool.{cond}
 use mathlib.Core.List.{List, [], _∷_}
 use mathlib.Core.Path.{_≡_}
@@ -11,9 +11,10 @@ use Rattle.hdlc.specs.Image.{longestBody}
 use Rattle.bus.specs.Bus.{Note, terminals, notesOf}
 use Rattle.listening.specs.declared.hears.UnitNotes.{UnitNotes}
 use Rattle.bus_record.specs.declared.side.Ran.{Ran}
-use Rattle.bus_calls.specs.Lists.{periodTold}
-use Rattle.note_text.specs.NoteText.{note, notesText}
-use Rattle.note_text.specs.Lengths.{numbers, lineRoom, heardRoom}
+use Rattle.call_rules.specs.Lists.{periodTold}
+use Rattle.note_text.specs.NoteText.{note, notesIn, notesText}
+use Rattle.note_text.specs.Lengths.{numbers, lineRoom, heardRoom, octetsRoom}
+use Rattle.note_text.specs.declared.form.Form.the-variants.{Octets}
 
 -- The notes of an event: those that the call hands back; "In a book, 3 to 8 become the note `refused` with the line's unit."
 unfoldable pub eventNoted : ℕ → ℕ → Notes → ℕ → List Note
@@ -37,3 +38,15 @@ abbrev pub EventFits : Type 0
 EventFits =
     (period unit : ℕ) (notes : Notes) (reply : ℕ)
     → period < numbers → unit < numbers → reply < numbers → length (notesText (eventNoted period unit notes reply)) ≤ periodRoom
+
+-- ---- The same as octets, where a refusal is the call's reply and no note.
+abbrev pub periodOctetsRoom : ℕ
+periodOctetsRoom = (octetsRoom + longestBody) + (8 + terminals * 10) * octetsRoom
+
+abbrev pub PeriodOctetsFit : Type 0
+PeriodOctetsFit =
+    (now : ℕ) (r : Ran) (ns : List UnitNotes) (octets : List ℕ)
+    → length ns ≡ terminals → length octets ≤ longestBody → length (notesIn Octets (periodTold now r ns octets)) ≤ periodOctetsRoom
+
+abbrev pub EventOctetsFit : Type 0
+EventOctetsFit = (period unit : ℕ) (notes : Notes) → length (notesIn Octets (notesOf period unit (noted notes))) ≤ 4 * octetsRoom

@@ -1,9 +1,10 @@
-// The notes of an event.
+// The notes of an event as lines of the report.
 ghost use Rattle.note_text.specs.Room.{Put};
 ghost use Rattle.note_text.specs.NoteText.{notesText};
 ghost use Rattle.period_text.specs.PeriodText.{eventNoted};
 use cells::notes::Notes;
 use cells::notes::REFUSED;
+use note_text::form::Form;
 use note_text::note::put_note;
 use note_text::note::put_notes;
 
@@ -19,7 +20,15 @@ pub fn put_event(
     ensures { λ r. ⌜ Put (now (room .entry)) wrote (notesText (eventNoted period unit notes reply)) r (now (room .exit)) ⌝ }
 {
     if reply == 0 {
-        return put_notes(room, wrote, period as u64, unit, notes);
+        return put_notes(Form::Line, room, wrote, period as u64, unit, notes);
     }
-    put_note(room, wrote, period as u64, unit, REFUSED, &[reply])
+    put_note(
+        Form::Line,
+        room,
+        wrote,
+        period as u64,
+        unit,
+        REFUSED,
+        &[reply],
+    )
 }

@@ -1,3 +1,3 @@
-// The notes of a call on the bus as lines of the report, in lent room (document 01, "Bench book and report").
+// The notes of a call on the bus in lent room, as lines of the report (document 01, "Bench book and report") or as octets.
 pub mod event;
 pub mod period;

@@ -2,11 +2,11 @@
 ghost use mathlib.Core.Path.{_≡_};
 ghost use mathlib.Core.List.{_++_};
 ghost use Rattle.bus.specs.Bus.{notesOf};
-ghost use Rattle.bus_calls.specs.Lists.{readerTold, doneNotes, terminalsTold, timersTold, periodTold};
+ghost use Rattle.call_rules.specs.Lists.{readerTold, doneNotes, terminalsTold, timersTold, periodTold};
 ghost use Rattle.bus_record.specs.declared.side.Ran.{Ran};
 ghost use Rattle.cells.specs.Notes.{noted};
 ghost use Rattle.note_text.specs.Room.{Put};
-ghost use Rattle.note_text.specs.NoteText.{notesText};
+ghost use Rattle.note_text.specs.NoteText.{notesIn};
 use bus_record::side::Ran;
 use cells::cell::NO_NOTES;
 use cells::notes::DONE1;
@@ -14,6 +14,7 @@ use cells::notes::DONE2;
 use cells::notes::HEARD;
 use cells::notes::Notes;
 use listening::hears::UnitNotes;
+use note_text::form::Form;
 use note_text::note::put_note;
 use note_text::note::put_notes;
 use note_text::note::put_plain;
@@ -22,6 +23,7 @@ use text::length::least;
 
 // The reader's note: `heard` with the octets of the body, or `torn`.
 fn put_reader(
+    form: Form,
     room: &mut [u8],
     wrote: usize,
     period: u64,
@@ -30,16 +32,16 @@ fn put_reader(
     octets: &[u8],
 ) -> usize
     ensures { λ r. ⌜ ((ran : Ran) → ran .said ≡ said → ran .body ≡ body
-        → Put (now (room .entry)) wrote (notesText (readerTold period ran (now (octets .entry)))) r (now (room .exit))) ⌝ }
+        → Put (now (room .entry)) wrote (notesIn form (readerTold period ran (now (octets .entry)))) r (now (room .exit))) ⌝ }
 {
     if said == 0 {
         return put(room, wrote, b"");
     }
     if said == HEARD {
         let count = least(body as usize, octets.len());
-        return put_note(room, wrote, period, 0, HEARD, &octets[..count]);
+        return put_note(form, room, wrote, period, 0, HEARD, &octets[..count]);
     }
-    put_plain(room, wrote, period, 0, said)
+    put_plain(form, room, wrote, period, 0, said)
 }
 
 // The notes of completed frames.
@@ -60,6 +62,7 @@ fn done_notes(done1: bool, done2: bool) -> Notes
 
 // The notes of a terminal's hearing: those of completed frames come first.
 fn put_heard(
+    form: Form,
     room: &mut [u8],
     wrote: usize,
     period: u64,
@@ -68,15 +71,16 @@ fn put_heard(
     done2: bool,
     notes: Notes,
 ) -> usize
-    ensures { λ r. ⌜ Put (now (room .entry)) wrote (notesText (notesOf period unit (doneNotes done1 done2 ++ noted notes))) r (now (room .exit)) ⌝ }
+    ensures { λ r. ⌜ Put (now (room .entry)) wrote (notesIn form (notesOf period unit (doneNotes done1 done2 ++ noted notes))) r (now (room .exit)) ⌝ }
 {
     let done = done_notes(done1, done2);
-    let a = put_notes(room, wrote, period, unit, done);
-    put_notes(room, a, period, unit, notes)
+    let a = put_notes(form, room, wrote, period, unit, done);
+    put_notes(form, room, a, period, unit, notes)
 }
 
 // The notes of the terminals' hearing.
 fn put_hearing(
+    form: Form,
     room: &mut [u8],
     wrote: usize,
     period: u64,
@@ -85,7 +89,7 @@ fn put_hearing(
     notes: [UnitNotes; 8],
 ) -> usize
     ensures { λ r. ⌜ ((ran : Ran) → ran .done1 ≡ done1 → ran .done2 ≡ done2
-        → Put (now (room .entry)) wrote (notesText (terminalsTold period ran 0 notes)) r (now (room .exit))) ⌝ }
+        → Put (now (room .entry)) wrote (notesIn form (terminalsTold period ran 0 notes)) r (now (room .exit))) ⌝ }
 {
     let mut first = done1;
     let mut second = done2;
@@ -94,6 +98,7 @@ fn put_hearing(
     while i < 8 {
         let n = notes[i];
         at = put_heard(
+            form,
             room,
             at,
             period,
@@ -110,14 +115,20 @@ fn put_hearing(
 }
 
 // The notes of the terminals' timers.
-fn put_timers(room: &mut [u8], wrote: usize, period: u64, notes: [UnitNotes; 8]) -> usize
-    ensures { λ r. ⌜ Put (now (room .entry)) wrote (notesText (timersTold period 0 notes)) r (now (room .exit)) ⌝ }
+fn put_timers(
+    form: Form,
+    room: &mut [u8],
+    wrote: usize,
+    period: u64,
+    notes: [UnitNotes; 8],
+) -> usize
+    ensures { λ r. ⌜ Put (now (room .entry)) wrote (notesIn form (timersTold period 0 notes)) r (now (room .exit)) ⌝ }
 {
     let mut at = least(wrote, room.len());
     let mut i: usize = 0;
     while i < 8 {
         let n = notes[i];
-        at = put_notes(room, at, period, i as u32 + 1, n.timed);
+        at = put_notes(form, room, at, period, i as u32 + 1, n.timed);
         i += 1;
     }
     at
@@ -125,6 +136,7 @@ fn put_timers(room: &mut [u8], wrote: usize, period: u64, notes: [UnitNotes; 8])
 
 // The notes of a period: the reader's, unit 0's, the terminals', and then those of timers due at the next one's start.
 pub fn put_period(
+    form: Form,
     room: &mut [u8],
     wrote: usize,
     period: u32,
@@ -132,14 +144,14 @@ pub fn put_period(
     notes: [UnitNotes; 8],
     octets: &[u8],
 ) -> usize
-    ensures { λ r. ⌜ Put (now (room .entry)) wrote (notesText (periodTold period ran notes (now (octets .entry)))) r (now (room .exit)) ⌝ }
+    ensures { λ r. ⌜ Put (now (room .entry)) wrote (notesIn form (periodTold period ran notes (now (octets .entry)))) r (now (room .exit)) ⌝ }
 {
     let this = period as u64;
     let next = this + 1;
     let network = ran.network;
-    let a = put_reader(room, wrote, this, ran.said, ran.body, octets);
-    let b = put_notes(room, a, this, 0, network.heard);
-    let c = put_hearing(room, b, this, ran.done1, ran.done2, notes);
-    let d = put_notes(room, c, next, 0, network.timed);
-    put_timers(room, d, next, notes)
+    let a = put_reader(form, room, wrote, this, ran.said, ran.body, octets);
+    let b = put_notes(form, room, a, this, 0, network.heard);
+    let c = put_hearing(form, room, b, this, ran.done1, ran.done2, notes);
+    let d = put_notes(form, room, c, next, 0, network.timed);
+    put_timers(form, room, d, next, notes)
 }

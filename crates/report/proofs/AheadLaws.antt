@@ -19,12 +19,13 @@ use Rattle.bus.specs.Event.{HIT}
 use Rattle.bus.specs.Calls.{Call}
 use Rattle.bus.specs.Calls.Call.{event, period}
 use Rattle.bus_event.specs.Event as parts
-use Rattle.bus_calls.specs.Kept.{Kept}
-use Rattle.bus_calls.specs.Event.{reason, eventTold}
-use Rattle.bus_calls.specs.Lists as lists
-use Rattle.bus_calls.specs.Lists.{called}
-use Rattle.note_text.specs.NoteText.{heading, notesText, stoppedLine}
-use Rattle.note_text.proofs.NoteLaws.{text-append}
+use Rattle.call_rules.specs.Kept.{Kept}
+use Rattle.call_rules.specs.Event.{reason, eventTold}
+use Rattle.call_rules.specs.Lists as lists
+use Rattle.call_rules.specs.Lists.{called}
+use Rattle.note_text.specs.NoteText.{heading, notesIn, notesText, stoppedLine}
+use Rattle.note_text.specs.declared.form.Form.the-variants.{Line}
+use Rattle.note_text.proofs.NoteLaws.{form-append}
 use Rattle.report.specs.Report.{callAt, callsOf, stopOf}
 use Rattle.report.specs.Told.{settled, done, doneAll, bookTold, allBookTold}
 use Rattle.report.specs.Ahead.{Stand, answersAhead, callsAhead, textAhead}
@@ -99,7 +100,7 @@ module _ (s s′ : Stand) (left left′ : List ℕ) (made : List Call) (w : Unde
         calls-are = calls-on s left w ∙ (c ∙ ap (λ (l : List Call). made ++ l) (sym (calls-on s′ left′ w′)));
         text-is =
             text-on s left w
-            ∙ (rw (c, e, told-append (s .kept) made rest, ← k, text-append told (allBookTold (s′ .kept) rest))
+            ∙ (rw (c, e, told-append (s .kept) made rest, ← k, form-append Line told (allBookTold (s′ .kept) rest))
             (append-assoc (notesText told) (notesText (allBookTold (s′ .kept) rest)) (stopOf (answersAhead s′ left′)))
             ∙ ap (λ (l : List ℕ). notesText told ++ l) (sym (text-on s′ left′ w′)));
       }
@@ -123,7 +124,7 @@ place-is s left p g r = rw (g, r)
 quiet : (s s′ : Stand) (left left′ : List ℕ) → UnderWay s → UnderWay s′ → s′ .kept ≡ s .kept
     → callsOf (run s) (answersAhead s left) ≡ callsOf (run s′) (answersAhead s′ left′)
     → stopOf (answersAhead s left) ≡ stopOf (answersAhead s′ left′) → Moves s left [] [] s′ left′
-unfolding doneAll allBookTold notesText
+unfolding doneAll allBookTold notesIn
 quiet s s′ left left′ w w′ k c e = goes-on s s′ left left′ [] w w′ k c e
 
 -- The book's first line is taken.
@@ -198,7 +199,7 @@ event-ahead s s′ left left′ at unit number value w w′ k g r t e =
 -- ---- The book ends: with the line `stopped`, or with nothing.
 module _ (s s′ : Stand) (left left′ : List ℕ) (w : UnderWay s) (o : s′ .over ≡ true) (k : s′ .kept ≡ s .kept) where
   pub fault-ahead : (number : ℕ) (more : List Answer) → answersAhead s left ≡ fault number ∷ more → Moves s left [] (stoppedLine number) s′ left′
-  unfolding doneAll callsOf stopOf allBookTold notesText
+  unfolding doneAll callsOf stopOf allBookTold notesIn
   fault-ahead number more e =
       record {
         kept-is = k;
@@ -207,7 +208,7 @@ module _ (s s′ : Stand) (left left′ : List ℕ) (w : UnderWay s) (o : s′ .
       }
 
   pub done-ahead : answersAhead s left ≡ [] → Moves s left [] [] s′ left′
-  unfolding doneAll callsOf stopOf allBookTold notesText
+  unfolding doneAll callsOf stopOf allBookTold notesIn
   done-ahead e =
       record {
         kept-is = k;

@@ -30,7 +30,7 @@ use Rattle.bus.specs.Ranges.{runs, periodsRun}
 use Rattle.bus.proofs.Refusals.{period-not-refused}
 use Rattle.bus.proofs.Ranges.{periods-counted}
 use Rattle.bus.proofs.Demand3.{demand3}
-use Rattle.bus_calls.specs.Lists.{OctetValues}
+use Rattle.call_rules.specs.Lists.{OctetValues}
 use Rattle.report.specs.Report.{callAt, callsOf, bookCalls}
 use Rattle.report.specs.Laws.{RunsToLine, InBook, AllInBook, BooksRefused, NoneLate, BooksInTime, BooksOctets, BookCalls}
 

@@ -27,7 +27,7 @@ reported told = text ("period unit note value" ∷ told)
 
 -- whatever says `unfolding computed` computes reports
 unfoldable computed : List ℕ → List ℕ
-unfolding scenes.report printed printedAs note.decimalIn note.decimal note.hexCode note.hexOf note.noteLine note.notesText note.heading note.stoppedLine onto split all onward eventNamed isEnd isNumber isAbsent isBody isHit valueFits formed inOrder hexDigit pairs bodyOf letterCode valueOctets nothing closing lines answersFrom callAt callsOf bookCalls refusedNotes bookNotes allBookNotes stopOf report
+unfolding scenes.report printed printedAs note.decimalIn note.decimal note.hexCode note.hexOf note.noteLine note.notesIn note.heading note.stoppedLine onto split all onward eventNamed isEnd isNumber isAbsent isBody isHit valueFits formed inOrder hexDigit pairs bodyOf letterCode valueOctets nothing closing lines answersFrom callAt callsOf bookCalls refusedNotes bookNotes allBookNotes stopOf report
 computed octets = report octets
 
 pub the-example :

@@ -7,9 +7,9 @@ use lib.Dec.{eqb}
 use lib.ListN.{length}
 use Rattle.cases.proofs.ByCases.{by-test}
 use Rattle.bus.specs.Calls.Call.{event}
-use Rattle.bus_calls.specs.Kept.{Kept}
-use Rattle.bus_calls.specs.Lists.{told, replied, notesTold}
-use Rattle.bus_calls.proofs.Refused.{replies-listed}
+use Rattle.call_rules.specs.Kept.{Kept}
+use Rattle.call_rules.specs.Lists.{told, replied, notesTold}
+use Rattle.call_rules.proofs.Refused.{replies-listed}
 use Rattle.note_text.specs.NoteText.{notesText}
 use Rattle.note_text.specs.Lengths.{numbers}
 use Rattle.period_text.specs.PeriodText.{eventNoted, periodRoom}

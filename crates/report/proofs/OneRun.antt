@@ -18,20 +18,20 @@ use Rattle.reader.specs.declared.ReaderAnswer.the-variants.{Nothing, Heard, Tor
 use Rattle.reader.proofs.AnswerLaws.{heard-call}
 use Rattle.bus.specs.Bus.{Note}
 use Rattle.bus.specs.Period.{heardBy, timed, periodRun}
-use Rattle.bus.specs.Calls.{Call}
 use Rattle.bus.specs.Calls.Call.{period}
 use Rattle.bus_record.specs.NetworkSide.{refusedRun}
 use Rattle.listening.specs.declared.hears.UnitNotes.{UnitNotes}
 use Rattle.bus_record.specs.declared.side.Ran.{Ran}
-use Rattle.bus_calls.specs.Kept.{Kept}
-use Rattle.bus_calls.specs.Shown.{busIn}
-use Rattle.bus_calls.specs.Period.{dRead, readerRun, octetsRun, bodyOf, answersIn, hasNotes, periodRan, keptRun}
-use Rattle.bus_calls.specs.Ready.{runReply, goesOn}
-use Rattle.bus_calls.specs.Run.{ranOn, notYet, ran, keptAfter}
-use Rattle.bus_calls.specs.Lists.{called, replied, notesTold, periodTold, allTold, callsIn, calledAll, runTold, readerTold}
-use Rattle.bus_calls.proofs.InOrder.{InOrder, in-order, order-reply}
-use Rattle.bus_calls.proofs.RunSingle.{goes-facts, first-ran, first-kept, period-single, run-single}
-use Rattle.bus_calls.proofs.QuietRuns.{runs-are-calls}
+use Rattle.call_rules.specs.Kept.{Kept}
+use Rattle.call_rules.specs.Shown.{busIn}
+use Rattle.call_rules.specs.Period.{dRead, readerRun, octetsRun, bodyOf, answersIn, hasNotes, periodRan, keptRun}
+use Rattle.call_rules.specs.Ready.{runReply, goesOn}
+use Rattle.call_rules.specs.Run.{ranOn, notYet, ran, keptAfter}
+use Rattle.call_rules.specs.Lists.{called, replied, notesTold, periodTold, allTold, callsIn, runTold, readerTold}
+use Rattle.call_rules.proofs.InOrder.{InOrder, in-order, order-reply}
+use Rattle.call_rules.proofs.RunSingle.{goes-facts, first-ran, first-kept, period-single, run-single}
+use Rattle.call_rules.proofs.QuietRuns.{runs-are-calls}
+use Rattle.call_rules.proofs.RunLeft.{run-left, run-bus}
 use Rattle.period_text.proofs.Room.{period-fits}
 use Rattle.report.specs.Told.{settled, done, doneAll, bookTold, allBookTold, RunsOn, OneRun, RunFits}
 use Rattle.report.proofs.Order.{order-settled, order-called}
@@ -53,10 +53,6 @@ module _ (k : Kept) (o : InOrder k) (l : k .bus .periods .0 < mostPeriods) where
   one-accepted : ran 1 k .reply ≡ 0
   unfolding periodRan
   one-accepted = rw (period-single k (not-refused 0) .ran-is)
-
-  one-bus : ran 1 k .bus ≡ keptAfter 1 k .bus
-  unfolding keptRun
-  one-bus = rw (period-single k (not-refused 0) .ran-is, period-single k (not-refused 0) .kept-is)
 
   one-more : ran 1 k .bus .periods .0 ≡ k .bus .periods .0 + 1
   unfolding periodRan periodRun timed heardBy busIn
@@ -81,7 +77,7 @@ module _ (k : Kept) (o : InOrder k) (l : k .bus .periods .0 < mostPeriods) where
         some = omega arith;
         within = omega arith;
         accepted = rw (s .ran-is, g) one-accepted;
-        same-bus = rw (s .ran-is, s .kept-is, g) one-bus;
+        same-bus = rw (s .ran-is, s .kept-is, g) (run-bus 1 k);
         left = rw (s .kept-is, g);
         run = rw (s .ran-is, g) one-more;
         tells =
@@ -118,7 +114,7 @@ module _ (n : ℕ) (k : Kept) (o : InOrder k) (l : k .bus .periods .0 + 1 < most
   next-order = order-called k period o
 
   next-periods : next .bus .periods .0 ≡ k .bus .periods .0 + 1
-  next-periods = rw (sym (one-bus k o first)) (one-more k o first)
+  next-periods = rw (sym (run-bus 1 k)) (one-more k o first)
 
   settled-periods : settled next .bus .periods .0 ≡ k .bus .periods .0 + 1
   unfolding settled
@@ -203,14 +199,6 @@ run-body : (n : ℕ) (k : Kept) → ran n k .body ≤ longestBody
 unfolding ran notYet refusedRun
 run-body n k = ran-body n (notYet n k) k (omega arith)
 
-order-calls : (k : Kept) (calls : List Call) → InOrder k → InOrder (calledAll k calls)
-unfolding calledAll
-order-calls k [] o = o
-order-calls k (c ∷ more) o = order-calls (called k c) more (order-called k c o)
-
-run-order : (n : ℕ) (k : Kept) → InOrder k → InOrder (keptAfter (suc n) k)
-run-order n k o = rw (runs-are-calls n k .leaves) (order-calls k (callsIn (suc n) k) o)
-
 -- of the octets lent only the body's are told
 body-alone : (now : ℕ) (r : Ran) (ns : List UnitNotes) (octets : List ℕ) → periodTold now r ns octets ≡ periodTold now r ns (take (r .body) octets)
 unfolding periodTold readerTold
@@ -225,4 +213,4 @@ run-fits k (suc n) h l m =
     let few : length body ≤ longestBody = rw (length-take (ran (suc n) k .body) (keptAfter (suc n) k .octets)) (omega (arith, run-body (suc n) k)) in
     rw (body-alone last (ran (suc n) k) (keptAfter (suc n) k .notes) (keptAfter (suc n) k .octets))
     (period-fits last (ran (suc n) k) (keptAfter (suc n) k .notes) body
-    (omega (arith, r .run, r .within)) (run-order n k (in-order 0 k h) .notes-fit) few)
+    (omega (arith, r .run, r .within)) (run-left (suc n) k (in-order 0 k h) .order .notes-fit) few)

@@ -26,14 +26,14 @@ use Rattle.bus_record.specs.Record.{recordInRange}
 use Rattle.bus_event.specs.Event.{imagesRoom, areLetters, firstReason, takenOver, imagePut, frameReason, imagesWith, networkTold, terminalTold}
 use Rattle.bus_event.specs.Event as parts
 use Rattle.bus_event.proofs.Laws.{event-record-kept, event-terminal-kept}
-use Rattle.bus_calls.specs.Kept.{Kept, kept}
-use Rattle.bus_calls.specs.Ready.{eightInRange, lentFits, runReason, runReply}
-use Rattle.bus_calls.specs.Run.{notYet, keptAfter}
-use Rattle.bus_calls.specs.Event.{reason, eventTold, terminalsAfter, imagesAfter, lettersAfter}
-use Rattle.bus_calls.specs.Lists.{told, called}
-use Rattle.bus_calls.proofs.InOrder.{InOrder, in-order, one-left, order-reply, order-ranges, eight-in-range}
-use Rattle.bus_calls.proofs.ReadyKept.{order-kept}
-use Rattle.bus_calls.proofs.RunSingle.{period-single, stays, kept-ends}
+use Rattle.call_rules.specs.Kept.{Kept, kept}
+use Rattle.call_rules.specs.Ready.{eightInRange, lentFits, runReason, runReply}
+use Rattle.call_rules.specs.Run.{notYet, keptAfter}
+use Rattle.call_rules.specs.Event.{reason, eventTold, terminalsAfter, imagesAfter, lettersAfter}
+use Rattle.call_rules.specs.Lists.{told, called}
+use Rattle.call_rules.proofs.InOrder.{InOrder, in-order, one-left, order-reply, order-ranges, eight-in-range}
+use Rattle.call_rules.proofs.ReadyKept.{order-kept}
+use Rattle.call_rules.proofs.RunSingle.{period-single, stays, kept-ends}
 use Rattle.report.specs.Told.{Ready, settled, done, doneAll, StaysReady}
 
 -- ---- The images: whatever is put among them, of whatever octets, they are as many.

@@ -11,17 +11,17 @@ use Rattle.bus.specs.Calls.{Call, after, ran}
 use Rattle.bus.specs.Calls.Call.{event, period}
 use Rattle.bus_record.specs.NetworkSide.{noNotes}
 use Rattle.bus_event.specs.Event.{imagesRoom, areLetters}
-use Rattle.bus_calls.specs.Kept.{Kept}
-use Rattle.bus_calls.specs.Lists.{Carries, Same, OctetValues, called}
-use Rattle.bus_calls.proofs.Fitting.{Fit, always-fit, in-order}
-use Rattle.bus_calls.proofs.EventCarried.{Carried}
-use Rattle.bus_calls.proofs.Lists.{call-carried, lists-carried}
+use Rattle.call_rules.specs.Kept.{Kept}
+use Rattle.call_rules.specs.Lists.{Carries, Same, OctetValues, called}
+use Rattle.call_rules.proofs.Fitting.{Fit, always-fit, in-order}
+use Rattle.call_rules.proofs.EventCarried.{Carried}
+use Rattle.call_rules.proofs.Lists.{call-carried, lists-carried}
 use Rattle.report.specs.Report.{refusedNotes, bookNotes, allBookNotes}
 use Rattle.report.specs.Told.{settled, done, refusedTold, bookTold, allBookTold, freshFound, ToldRight, FreshReady}
 use Rattle.report.proofs.Order.{order-ready}
 
 -- taking the notes leaves what stands for the bus
-settled-carries : (k : Kept) (b : Bus) → Carries k b → Carries (settled k) b
+pub settled-carries : (k : Kept) (b : Bus) → Carries k b → Carries (settled k) b
 unfolding settled
 settled-carries k b c =
     record {
@@ -63,7 +63,7 @@ told-from (x ∷ more) k b fit c v =
     )
 
 -- ---- the fresh record
-fresh-carries : (images octets letters : List ℕ) → length images ≡ imagesRoom → longestBody ≤ length octets → areLetters letters ≡ true
+pub fresh-carries : (images octets letters : List ℕ) → length images ≡ imagesRoom → longestBody ≤ length octets → areLetters letters ≡ true
     → Carries (freshFound images octets letters) freshBus
 unfolding Same
 fresh-carries images octets letters i o l =

@@ -7,7 +7,7 @@ use lib.ListN.{length, take, drop}
 use Rattle.hdlc.specs.Image.{longestBody}
 use Rattle.bus.specs.Calls.{Call}
 use Rattle.bus_event.specs.Event.{imagesRoom, areLetters}
-use Rattle.bus_calls.specs.Kept.{Kept}
+use Rattle.call_rules.specs.Kept.{Kept}
 use Rattle.book_line.specs.Line.{longestLine}
 use Rattle.book_reader.specs.Book.{Answer}
 use Rattle.book_reader.specs.Step.{BEFORE-FIRST-LINE, stepAt}

@@ -9,7 +9,7 @@ use Rattle.bus.specs.Calls.{Call, reply, after, ran}
 use Rattle.bus.specs.Calls.Call.{period}
 use Rattle.bus.specs.Stretch.{Stretch}
 use Rattle.bus.specs.Claims.{Claimed}
-use Rattle.bus_calls.specs.Lists.{OctetValues}
+use Rattle.call_rules.specs.Lists.{OctetValues}
 use Rattle.report.specs.Report.{bookCalls}
 
 -- the periods before a line's are run: the line finds the bus at its period (proofs/Books.antt)
@@ -36,7 +36,7 @@ NoneLate b (c ∷ more) = (reply b c ≡ 9 → ⊥) × NoneLate (after b c) more
 abbrev pub BooksInTime : Type 0
 BooksInTime = (book : List ℕ) → NoneLate freshBus (bookCalls book)
 
--- values are octets, so that the calls of the engine are for them (crate `bus_calls`, specs/Lists.antt)
+-- values are octets, so that the calls of the engine are for them (crate `call_rules`, specs/Lists.antt)
 abbrev pub BooksOctets : Type 0
 BooksOctets = (book : List ℕ) → OctetValues (bookCalls book)
 

@@ -1,4 +1,4 @@
--- The same on the record and what is lent with it (crate `bus_calls`, specs/Lists.antt), as the program goes through a book. The notes of a
+-- The same on the record and what is lent with it (crate `call_rules`, specs/Lists.antt), as the program goes through a book. The notes of a
 -- period are taken at once: no call finds any of the one before.
 use mathlib.Core.Bool.{true, cond}
 use mathlib.Core.List.{List, [], _∷_, _++_}
@@ -15,11 +15,11 @@ use Rattle.bus.specs.Calls.{Call}
 use Rattle.bus.specs.Calls.Call.{event, period}
 use Rattle.bus_record.specs.Record.{freshRecord}
 use Rattle.bus_event.specs.Event.{imagesRoom, areLetters}
-use Rattle.bus_calls.specs.Kept.{Kept}
-use Rattle.bus_calls.specs.Ready.{runReply}
-use Rattle.bus_calls.specs.Run.{ran, keptAfter}
-use Rattle.bus_calls.specs.Lists.{called, replied, notesTold, periodTold, OctetValues}
-use Rattle.bus_held.specs.Held.{found}
+use Rattle.call_rules.specs.Kept.{Kept}
+use Rattle.call_rules.specs.Ready.{runReply}
+use Rattle.call_rules.specs.Run.{ran, keptAfter}
+use Rattle.call_rules.specs.Lists.{called, replied, notesTold, periodTold, OctetValues}
+use Rattle.call_rules.specs.Kept.{found}
 use Rattle.note_text.specs.NoteText.{notesText}
 use Rattle.period_text.specs.PeriodText.{periodRoom}
 use Rattle.report.specs.Report.{allBookNotes}

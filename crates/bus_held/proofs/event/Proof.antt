@@ -8,7 +8,7 @@ use Rattle.bus_record.specs.declared.record.BusRecord.{BusRecord}
 use Rattle.bus_record.proofs.record.BusRecord as B
 use Rattle.bus_event.specs.declared.event.Told.{Told}
 use Rattle.bus_event.proofs.event.Told as To
-use Rattle.bus_calls.specs.Event.{eventTold, terminalsAfter, imagesAfter, lettersAfter}
+use Rattle.call_rules.specs.Event.{eventTold, terminalsAfter, imagesAfter, lettersAfter}
 use Rattle.bus_calls.proofs.Structs.{terminals, buses, tolds}
 use Rattle.bus_calls.proofs.event.event as slice
 use Rattle.bus_calls.proofs.event.event.Symbol as slice-def

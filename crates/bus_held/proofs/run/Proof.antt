@@ -18,14 +18,14 @@ use Rattle.bus_record.specs.declared.record.BusRecord.{BusRecord}
 use Rattle.bus_record.specs.declared.side.Ran.{Ran}
 use Rattle.bus_record.proofs.record.BusRecord as B
 use Rattle.bus_record.proofs.side.Ran as R
-use Rattle.bus_calls.specs.Kept.{Kept}
-use Rattle.bus_calls.specs.Run.{ran, keptAfter}
+use Rattle.call_rules.specs.Kept.{Kept}
+use Rattle.call_rules.specs.Run.{ran, keptAfter}
 use Rattle.bus_calls.proofs.Structs.{terminals, notes, buses, runs}
 use Rattle.bus_calls.proofs.run.run as slice
 use Rattle.bus_calls.proofs.run.run.Symbol as slice-def
 use Rattle.bus_calls.proofs.run.run.Symbol.{name as #slice}
 use Rattle.bus_calls.proofs.run.run.Met as slice-thm
-use Rattle.bus_held.specs.Held.{found}
+use Rattle.call_rules.specs.Kept.{found}
 use Rattle.bus_held.specs.declared.HeldRun.{HeldRun}
 use Rattle.bus_held.proofs.HeldRun as HR
 use Rattle.bus_held.proofs.Structs.{eight, eight-notes, held-runs}

@@ -3,7 +3,7 @@ use mathlib.Core.Path.{sym, _∙_}
 use borrow.Author.Needs.{needs}
 use Rattle.book_reader.proofs.RunOn.{entered}
 use Rattle.book_reader.specs.Step.{AT-LINES}
-use Rattle.bus_held.specs.Held.{found}
+use Rattle.call_rules.specs.Kept.{found}
 use Rattle.report.specs.Ahead.{TEXT, OVER}
 use mathlib.Core.Bool.{true}
 use Rattle.book.proofs.Lines.{short-value}

@@ -4,7 +4,7 @@ use mathlib.Core.Bool.{true}
 use borrow.Author.Needs.{needs}
 use borrow.Author.Tests.{leb-true}
 use Rattle.walks.proofs.Loop.{not-true, not-false}
-use Rattle.bus_held.specs.Held.{found}
+use Rattle.call_rules.specs.Kept.{found}
 use Rattle.report.specs.Ahead.{ROOM, OVER}
 use Rattle.book.proofs.Moving.{turns, step-over, step-full, step-heading}
 use Rattle.book.proofs.step.step.Statement.{statement}

@@ -4,7 +4,7 @@ use Prim.Native.Nat.{_-_}
 use native.Mathlib.Omega.{arith}
 use lib.ListN.{length}
 use borrow.Author.Needs.{needs}
-use Rattle.bus_held.specs.Held.{found}
+use Rattle.call_rules.specs.Kept.{found}
 use Rattle.note_text.proofs.RoomLaws.{put-length}
 use Rattle.book.specs.Until.{RunsTo}
 use Rattle.book.proofs.Running.{ran-none, ran-then, ran-ready, goes-on, stops}

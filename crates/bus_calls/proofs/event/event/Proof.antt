@@ -17,9 +17,9 @@ use Rattle.bus_record.proofs.record.BusRecord.Laws as B′
 use Rattle.bus_event.specs.Event.{told, firstReason, networkTold, terminalTold, lettersAfter, imagesAfter}
 use Rattle.bus_event.specs.declared.event.Told.{Told}
 use Rattle.bus_event.proofs.event.Told as D
-use Rattle.bus_calls.specs.Ready.{eightInRange}
+use Rattle.call_rules.specs.Ready.{eightInRange}
 use Rattle.bus_calls.proofs.Structs.{terminals, terminal-steps, notes, periods, buses, tolds}
-use Rattle.bus_calls.proofs.Events.{Promised, within, when-refused, at-network, at-terminal}
+use Rattle.call_rules.proofs.Events.{Promised, within, when-refused, at-network, at-terminal}
 use Rattle.bus_calls.proofs.ready.in_range as ranges
 use Rattle.bus_calls.proofs.ready.in_range.Symbol as ranges-def
 use Rattle.bus_calls.proofs.ready.in_range.Symbol.{name as #ranges}

@@ -4,7 +4,7 @@ use Rattle.bus_calls.proofs.Structs.{terminals}
 use Rattle.terminal.specs.declared.Terminal.{Terminal}
 use Rattle.terminal.proofs.Terminal as T
 use Rattle.terminal.specs.Terminal.{terminalInRange}
-use Rattle.bus_calls.specs.Ready.{alsoInRange, eightInRange}
+use Rattle.call_rules.specs.Ready.{alsoInRange, eightInRange}
 use Rattle.terminal.proofs.Terminal.in_range as step
 use Rattle.terminal.proofs.Terminal.in_range.Symbol as step-def
 use Rattle.terminal.proofs.Terminal.in_range.Symbol.{name as #step}

@@ -8,8 +8,8 @@ use Rattle.bus_record.specs.declared.record.BusRecord.{BusRecord}
 use Rattle.bus_record.specs.declared.side.Ran.{Ran}
 use Rattle.bus_record.proofs.record.BusRecord as B
 use Rattle.bus_record.proofs.side.Ran as R
-use Rattle.bus_calls.specs.Kept.{Kept, kept}
-use Rattle.bus_calls.specs.Run.{ran, keptAfter}
+use Rattle.call_rules.specs.Kept.{Kept, kept}
+use Rattle.call_rules.specs.Run.{ran, keptAfter}
 use Rattle.bus_calls.proofs.Structs.{buses, runs}
 use Rattle.bus_calls.proofs.run.run as runs-of
 use Rattle.bus_calls.proofs.run.run.Symbol as runs-def

@@ -13,12 +13,12 @@ use Rattle.bus_record.specs.declared.side.Ran.{Ran}
 use Rattle.bus_record.proofs.record.BusRecord as B
 use Rattle.bus_record.proofs.side.Ran as R
 use Rattle.bus_record.proofs.side.Ran.Laws as R′
-use Rattle.bus_calls.specs.Kept.{Kept, kept}
-use Rattle.bus_calls.specs.Step.{stepRan, stepTerminals, stepOctets, stepNotes}
-use Rattle.bus_calls.specs.Ready.{eightInRange, runReason, runReply, goesOn}
-use Rattle.bus_calls.specs.Run.{ran, keptAfter}
+use Rattle.call_rules.specs.Kept.{Kept, kept}
+use Rattle.call_rules.specs.Step.{stepRan, stepTerminals, stepOctets, stepNotes}
+use Rattle.call_rules.specs.Ready.{eightInRange, runReason, runReply, goesOn}
+use Rattle.call_rules.specs.Run.{ran, keptAfter}
 use Rattle.bus_calls.proofs.Structs.{buses, runs}
-use Rattle.bus_calls.proofs.RunLoop.{Going, going-first, going-on, going-left, going-lengths, going-ends}
+use Rattle.call_rules.proofs.RunLoop.{Going, going-first, going-on, going-left, going-lengths, going-ends}
 use Rattle.bus_calls.proofs.ready.in_range as ready
 use Rattle.bus_calls.proofs.ready.in_range.Symbol as ready-def
 use Rattle.bus_calls.proofs.ready.in_range.Symbol.{name as #ready}

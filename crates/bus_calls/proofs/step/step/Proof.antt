@@ -25,7 +25,7 @@ use Rattle.bus_record.specs.declared.side.Ran.{Ran}
 use Rattle.bus_record.proofs.record.BusRecord as B
 use Rattle.bus_record.proofs.record.BusRecord.Laws as B′
 use Rattle.bus_record.proofs.side.Ran as R
-use Rattle.bus_calls.specs.Step.{stepMoment, stepExchanged, stepLine, stepTerminals, stepNotes, stepTold, stepRan, stepOctets}
+use Rattle.call_rules.specs.Step.{stepMoment, stepExchanged, stepLine, stepTerminals, stepNotes, stepTold, stepRan, stepOctets}
 use Rattle.bus_calls.proofs.Structs.{fours, buses, runs}
 use Rattle.bus_record.proofs.echo.first_moment as first
 use Rattle.bus_record.proofs.echo.first_moment.Symbol as first-def

@@ -1,63 +1,47 @@
--- `put_note` meets its contract: six puts, one behind the other, are the line.
-use Rattle.note_text.proofs.RoomLaws.{put-put}
-use Rattle.note_text.proofs.NoteLaws.{line-parts}
+-- `put_note` meets its contract, by the two forms.
 use borrow.Author.Needs.{needs}
 use Rattle.note_text.proofs.note.put_note.Statement.{statement}
 use Rattle.note_text.proofs.note.put_note.Tie as tie
 
-put-decimal-requires : tie.Need-put-decimal-requires
-put-decimal-requires c κs = search needs
+enum-told : tie.Need-enum-told
+enum-told c = search needs
 
-slice-aggregate-put : tie.Need-slice-aggregate-put
-slice-aggregate-put c = search needs
+put-line-requires : tie.Need-put-line-requires
+put-line-requires c κs = search needs
 
-put-requires : tie.Need-put-requires
-put-requires c κs = search needs
+enum-told-2 : tie.Need-enum-told-2
+enum-told-2 c = search needs
 
-put-decimal-requires-2 : tie.Need-put-decimal-requires-2
-put-decimal-requires-2 c κs = search needs
-
-put-name-requires : tie.Need-put-name-requires
-put-name-requires c κs = search needs
-
-put-value-requires : tie.Need-put-value-requires
-put-value-requires c κs = search needs
-
-slice-aggregate-put-2 : tie.Need-slice-aggregate-put-2
-slice-aggregate-put-2 c = search needs
-
-put-requires-2 : tie.Need-put-requires-2
-put-requires-2 c κs = search needs
+put-octets-requires : tie.Need-put-octets-requires
+put-octets-requires c κs = search needs
 
 same-length : tie.Need-same-length
 same-length c = search needs
 
 returns : tie.Need-returns
 returns c =
-    let after-put2 = c .before .before in
-    let after-put-value = after-put2 .before .before .before .before .before in
-    let after-put-name = after-put-value .before .before .before .before in
-    let after-put-decimal2 = after-put-name .before .before .before .before in
-    let after-put = after-put-decimal2 .before .before .before .before in
-    let after-put-decimal = after-put .before .before .before .before .before in
-    let period = after-put-decimal .put-decimal .ensures in
-    let space = after-put .put .ensures in
-    let unit = after-put-decimal2 .put-decimal2 .ensures in
-    let name = after-put-name .put-name .ensures in
-    let value = after-put-value .put-value .ensures in
-    rw (← line-parts _) (put-put period (put-put space (put-put unit (put-put name (put-put value (after-put2 .put2 .ensures))))))
+    let after-put-line = c .before .before in
+    let after-enum-told = after-put-line .before .before in
+    rw (after-enum-told .enum-told .given .1) (after-put-line .put-line .ensures)
+
+same-length-2 : tie.Need-same-length-2
+same-length-2 c = search needs
+
+returns-2 : tie.Need-returns-2
+returns-2 c =
+    let after-put-octets = c .before .before in
+    let after-enum-told = after-put-octets .before .before in
+    rw (after-enum-told .enum-told2 .given .1) (after-put-octets .put-octets .ensures)
 
 pub put-note-spec : {M : Type 1} → statement M
 put-note-spec =
     tie.close
     (tie.spec
-    put-decimal-requires
-    slice-aggregate-put
-    put-requires
-    put-decimal-requires-2
-    put-name-requires
-    put-value-requires
-    slice-aggregate-put-2
-    put-requires-2
+    enum-told
+    put-line-requires
+    enum-told-2
+    put-octets-requires
     same-length
-    returns)
+    returns
+    same-length-2
+    returns-2)

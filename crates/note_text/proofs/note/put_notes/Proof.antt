@@ -6,7 +6,7 @@ use lib.ListN.{take}
 use Rattle.bus.specs.Bus.{notesOf}
 use Rattle.cells.specs.Notes.{noted}
 use Rattle.note_text.specs.Room.{Put}
-use Rattle.note_text.specs.NoteText.{notesText}
+use Rattle.note_text.specs.NoteText.{notesIn}
 use Rattle.note_text.proofs.RoomLaws.{put-put, put-start, put-length}
 use Rattle.note_text.proofs.NoteLaws.{notes-next, take-count}
 use borrow.Author.Needs.{needs}
@@ -14,10 +14,10 @@ use Rattle.note_text.proofs.note.put_notes.Statement.{statement}
 use Rattle.note_text.proofs.note.put_notes.Tie as tie
 
 abbrev Inv-loop : tie.InvT-loop
-Inv-loop room₀ wrote period unit codes count at₀ i₀ room at i = (i ≤ count) × Put room₀ wrote (notesText (notesOf period unit (take i codes))) at room
+Inv-loop form room₀ wrote period unit codes count at₀ i₀ room at i = (i ≤ count) × Put room₀ wrote (notesIn form (notesOf period unit (take i codes))) at room
 
 abbrev μ-loop : tie.MeasureT-loop
-μ-loop room₀ wrote period unit codes count at₀ i₀ room at i = count - i
+μ-loop form room₀ wrote period unit codes count at₀ i₀ room at i = count - i
 
 cast-least : tie.Need-cast-least Inv-loop μ-loop
 cast-least c = search needs
@@ -29,7 +29,7 @@ least-requires-2 : tie.Need-least-requires-2 Inv-loop μ-loop
 least-requires-2 c κs = search needs
 
 loop-holds : tie.Need-loop-holds Inv-loop μ-loop
-unfolding notesText notesOf
+unfolding notesIn notesOf
 loop-holds c = (omega arith, put-start _ _ (c .least2 .ensures))
 
 array-read-put-plain : tie.Need-array-read-put-plain Inv-loop μ-loop
@@ -52,7 +52,7 @@ loop-again c =
     let n = start .args .notes in
     let codes : List ℕ = n .1 ∷ n .2 ∷ n .3 ∷ n .4 ∷ [] in
     let l = at-loop .loop in
-    (omega arith, rw (notes-next _ _ codes (l .i) (omega arith)) (put-put (l .inv .1) (after-put-plain .put-plain .ensures)))
+    (omega arith, rw (notes-next _ _ _ codes (l .i) (omega arith)) (put-put (l .inv .1) (after-put-plain .put-plain .ensures)))
 
 same-length : tie.Need-same-length Inv-loop μ-loop
 same-length c = put-length (c .before .loop .inv .1)

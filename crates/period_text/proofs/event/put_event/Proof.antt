@@ -1,7 +1,7 @@
 -- `put_event` meets its contract: the notes handed back, or one note `refused`.
 use borrow.Author.Tests.{eq-eqb, ne-eqb}
 use Rattle.period_text.specs.PeriodText.{eventNoted}
-use Rattle.note_text.proofs.NoteLaws.{one-line}
+use Rattle.note_text.proofs.NoteLaws.{one-note}
 use borrow.Author.Needs.{needs}
 use Rattle.period_text.proofs.event.put_event.Statement.{statement}
 use Rattle.period_text.proofs.event.put_event.Tie as tie
@@ -30,7 +30,7 @@ unfolding eventNoted
 returns-2 c =
     let after-put-note = c .before .before in
     let at-if1 = after-put-note .before .before .before in
-    rw (ne-eqb _ _ (at-if1 .if1 .left), one-line) (after-put-note .put-note .ensures)
+    rw (ne-eqb _ _ (at-if1 .if1 .left), one-note) (after-put-note .put-note .ensures)
 
 pub put-event-spec : {M : Type 1} → statement M
 put-event-spec =

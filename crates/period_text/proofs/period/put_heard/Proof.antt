@@ -22,7 +22,7 @@ returns c =
     let after-put-notes = after-put-notes2 .before .before .before .before in
     let after-done-notes = after-put-notes .before .before in
     let a = after-done-notes .before .before .args in
-    done-first _ _ (a .done1) (a .done2) _ _ (after-done-notes .done-notes .ensures) (after-put-notes .put-notes .ensures)
+    done-first _ _ _ (a .done1) (a .done2) _ _ (after-done-notes .done-notes .ensures) (after-put-notes .put-notes .ensures)
     (after-put-notes2 .put-notes2 .ensures)
 
 pub put-heard-spec : {M : Type 1} → statement M

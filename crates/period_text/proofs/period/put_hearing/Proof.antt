@@ -6,16 +6,16 @@ use Rattle.period_text.proofs.period.put_hearing.Statement.{statement}
 use Rattle.period_text.proofs.period.put_hearing.Tie as tie
 
 abbrev Inv-loop : tie.InvT-loop
-Inv-loop room₀ wrote period done1 done2 notes first₀ second₀ at₀ i₀ room first second at i = Hearing room₀ wrote period notes done1 done2 room first second at i
+Inv-loop form room₀ wrote period done1 done2 notes first₀ second₀ at₀ i₀ room first second at i = Hearing form room₀ wrote period notes done1 done2 room first second at i
 
 abbrev μ-loop : tie.MeasureT-loop
-μ-loop room₀ wrote period done1 done2 notes first₀ second₀ at₀ i₀ room first second at i = 8 - i
+μ-loop form room₀ wrote period done1 done2 notes first₀ second₀ at₀ i₀ room first second at i = 8 - i
 
 least-requires : tie.Need-least-requires Inv-loop μ-loop
 least-requires c κs = search needs
 
 loop-holds : tie.Need-loop-holds Inv-loop μ-loop
-loop-holds c = hearing-starts _ _ _ _ _ _ _ (c .before .before .good .1 .1 .1 .1 .1 .0 .1 .0 .1) (c .least .ensures)
+loop-holds c = hearing-starts _ _ _ _ _ _ _ _ (c .before .before .good .1 .1 .1 .1 .1 .1 .0 .1 .0 .1) (c .least .ensures)
 
 mul-n : tie.Need-mul-n Inv-loop μ-loop
 mul-n c = search needs

@@ -40,7 +40,7 @@ returns c =
     let heard = after-put-notes .put-notes .ensures in
     let hearing = after-put-hearing .put-hearing .ensures ran refl refl in
     let timed = after-put-notes2 .put-notes2 .ensures in
-    rw (← period-parts _ _ _ _) (put-put said (put-put heard (put-put hearing (put-put timed (after-put-timers .put-timers .ensures)))))
+    rw (← period-parts _ _ _ _ _) (put-put said (put-put heard (put-put hearing (put-put timed (after-put-timers .put-timers .ensures)))))
 
 pub put-period-spec : {M : Type 1} → statement M
 put-period-spec =

@@ -3,9 +3,9 @@ use mathlib.Core.Path.{sym}
 use native.Mathlib.Omega.{arith}
 use borrow.Author.Tests.{eq-eqb, ne-eqb}
 use lib.Seq.{length-take-le}
-use Rattle.bus_calls.specs.Lists.{readerTold}
-use Rattle.note_text.specs.NoteText.{notesText}
-use Rattle.note_text.proofs.NoteLaws.{one-line, take-count}
+use Rattle.call_rules.specs.Lists.{readerTold}
+use Rattle.note_text.specs.NoteText.{notesIn}
+use Rattle.note_text.proofs.NoteLaws.{one-note, take-count}
 use borrow.Author.Needs.{needs}
 use Rattle.period_text.proofs.period.put_reader.Statement.{statement}
 use Rattle.period_text.proofs.period.put_reader.Tie as tie
@@ -20,7 +20,7 @@ same-length : tie.Need-same-length
 same-length c = search needs
 
 returns : tie.Need-returns
-unfolding readerTold notesText
+unfolding readerTold notesIn
 returns c =
     let after-put = c .before .before in
     let at-if1 = after-put .before .before .before in
@@ -52,7 +52,7 @@ returns-2 c =
     let start = at-if2 .before .before .before .before in
     let a = start .args in
     let count = after-least .least in
-    λ ran s b. rw (s, b, at-if2 .if2 .taken, one-line, ← take-count (a .octets .now) (a .body) (count .result) (count .ensures))
+    λ ran s b. rw (s, b, at-if2 .if2 .taken, one-note, ← take-count (a .octets .now) (a .body) (count .result) (count .ensures))
     (after-put-note .put-note .ensures)
 
 put-plain-requires : tie.Need-put-plain-requires
@@ -67,7 +67,7 @@ returns-3 c =
     let after-put-plain = c .before .before in
     let at-if2 = after-put-plain .before .before in
     let at-if1 = at-if2 .before in
-    λ ran s b. rw (s, ne-eqb _ _ (at-if1 .if1 .left), ne-eqb _ _ (at-if2 .if2 .left), one-line) (after-put-plain .put-plain .ensures)
+    λ ran s b. rw (s, ne-eqb _ _ (at-if1 .if1 .left), ne-eqb _ _ (at-if2 .if2 .left), one-note) (after-put-plain .put-plain .ensures)
 
 pub put-reader-spec : {M : Type 1} → statement M
 put-reader-spec =

@@ -7,16 +7,16 @@ use Rattle.period_text.proofs.period.put_timers.Statement.{statement}
 use Rattle.period_text.proofs.period.put_timers.Tie as tie
 
 abbrev Inv-loop : tie.InvT-loop
-Inv-loop room₀ wrote period notes at₀ i₀ room at i = Timing room₀ wrote period notes room at i
+Inv-loop form room₀ wrote period notes at₀ i₀ room at i = Timing form room₀ wrote period notes room at i
 
 abbrev μ-loop : tie.MeasureT-loop
-μ-loop room₀ wrote period notes at₀ i₀ room at i = 8 - i
+μ-loop form room₀ wrote period notes at₀ i₀ room at i = 8 - i
 
 least-requires : tie.Need-least-requires Inv-loop μ-loop
 least-requires c κs = search needs
 
 loop-holds : tie.Need-loop-holds Inv-loop μ-loop
-loop-holds c = timing-starts _ _ _ _ _ (c .before .before .good .1 .1 .1 .0 .1 .0 .1) (c .least .ensures)
+loop-holds c = timing-starts _ _ _ _ _ _ (c .before .before .good .1 .1 .1 .1 .0 .1 .0 .1) (c .least .ensures)
 
 mul-n : tie.Need-mul-n Inv-loop μ-loop
 mul-n c = search needs

@@ -1,2 +1,0 @@
--- What a call over terminals held by value finds.
-pub mod Held

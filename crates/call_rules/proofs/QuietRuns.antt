@@ -1,0 +1,226 @@
+-- A run hands back the notes of its periods as single calls: all but the last have none.
+use mathlib.Core.Path.{_≡_, refl, sym, ap, _∙_}
+use mathlib.Core.Bool.{Bool, true, false, not, _&&_, _||_}
+use mathlib.Core.List.{List, [], _∷_, _++_, append-nil}
+use Prim.Native.Nat.{ℕ, zero, suc, _+_, _-_}
+use native.Mathlib.Omega.{arith}
+use lib.Dec.{eqb, ltb}
+use borrow.Author.Tests.{eqb-true, ltb-false}
+use Rattle.cases.proofs.ByCases.{by-test, clash, and-left-false, and-right-false}
+use Rattle.cases.proofs.Operators.{and-both}
+use Rattle.cells.specs.Notes.{noted}
+use Rattle.cells.specs.declared.notes.Notes.{Notes}
+use Rattle.hdlc.specs.Bits.{numberLowFirst, bitOf}
+use Rattle.hdlc.proofs.OctetLaws.{number-bit}
+use Rattle.timing.specs.Counts.{allRun}
+use Rattle.bus.specs.Bus.{notesOf}
+use Rattle.bus.specs.Period.{heardBy, timed, periodRun}
+use Rattle.bus.specs.Calls.{Call}
+use Rattle.bus.specs.Calls.Call.{period}
+use Rattle.listening.specs.Hears.{hasNote}
+use Rattle.listening.specs.declared.hears.UnitNotes.{UnitNotes}
+use Rattle.bus_record.specs.NetworkSide.{refusedRun}
+use Rattle.bus_record.specs.declared.side.Ran.{Ran}
+use Rattle.call_rules.specs.Kept.{Kept}
+use Rattle.call_rules.specs.Shown.{busIn}
+use Rattle.call_rules.specs.Period.{terminalsNotes, anyNote, hasNotes, periodRan, keptRun}
+use Rattle.call_rules.specs.Ready.{runReply, goesOn}
+use Rattle.call_rules.specs.Run.{notYet, ran, keptAfter, ranOn, SinglePeriod}
+use Rattle.call_rules.specs.Lists.{called, replied, readerTold, terminalsTold, timersTold, periodTold, notesTold, allTold, callsIn, calledAll, runTold, RunIsCalls, RunsAreCalls}
+use Rattle.call_rules.proofs.InOrder.{one-left}
+use Rattle.call_rules.proofs.ReadyKept.{ready-kept}
+use Rattle.call_rules.proofs.RunSingle.{period-single, run-single}
+
+-- ---- no note
+neither : (a b : Bool) → (a || b) ≡ false → (a ≡ false) × (b ≡ false)
+neither true b h = clash true refl h
+neither false b h = (refl, h)
+
+none-noted : (n : Notes) → hasNote n ≡ false → noted n ≡ []
+unfolding noted hasNote
+none-noted n h = let z : n .0 ≡ 0 = omega (arith, ltb-false 0 (n .0) h) in rw z
+
+no-bit : (i : ℕ) → bitOf 0 i ≡ false
+unfolding numberLowFirst
+no-bit i = number-bit [] i
+
+none-told : (now : ℕ) (r : Ran) (i : ℕ) (ns : List UnitNotes) → r .done1 ≡ 0 → r .done2 ≡ 0 → anyNote ns ≡ false → terminalsTold now r i ns ≡ []
+unfolding terminalsTold anyNote notesOf
+none-told now r i [] p q h = refl
+none-told now r i (n ∷ ns) p q h =
+    let t = neither _ (anyNote ns) h in
+    let m = neither (hasNote (n .heard)) (hasNote (n .timed)) (t .0) in
+    rw (none-told now r (suc i) ns p q (t .1), none-noted (n .heard) (m .0), p, q, no-bit i)
+
+none-timed : (now i : ℕ) (ns : List UnitNotes) → anyNote ns ≡ false → timersTold now i ns ≡ []
+unfolding timersTold anyNote notesOf
+none-timed now i [] h = refl
+none-timed now i (n ∷ ns) h =
+    let t = neither _ (anyNote ns) h in
+    let m = neither (hasNote (n .heard)) (hasNote (n .timed)) (t .0) in
+    rw (none-noted (n .timed) (m .1), none-timed now (suc i) ns (t .1))
+
+no-not : (a : Bool) → not a ≡ false → a ≡ true
+no-not true h = refl
+no-not false h = clash true refl h
+
+-- an answer that tells of no note has none
+quiet : (now : ℕ) (r : Ran) (ns : List UnitNotes) (octets : List ℕ) →
+    (((anyNote (r .network ∷ ns) || not (eqb (r .said) 0)) || not (eqb (r .done1) 0)) || not (eqb (r .done2) 0)) ≡ false → periodTold now r ns octets ≡ []
+unfolding periodTold readerTold anyNote notesOf
+quiet now r ns octets h =
+    let c = neither _ (not (eqb (r .done2) 0)) h in
+    let b = neither _ (not (eqb (r .done1) 0)) (c .0) in
+    let a = neither _ (not (eqb (r .said) 0)) (b .0) in
+    let n = neither _ (anyNote ns) (a .0) in
+    let u = neither (hasNote (r .network .heard)) (hasNote (r .network .timed)) (n .0) in
+    let said : eqb (r .said) 0 ≡ true = no-not _ (a .1) in
+    let two : r .done2 ≡ 0 = eqb-true _ _ (no-not _ (c .1)) in
+    let one : r .done1 ≡ 0 = eqb-true _ _ (no-not _ (b .1)) in
+    rw (
+      none-told now r 0 ns one two (n .1),
+      none-timed (now + 1) 0 ns (n .1),
+      said,
+      none-noted (r .network .heard) (u .0),
+      none-noted (r .network .timed) (u .1),
+    )
+
+not-so : (a : Bool) → not a ≡ true → a ≡ false
+not-so true h = clash false h refl
+not-so false h = refl
+
+-- what a run goes on by
+goes-by : (last : Ran) (n : ℕ) → goesOn last n ≡ true → (eqb (last .reply) 0 ≡ true) × (last .told ≡ false) × (allRun (last .bus .periods) ≡ false)
+unfolding goesOn
+goes-by last n g =
+    let all = and-both _ (not (allRun (last .bus .periods))) g in
+    let some = and-both _ (ltb 0 n) (all .0) in
+    let first = and-both (eqb (last .reply) 0) (not (last .told)) (some .0) in
+    (first .0, not-so _ (first .1), not-so _ (all .1))
+
+module _ (k : Kept) where
+  quiet-run : (now : ℕ) → periodRan k .told ≡ false → periodTold now (periodRan k) (keptRun k .notes) (keptRun k .octets) ≡ []
+  unfolding keptRun periodRan hasNotes
+  quiet-run now h = quiet now (periodRan k) (terminalsNotes (busIn k)) (keptRun k .octets) h
+
+  -- ---- a single call
+  refused-one : eqb (runReply 1 k) 0 ≡ false → ran 1 k .reply ≡ runReply 1 k
+  unfolding ran ranOn goesOn notYet refusedRun
+  refused-one t = rw t
+
+  accepted-reply : eqb (ran 1 k .reply) 0 ≡ true → runReply 1 k ≡ 0
+  accepted-reply h =
+      by-test (eqb (runReply 1 k) 0) (λ t. eqb-true (runReply 1 k) 0 t) (λ t. clash (eqb (runReply 1 k) 0) (rw (refused-one t) at h) t)
+
+  accepted-one : eqb (ran 1 k .reply) 0 ≡ true → SinglePeriod k
+  accepted-one h = period-single k (accepted-reply h)
+
+  accepted-zero : runReply 1 k ≡ 0 → ran 1 k .reply ≡ 0
+  unfolding periodRan
+  accepted-zero h = rw (period-single k h .ran-is)
+
+  replied-run : replied k period ≡ ran 1 k .reply
+  unfolding replied
+  replied-run = refl
+
+  first-called : (calls : List Call) → calledAll k (period ∷ calls) ≡ calledAll (keptAfter 1 k) calls
+  unfolding called calledAll
+  first-called calls = refl
+
+  first-told : (calls : List Call) → allTold k (period ∷ calls) ≡ notesTold k period ++ allTold (keptAfter 1 k) calls
+  unfolding called allTold
+  first-told calls = refl
+
+  counted : periodRan k .bus .periods .0 - 1 ≡ k .bus .periods .0
+  unfolding periodRan periodRun timed heardBy busIn
+  counted = omega arith
+
+  one-told : runTold 1 k ≡ notesTold k period
+  unfolding runTold notesTold
+  one-told =
+      rw replied-run
+      (by-test (eqb (ran 1 k .reply) 0)
+      (λ t. rw t (ap (λ (n : ℕ). periodTold n (ran 1 k) (keptAfter 1 k .notes) (keptAfter 1 k .octets)) (rw (accepted-one t .ran-is) counted)))
+      (λ t. rw t))
+
+  -- a run goes on after a period that has no note
+  goes-quiet : (n : ℕ) → goesOn (ran 1 k) n ≡ true → notesTold k period ≡ []
+  unfolding notesTold
+  goes-quiet n g =
+      let on = goes-by (ran 1 k) n g in
+      let one = accepted-one (on .0) in
+      let none : periodRan k .told ≡ false = rw (one .ran-is) at (on .1) in
+      rw (replied-run, on .0, one .ran-is, one .kept-is) (quiet-run (k .bus .periods .0) none)
+
+  -- .. and the next one is not refused
+  goes-again : (n : ℕ) → goesOn (ran 1 k) n ≡ true → runReply 1 (keptAfter 1 k) ≡ 0
+  unfolding keptRun
+  goes-again n g =
+      let on = goes-by (ran 1 k) n g in
+      let h = accepted-reply (on .0) in
+      let one = accepted-one (on .0) in
+      let left : allRun (periodRan k .bus .periods) ≡ false = rw (one .ran-is) at (on .2) in
+      rw (one .kept-is) (ready-kept 1 k h (one-left 1 k (omega arith) h) 1 ∙ rw left)
+
+-- ---- a run
+module _ (n : ℕ) (k : Kept) where
+  calls-on : goesOn (ran 1 k) n ≡ true → callsIn (suc n) k ≡ period ∷ callsIn n (keptAfter 1 k)
+  unfolding callsIn
+  calls-on g = rw g
+
+  calls-end : goesOn (ran 1 k) n ≡ false → callsIn (suc n) k ≡ period ∷ []
+  unfolding callsIn
+  calls-end g = rw g
+
+  told-on : goesOn (ran 1 k) n ≡ true → runTold (suc n) k ≡ runTold n (keptAfter 1 k)
+  unfolding runTold
+  told-on g = let s = run-single n k in rw (s .ran-is, s .kept-is, g)
+
+  told-end : goesOn (ran 1 k) n ≡ false → runTold (suc n) k ≡ runTold 1 k
+  unfolding runTold
+  told-end g = let s = run-single n k in rw (s .ran-is, s .kept-is, g)
+
+  ran-on : goesOn (ran 1 k) n ≡ true → ran (suc n) k ≡ ran n (keptAfter 1 k)
+  ran-on g = run-single n k .ran-is ∙ rw g
+
+  ran-end : goesOn (ran 1 k) n ≡ false → ran (suc n) k ≡ ran 1 k
+  ran-end g = run-single n k .ran-is ∙ rw g
+
+  kept-on : goesOn (ran 1 k) n ≡ true → keptAfter (suc n) k ≡ keptAfter n (keptAfter 1 k)
+  kept-on g = run-single n k .kept-is ∙ rw g
+
+  kept-end : goesOn (ran 1 k) n ≡ false → keptAfter (suc n) k ≡ keptAfter 1 k
+  kept-end g = run-single n k .kept-is ∙ rw g
+
+  run-ends : goesOn (ran 1 k) n ≡ false → RunIsCalls n k
+  unfolding calledAll allTold
+  run-ends g =
+      record {
+        replies = ap (λ (r : Ran). r .reply) (ran-end g) ∙ sym (replied-run k);
+        leaves = kept-end g ∙ rw (calls-end g) (sym (first-called k []));
+        tells = told-end g ∙ rw (calls-end g, first-told k [], append-nil (notesTold k period)) (one-told k);
+      }
+
+run-on : (m : ℕ) (k : Kept) → goesOn (ran 1 k) (suc m) ≡ true → RunIsCalls m (keptAfter 1 k) → RunIsCalls (suc m) k
+run-on m k g rest =
+    let calls = callsIn (suc m) (keptAfter 1 k) in
+    record {
+      replies =
+          ap (λ (r : Ran). r .reply) (ran-on (suc m) k g)
+          ∙ (rest .replies
+          ∙ (replied-run (keptAfter 1 k)
+          ∙ (accepted-zero (keptAfter 1 k) (goes-again k (suc m) g) ∙ sym (replied-run k ∙ eqb-true _ _ (goes-by (ran 1 k) (suc m) g .0)))));
+      leaves = kept-on (suc m) k g ∙ rw (calls-on (suc m) k g, first-called k calls) (rest .leaves);
+      tells = told-on (suc m) k g ∙ rw (calls-on (suc m) k g, first-told k calls, goes-quiet k (suc m) g) (rest .tells);
+    }
+
+no-more : (last : Ran) → goesOn last 0 ≡ false
+unfolding goesOn
+no-more last =
+    and-left-false ((eqb (last .reply) 0 && not (last .told)) && ltb 0 0) (not (allRun (last .bus .periods)))
+    (and-right-false (eqb (last .reply) 0 && not (last .told)) (ltb 0 0) refl)
+
+pub runs-are-calls : RunsAreCalls
+runs-are-calls zero k = run-ends zero k (no-more (ran 1 k))
+runs-are-calls (suc m) k =
+    by-test (goesOn (ran 1 k) (suc m)) (λ g. run-on m k g (runs-are-calls m (keptAfter 1 k))) (λ g. run-ends (suc m) k g)

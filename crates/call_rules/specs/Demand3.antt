@@ -1,0 +1,34 @@
+-- Demand 3 on the calls (document 01, "Lists and stretches"): "Demand 3 is a single claim about the whole list of such calls and not one for
+-- each. The list starts with a fresh bus and its eight terminal records; every call, refused or not, gets what the one before left, and nobody
+-- else writes record or slice between."
+use mathlib.Core.Bool.{true}
+use mathlib.Core.List.{List, _++_}
+use mathlib.Core.Path.{_≡_}
+use Prim.Native.Nat.{ℕ, _≤_}
+use lib.ListN.{length}
+use Rattle.hdlc.specs.Image.{longestBody}
+use Rattle.bus.specs.Bus.{terminals, freshBus}
+use Rattle.bus.specs.Calls.{Call, ran, allNotes}
+use Rattle.bus.specs.Stretch.{Stretch}
+use Rattle.bus.specs.Claims.{Claimed}
+use Rattle.listening.specs.declared.hears.UnitNotes.{UnitNotes}
+use Rattle.bus_event.specs.Event.{imagesRoom, areLetters}
+use Rattle.call_rules.specs.Kept.{Kept}
+use Rattle.call_rules.specs.Lists.{Same, freshKept, calledAll, allTold, OctetValues}
+
+-- What is claimed of a stretch `during` of the list `before`, `during`, `after` of calls, the first of which finds k.
+pub record ClaimedOnCalls (k : Kept) (before during after : List Call) : Type 0 where
+  -- the sentences of demand 3, of the bus that document 01's rules give for the same calls
+  pub claims : Claimed before during after
+  -- each call of the whole list gives the reply and the notes of those rules, and what it leaves stands for the bus after it
+  pub carried : Same k freshBus (before ++ (during ++ after))
+  -- "the calls in it hand back exactly the notes that those rules give"
+  pub notes-of-stretch : allTold (calledAll k before) during ≡ allNotes (ran freshBus before) during
+
+-- For whatever is lent with the fresh record, and every list of calls whose values are octets (proofs/Demand3.antt).
+abbrev pub Demand3OnCalls : Type 0
+Demand3OnCalls =
+    (images octets letters : List ℕ) (ns : List UnitNotes) (before during after : List Call)
+    → length images ≡ imagesRoom → longestBody ≤ length octets → areLetters letters ≡ true → length ns ≡ terminals
+    → OctetValues (before ++ (during ++ after)) → Stretch (ran freshBus before) during
+    → ClaimedOnCalls (freshKept images octets letters ns) before during after

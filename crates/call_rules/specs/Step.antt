@@ -1,0 +1,60 @@
+-- A period as the code goes through it: the exchange in a few values, the terminals' hearing, the network end's side. The law `step-shown`
+-- says that this is document 01's period (Period.antt).
+use mathlib.Core.Bool.{Bool, false}
+use mathlib.Core.List.{List}
+use mathlib.Core.Path.{_≡_}
+use Prim.Native.Nat.{ℕ}
+use Rattle.walks.specs.Over.{mapFrom, foldFrom}
+use Rattle.hearing.specs.declared.heard.Downward.{Downward}
+use Rattle.terminal.specs.declared.Terminal.{Terminal}
+use Rattle.exchange.specs.Opportunities.{momentAfterFour, terminalsAfterFour}
+use Rattle.exchange.specs.declared.moment.Moment.{Moment}
+use Rattle.listening.specs.Hears.{terminalAfter, notesAfter, toldAfter}
+use Rattle.listening.specs.declared.hears.UnitNotes.{UnitNotes}
+use Rattle.bus_record.specs.Echo.{firstMoment, heardDown}
+use Rattle.bus_record.specs.NetworkSide.{ranAfter, octetsAfter}
+use Rattle.bus_record.specs.declared.record.BusRecord.{BusRecord}
+use Rattle.bus_record.specs.declared.side.Ran.{Ran}
+use Rattle.call_rules.specs.Kept.{Kept}
+use Rattle.call_rules.specs.Period.{periodRan, keptRun}
+use Rattle.call_rules.specs.Ready.{runReply}
+
+-- the exchange, and the terminals after it
+unfoldable pub stepMoment : BusRecord → List Terminal → List ℕ → List ℕ → Moment
+stepMoment bus ts images letters = momentAfterFour images (firstMoment bus letters) ts
+
+unfoldable pub stepExchanged : BusRecord → List Terminal → List ℕ → List ℕ → List Terminal
+stepExchanged bus ts images letters = terminalsAfterFour images (firstMoment bus letters) ts
+
+-- what the terminals hear
+unfoldable pub stepLine : BusRecord → List Terminal → List ℕ → List ℕ → Downward
+stepLine bus ts images letters = heardDown bus (stepMoment bus ts images letters .ds) letters
+
+unfoldable pub stepTerminals : BusRecord → List Terminal → List ℕ → List ℕ → List Terminal
+stepTerminals bus ts images letters =
+    mapFrom (terminalAfter (stepLine bus ts images letters) (bus .periods)) 0 (stepExchanged bus ts images letters)
+
+unfoldable pub stepNotes : BusRecord → List Terminal → List ℕ → List ℕ → List UnitNotes
+stepNotes bus ts images letters =
+    mapFrom (notesAfter (stepLine bus ts images letters) (bus .periods)) 0 (stepExchanged bus ts images letters)
+
+unfoldable pub stepTold : BusRecord → List Terminal → List ℕ → List ℕ → Bool
+stepTold bus ts images letters =
+    foldFrom (toldAfter (stepLine bus ts images letters) (bus .periods)) 0 false (stepExchanged bus ts images letters)
+
+-- the network end's side
+unfoldable pub stepRan : BusRecord → List Terminal → List ℕ → List ℕ → List ℕ → Ran
+stepRan bus ts images octets letters = ranAfter bus (stepMoment bus ts images letters) octets (stepTold bus ts images letters)
+
+unfoldable pub stepOctets : BusRecord → List Terminal → List ℕ → List ℕ → List ℕ → List ℕ
+stepOctets bus ts images octets letters = octetsAfter bus (stepMoment bus ts images letters) octets
+
+-- ---- Where no reason holds, it is document 01's period (proofs/StepShown.antt).
+pub record StepShows (k : Kept) : Type 0 where
+  pub ran-is : stepRan (k .bus) (k .terminals) (k .images) (k .octets) (k .letters) ≡ periodRan k
+  pub terminals-are : stepTerminals (k .bus) (k .terminals) (k .images) (k .letters) ≡ keptRun k .terminals
+  pub octets-are : stepOctets (k .bus) (k .terminals) (k .images) (k .octets) (k .letters) ≡ keptRun k .octets
+  pub notes-are : stepNotes (k .bus) (k .terminals) (k .images) (k .letters) ≡ keptRun k .notes
+
+abbrev pub StepShown : Type 0
+StepShown = (k : Kept) → runReply 1 k ≡ 0 → StepShows k

@@ -1,0 +1,18 @@
+-- Notes as octets, for a host.
+use mathlib.Core.List.{List, [], _∷_, _++_}
+use mathlib.Core.Path.{_≡_, refl}
+use Prim.Native.Nat.{ℕ, _%_}
+use lib.ListN.{length}
+use Rattle.cells.specs.Notes.{HEARD}
+use Rattle.bus.specs.Bus.{Note}
+use Rattle.note_text.specs.LowFirst.{half, word}
+
+-- The code, the unit, how many octets the value has, the period, and the octets of the value.
+unfoldable pub noteOctets : Note → List ℕ
+noteOctets n = (n .code % 256 ∷ n .unit % 256 ∷ []) ++ (half (length (n .value)) ++ (word (n .period) ++ n .value))
+
+-- ---- Computed: `16 0 heard 00` of document 01's example report.
+pub example-heard :
+    noteOctets (record { period = 16; unit = 0; code = HEARD; value = 0 ∷ [] }) ≡ 10 ∷ 0 ∷ 1 ∷ 0 ∷ 16 ∷ 0 ∷ 0 ∷ 0 ∷ 0 ∷ []
+unfolding noteOctets
+example-heard = refl
