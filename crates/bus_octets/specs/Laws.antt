@@ -1,0 +1,30 @@
+-- The octets of a bus are read back as what was stored, and only octets that a bus is stored as are taken for one. The statements are types;
+-- proofs/RoundTrip.antt and proofs/Exact.antt prove each under the same name in small letters.
+use mathlib.Core.Bool.{true}
+use mathlib.Core.List.{List}
+use mathlib.Core.Path.{_≡_}
+use Prim.Native.Nat.{ℕ}
+use lib.ListN.{length}
+use Rattle.hdlc.specs.Image.{longestBody}
+use Rattle.call_rules.specs.Kept.{Kept}
+use Rattle.call_rules.specs.Ready.{runReply}
+use Rattle.call_rules.specs.Kept.{found}
+use Rattle.bus_octets.specs.Layout.{busOctets, shown, busLength, isBus}
+
+-- What is in its range and of its length is stored as a bus, and read back as it was; the notes of its last period are no part of it.
+pub record StoredAndShown (k : Kept) : Type 0 where
+  pub is-bus : isBus (busOctets k) ≡ true
+  pub shown-is : shown (busOctets k) ≡ found (k .bus) (k .terminals) (k .images) (k .octets) (k .letters)
+
+abbrev pub RoundTrip : Type 0
+RoundTrip = (k : Kept) → runReply 0 k ≡ 0 → length (k .octets) ≡ longestBody → StoredAndShown k
+
+-- Whatever is taken for a bus is what it stands for, stored; and that is in its range and of its length, so that refusals 1 and 2 are none of it.
+pub record ShownAndStored (s : List ℕ) : Type 0 where
+  pub long : length s ≡ busLength
+  pub stored-is : busOctets (shown s) ≡ s
+  pub ready : runReply 0 (shown s) ≡ 0
+  pub octets-fit : length (shown s .octets) ≡ longestBody
+
+abbrev pub Exact : Type 0
+Exact = (s : List ℕ) → isBus s ≡ true → ShownAndStored s

@@ -1,0 +1,173 @@
+-- A bus as octets: its layout, version 1. Numbers stand with the low-order octet first (`half` two octets, `word` four), a yes is 1 and a no is 0.
+--   0   the record, 32 octets
+--   32  the eight terminals, 16 octets each, terminal 1 first
+--   160 the letters of the hit, 48
+--   208 the octets of the network end's reader, 266
+--   474 the rooms of the eight images, 322 octets each, terminal 1 first
+-- 3,050 octets in all.
+use mathlib.Core.Bool.{Bool, true, false, cond, _&&_}
+use mathlib.Core.List.{List, [], _∷_, _++_}
+use Prim.Native.Nat.{ℕ, zero, suc, _+_, _*_}
+use lib.Dec.{eqb}
+use lib.ListN.{length, getD, take, drop, replicate}
+use Rattle.cells.specs.Names.{ascii}
+use Rattle.hdlc.specs.Image.{longestBody}
+use Rattle.symbols.specs.Symbols.{lineLength, sameSymbols}
+use Rattle.timing.specs.Counts.{atPeriod}
+use Rattle.terminal.specs.declared.Terminal.{Terminal}
+use Rattle.bus.specs.Bus.{terminals}
+use Rattle.bus_record.specs.Record.{recordInRange}
+use Rattle.bus_record.specs.declared.record.BusRecord.{BusRecord}
+use Rattle.bus_event.specs.Event.{imagesRoom, areLetters}
+use Rattle.call_rules.specs.Kept.{Kept}
+use Rattle.call_rules.specs.Ready.{eightInRange}
+use Rattle.call_rules.specs.Kept.{found}
+use Rattle.note_text.specs.LowFirst.{half, word}
+use Rattle.bus_octets.specs.Numbers.{halfAt, wordAt}
+
+abbrev pub version : ℕ
+version = 1
+
+abbrev pub flag : Bool → ℕ
+flag true = 1
+flag false = 0
+
+-- ---- Records as octets.
+
+-- The record: four letters, the version, the counts, the network end, its reader, the last D heard, whether a hit is pending.
+unfoldable pub recordOctets : BusRecord → List ℕ
+recordOctets r =
+    ascii "SBUS"
+    ++ (version ∷ []
+    ++ (word (r .periods .0)
+    ++ (word (r .opportunities .0)
+    ++ (word (r .network .t1)
+    ++ (word (r .network .t2)
+    ++ (r .network .state ∷ flag (r .network .alignment .aligned) ∷ r .network .alignment .run ∷ []
+    ++ (half (r .reader .bits)
+    ++ (r .reader .ones
+    ∷ r .reader .octet
+    ∷ flag (r .reader .opened)
+    ∷ flag (r .reader .zero)
+    ∷ flag (r .heard)
+    ∷ flag (r .hit)
+    ∷ []))))))))
+
+-- A terminal: T3, the held frame's bits and how many have left, C, the class held, the two levels, the bit that left last, the state, alignment.
+unfoldable pub terminalOctets : Terminal → List ℕ
+terminalOctets t =
+    word (t .t3)
+    ++ (half (t .access .length)
+    ++ (half (t .access .sent)
+    ++ (t .access .count
+    ∷ t .access .held
+    ∷ flag (t .access .low1)
+    ∷ flag (t .access .low2)
+    ∷ flag (t .access .last)
+    ∷ t .state
+    ∷ flag (t .alignment .aligned)
+    ∷ t .alignment .run
+    ∷ [])))
+
+unfoldable pub terminalsOctets : List Terminal → List ℕ
+terminalsOctets [] = []
+terminalsOctets (t ∷ ts) = terminalOctets t ++ terminalsOctets ts
+
+-- what a bus keeps, as octets; the notes of its last period are no part of it
+unfoldable pub busOctets : Kept → List ℕ
+busOctets k = recordOctets (k .bus) ++ (terminalsOctets (k .terminals) ++ (k .letters ++ (k .octets ++ k .images)))
+
+-- ---- What octets stand for.
+
+abbrev pub flagAt : List ℕ → ℕ → Bool
+flagAt s at = eqb (getD s at 0) 1
+
+unfoldable pub recordIn : List ℕ → BusRecord
+recordIn s =
+    record {
+      periods = atPeriod (wordAt s 5);
+      opportunities = record { 0 = wordAt s 9 };
+      network = record { t1 = wordAt s 13; t2 = wordAt s 17; state = getD s 21 0; alignment = record { aligned = flagAt s 22; run = getD s 23 0 } };
+      reader = record { bits = halfAt s 24; ones = getD s 26 0; octet = getD s 27 0; opened = flagAt s 28; zero = flagAt s 29 };
+      heard = flagAt s 30;
+      hit = flagAt s 31;
+    }
+
+-- the terminal whose octets begin at an index
+unfoldable pub terminalAt : List ℕ → ℕ → Terminal
+terminalAt s at =
+    record {
+      t3 = wordAt s at;
+      access = record {
+        length = halfAt s (at + 4);
+        sent = halfAt s (at + 6);
+        count = getD s (at + 8) 0;
+        held = getD s (at + 9) 0;
+        low1 = flagAt s (at + 10);
+        low2 = flagAt s (at + 11);
+        last = flagAt s (at + 12);
+      };
+      state = getD s (at + 13) 0;
+      alignment = record { aligned = flagAt s (at + 14); run = getD s (at + 15) 0 };
+    }
+
+-- the parts, by their place and length
+abbrev pub terminalsAt : ℕ
+terminalsAt = 32
+
+abbrev pub terminalLength : ℕ
+terminalLength = 16
+
+abbrev pub lettersAt : ℕ
+lettersAt = terminalsAt + terminals * terminalLength
+
+abbrev pub octetsAt : ℕ
+octetsAt = lettersAt + lineLength
+
+abbrev pub imagesAt : ℕ
+imagesAt = octetsAt + longestBody
+
+abbrev pub busLength : ℕ
+busLength = imagesAt + imagesRoom
+
+-- so many terminals, from an index on
+unfoldable pub terminalsFrom : ℕ → List ℕ → ℕ → List Terminal
+terminalsFrom zero s at = []
+terminalsFrom (suc n) s at = terminalAt s at ∷ terminalsFrom n s (at + terminalLength)
+
+unfoldable pub terminalsIn : List ℕ → List Terminal
+terminalsIn s = terminalsFrom terminals s terminalsAt
+
+abbrev pub lettersIn : List ℕ → List ℕ
+lettersIn s = take lineLength (drop lettersAt s)
+
+abbrev pub octetsIn : List ℕ → List ℕ
+octetsIn s = take longestBody (drop octetsAt s)
+
+abbrev pub imagesIn : List ℕ → List ℕ
+imagesIn s = drop imagesAt s
+
+-- the same of any octets: nothing but 0 where they are not as many as those of a bus
+unfoldable pub lettersOf : List ℕ → List ℕ
+lettersOf s = cond (eqb (length s) busLength) (lettersIn s) (replicate lineLength 0)
+
+unfoldable pub octetsOf : List ℕ → List ℕ
+octetsOf s = cond (eqb (length s) busLength) (octetsIn s) (replicate longestBody 0)
+
+-- what the octets of a bus stand for; the notes of no period yet
+unfoldable pub shown : List ℕ → Kept
+shown s = found (recordIn s) (terminalsIn s) (imagesIn s) (octetsIn s) (lettersIn s)
+
+-- ---- Octets are a bus where they have the length of one, the records that they stand for are written as them, and every field is in its range.
+unfoldable pub headOctets : BusRecord → List Terminal → List ℕ
+headOctets r ts = recordOctets r ++ terminalsOctets ts
+
+unfoldable pub isHead : BusRecord → List Terminal → List ℕ → Bool
+isHead r ts s = sameSymbols (headOctets r ts) s
+
+unfoldable pub isBus : List ℕ → Bool
+isBus s =
+    cond (eqb (length s) busLength)
+    (((isHead (recordIn s) (terminalsIn s) (take lettersAt s) && recordInRange (recordIn s)) && eightInRange (terminalsIn s))
+    && areLetters (lettersIn s))
+    false

@@ -1,0 +1,114 @@
+// What the octets of a bus stand for.
+ghost use mathlib.Core.Path.{_≡_};
+ghost use Prim.Native.Nat.{_+_, _*_};
+ghost use Rattle.bus_octets.specs.Layout.{recordIn, terminalAt, terminalsIn, lettersOf, octetsOf};
+use super::layout::BUS_LENGTH;
+use super::layout::IMAGES_AT;
+use super::layout::LETTERS_AT;
+use super::layout::OCTETS_AT;
+use super::numbers::flag_at;
+use super::numbers::half_at;
+use super::numbers::octet_at;
+use super::numbers::word_at;
+use alignment::Alignment;
+use bus_record::record::BusRecord;
+use dchannel::access::Access;
+use network::Network;
+use note_text::room::put;
+use packing::image::LONGEST_BODY;
+use reader::Reader;
+use symbols::LINE_LENGTH;
+use terminal::Terminal;
+use timing::counts::Opportunities;
+use timing::counts::Periods;
+
+// The record.
+pub fn record_in(s: &[u8]) -> BusRecord
+    ensures { λ r. ⌜ r ≡ recordIn (now (s .entry)) ⌝ }
+{
+    BusRecord {
+        network: Network {
+            t1: word_at(s, 13) as u64,
+            t2: word_at(s, 17) as u64,
+            state: octet_at(s, 21),
+            alignment: Alignment {
+                aligned: flag_at(s, 22),
+                run: octet_at(s, 23),
+            },
+        },
+        periods: Periods(word_at(s, 5)),
+        opportunities: Opportunities(word_at(s, 9)),
+        reader: Reader {
+            bits: half_at(s, 24),
+            ones: octet_at(s, 26),
+            octet: octet_at(s, 27),
+            opened: flag_at(s, 28),
+            zero: flag_at(s, 29),
+        },
+        heard: flag_at(s, 30),
+        hit: flag_at(s, 31),
+    }
+}
+
+// The terminal whose octets begin at an index.
+fn terminal_at(s: &[u8], at: u8) -> Terminal
+    ensures { λ r. ⌜ r ≡ terminalAt (now (s .entry)) at ⌝ }
+{
+    let i = at as usize;
+    let start = at as u32;
+    Terminal {
+        t3: word_at(s, start) as u64,
+        access: Access {
+            length: half_at(s, start + 4),
+            sent: half_at(s, start + 6),
+            count: octet_at(s, i + 8),
+            held: octet_at(s, i + 9),
+            low1: flag_at(s, i + 10),
+            low2: flag_at(s, i + 11),
+            last: flag_at(s, i + 12),
+        },
+        state: octet_at(s, i + 13),
+        alignment: Alignment {
+            aligned: flag_at(s, i + 14),
+            run: octet_at(s, i + 15),
+        },
+    }
+}
+
+// The eight terminals.
+pub fn terminals_in(s: &[u8]) -> [Terminal; 8]
+    ensures { λ r. ⌜ r ≡ terminalsIn (now (s .entry)) ⌝ }
+{
+    [
+        terminal_at(s, 32),
+        terminal_at(s, 48),
+        terminal_at(s, 64),
+        terminal_at(s, 80),
+        terminal_at(s, 96),
+        terminal_at(s, 112),
+        terminal_at(s, 128),
+        terminal_at(s, 144),
+    ]
+}
+
+// The letters of the hit; nothing but 0 where the octets are not as many as those of a bus.
+pub fn letters_in(s: &[u8]) -> [u8; LINE_LENGTH]
+    ensures { λ r. ⌜ r ≡ lettersOf (now (s .entry)) ⌝ }
+{
+    let mut letters = [0u8; LINE_LENGTH];
+    if s.len() == BUS_LENGTH {
+        put(&mut letters, 0, &s[LETTERS_AT..OCTETS_AT]);
+    }
+    letters
+}
+
+// The reader's octets; nothing but 0 where the octets are not as many as those of a bus.
+pub fn octets_in(s: &[u8]) -> [u8; LONGEST_BODY]
+    ensures { λ r. ⌜ r ≡ octetsOf (now (s .entry)) ⌝ }
+{
+    let mut octets = [0u8; LONGEST_BODY];
+    if s.len() == BUS_LENGTH {
+        put(&mut octets, 0, &s[OCTETS_AT..IMAGES_AT]);
+    }
+    octets
+}
