@@ -1,0 +1,7 @@
+-- What an event and a run leave (Stepped) and tell (Told); event numbers above an octet (Numbered); how a call ends (Answers, Ends).
+pub mod Stepped
+pub mod Told
+pub mod Numbered
+pub mod Answers
+pub mod Ends
+pub mod Laws

@@ -1,0 +1,60 @@
+-- The notes of an event and of a run, as the code puts them.
+use mathlib.Core.Bool.{Bool, true, cond}
+use mathlib.Core.List.{List, [], append-nil}
+use mathlib.Core.Path.{_≡_, ap, _∙_}
+use Prim.Native.Nat.{ℕ, _-_}
+use lib.ListN.{length}
+use Rattle.cases.proofs.ByCases.{by-test}
+use Rattle.bus.specs.Bus.{notesOf}
+use Rattle.bus.specs.Calls.{Call}
+use Rattle.bus.specs.Calls.Call.{event, period}
+use Rattle.cells.specs.Notes.{noted}
+use Rattle.call_rules.specs.Kept.{Kept}
+use Rattle.call_rules.specs.Ready.{goesOn}
+use Rattle.call_rules.specs.Run.{ran, keptAfter}
+use Rattle.call_rules.specs.Lists.{told, replied, notesTold, periodTold, callsIn, allTold, runTold}
+use Rattle.call_rules.proofs.InOrder.{order-reply}
+use Rattle.call_rules.proofs.QuietRuns.{runs-are-calls}
+use Rattle.call_rules.proofs.RunLeft.{run-left}
+use Rattle.bus_octets.specs.Layout.{octetsIn, busOctets, shown, busLength, isBus}
+use Rattle.bus_octets.specs.Laws.{StoredAndShown}
+use Rattle.bus_octets.proofs.Exact.{exact}
+use Rattle.bus_octets.proofs.RoundTrip.{round-trip}
+use Rattle.host_steps.proofs.Stepped.{order}
+
+-- ---- An event that is not refused.
+pub event-notes : (k : Kept) (unit number : ℕ) (value : List ℕ) → told unit number value k .reply ≡ 0
+    → notesOf (k .bus .periods .0) unit (noted (told unit number value k .notes)) ≡ notesTold k (event unit number value)
+unfolding notesTold replied
+event-notes k unit number value z = rw z
+
+-- ---- A run that is not refused. The body of `heard` stands in the octets that it left.
+module _ (s : List ℕ) (h : isBus s ≡ true) (most : ℕ) where
+  abbrev ended : Kept
+  ended = keptAfter most (shown s)
+
+  left-fits : StoredAndShown ended
+  unfolding shown
+  left-fits =
+      let l = run-left most (shown s) (order s h) in
+      round-trip ended (order-reply 0 ended (l .order)) (l .octets-long ∙ exact s h .octets-fit)
+
+  pub left-long : length (busOctets ended) ≡ busLength
+  left-long = exact (busOctets ended) (left-fits .is-bus) .long
+
+  pub octets-left : octetsIn (busOctets ended) ≡ ended .octets
+  unfolding shown
+  octets-left = ap (λ (k : Kept). k .octets) (left-fits .shown-is)
+
+  pub run-notes : ran most (shown s) .reply ≡ 0
+      → periodTold (ran most (shown s) .bus .periods .0 - 1) (ran most (shown s)) (ended .notes) (octetsIn (busOctets ended)) ≡ runTold most (shown s)
+  unfolding runTold
+  run-notes z = rw (z, octets-left)
+
+-- ---- A run of one period is a single call.
+no-more : (b : Bool) → cond {A = List Call} b [] [] ≡ []
+no-more b = by-test b (λ t. rw t) (λ t. rw t)
+
+pub one-period : (k : Kept) → runTold 1 k ≡ notesTold k period
+unfolding callsIn allTold
+one-period k = runs-are-calls 0 k .tells ∙ rw (no-more (goesOn (ran 1 k) 0)) (append-nil (notesTold k period))
