@@ -17,7 +17,7 @@ use Rattle.listening.specs.declared.hears.UnitNotes.{UnitNotes}
 use Rattle.bus_event.specs.Event.{imagesRoom, areLetters}
 use Rattle.call_rules.specs.Kept.{Kept}
 use Rattle.bus_record.specs.Echo.{hitIn}
-use Rattle.call_rules.specs.Lists.{Carries, OctetValue, called, Same, freshKept, ListsCarried, allTold, OctetValues, ToldNotes}
+use Rattle.call_rules.specs.Lists.{Carries, OctetValue, called, Same, freshKept, ListsCarried, allTold, OctetValues, ToldNotes, calledAll}
 use Rattle.call_rules.proofs.Fitting.{Fit, always-fit}
 use Rattle.call_rules.proofs.PeriodCarried.{period-replied, period-notes, period-carried}
 use Rattle.call_rules.proofs.EventCarried.{Carried, event-carried}
@@ -44,6 +44,16 @@ same-from before (x ∷ more) k c = (
       let next : Carries (called k x) (ran freshBus (before ++ (x ∷ []))) = rw (ran-more freshBus before x) (d .carries) in
       (d .replies, d .tells, rw (ran-more freshBus before x) at (same-from (before ++ (x ∷ [])) more (called k x) next)),
 )
+
+-- all of a list, and what it leaves
+pub all-carried : (calls : List Call) (k : Kept) (b : Bus) → Carries k b → ((later : List Call) → Fit (ran b later)) → OctetValues calls
+    → Carries (calledAll k calls) (ran b calls) × (allTold k calls ≡ bus.allNotes b calls)
+unfolding calledAll allTold OctetValues ran bus.allNotes
+all-carried [] k b c fit v = (c, refl)
+all-carried (x ∷ more) k b c fit v =
+    let d = call-carried k b c (fit []) x (v .0) in
+    let r = all-carried more (called k x) (after b x) (d .carries) (λ later. fit (x ∷ later)) (v .1) in
+    (r .0, rw (d .tells, r .1))
 
 -- ---- the fresh record
 fresh-at : (n i : ℕ) → getD (replicate n freshSeat) i freshSeat ≡ freshSeat

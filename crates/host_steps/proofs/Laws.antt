@@ -1,26 +1,31 @@
 -- What holds of the calls on a bus that is lent as octets: specs/Laws.antt.
 use mathlib.Core.Bool.{true}
-use mathlib.Core.List.{List, [], _∷_}
-use mathlib.Core.Path.{_≡_, refl, ap, _∙_}
-use Prim.Native.Nat.{ℕ, _-_, _≤_}
+use mathlib.Core.List.{List, [], _∷_, _++_, append-nil}
+use mathlib.Core.Path.{_≡_, refl, sym, ap, _∙_}
+use Prim.Native.Nat.{ℕ, zero, suc, _-_, _≤_}
 use native.Mathlib.Omega.{arith}
 use lib.Dec.{eqb}
 use lib.ListN.{length, take, replicate, length-append, length-replicate}
 use lib.Seq.{take-append-seam}
 use borrow.Author.Tests.{eqb-true, eq-eqb, le-ltb}
 use Rattle.cases.proofs.ByCases.{by-test}
+use Rattle.cells.specs.Notes.{noted}
+use Rattle.bus_record.specs.NetworkSide.{refusedRun}
 use Rattle.symbols.specs.Symbols.{lineLength, within, fits}
+use Rattle.hdlc.specs.Bits.{bitOf}
 use Rattle.hdlc.specs.Image.{longestBody}
-use Rattle.bus.specs.Bus.{Bus, Note, freshBus}
-use Rattle.bus.specs.Calls.{Call, after, ran}
+use Rattle.bus.specs.Bus.{Bus, Note, freshBus, notesOf}
+use Rattle.bus.specs.Calls.{Call, after, ran, allNotes}
 use Rattle.bus.specs.Calls.Call.{event, period}
 use Rattle.bus_event.specs.Event.{imagesRoom, areLetters}
 use Rattle.call_rules.specs.Kept.{Kept}
-use Rattle.call_rules.specs.Lists.{Carries, told, called, replied, notesTold, runTold}
-use Rattle.call_rules.specs.Run.{ran as once, keptAfter}
+use Rattle.call_rules.specs.Ready.{goesOn}
+use Rattle.call_rules.specs.Lists.{Carries, told, called, replied, notesTold, runTold, OctetValues, callsIn, calledAll, allTold, periodTold, readerTold, terminalsTold, timersTold}
+use Rattle.call_rules.specs.Run.{ran as once, ranOn, keptOn, notYet, keptAfter}
 use Rattle.call_rules.proofs.InOrder.{InOrder, order-reply}
 use Rattle.call_rules.proofs.Fitting.{Fit, always-fit}
-use Rattle.call_rules.proofs.Lists.{call-carried}
+use Rattle.call_rules.proofs.Lists.{call-carried, all-carried}
+use Rattle.call_rules.proofs.QuietRuns.{runs-are-calls}
 use Rattle.call_rules.proofs.Refused as turned-down
 use Rattle.call_rules.proofs.RunLeft.{run-left}
 use Rattle.note_text.specs.Room.{laid}
@@ -37,11 +42,12 @@ use Rattle.bus_octets.proofs.RoundTrip.{round-trip}
 use Rattle.bus_octets.proofs.Lengths.{laid-front}
 use Rattle.host_bus.specs.Fresh.{freshKept, freshOctets}
 use Rattle.host_bus.specs.Lent.{lentReason}
-use Rattle.host_steps.specs.Stepping.{notesOctets, notesRoom, reason, replyWith, busWith, notesWith, hostReply, hostBus, hostNotes, hostRunReply, hostRunBus, hostRunNotes}
+use Rattle.host_steps.specs.Stepping.{notesOctets, notesRoom, reason, replyWith, busWith, notesWith, mostTo, hostReply, hostBus, hostNotes, hostRunReply, hostRunBus, hostRunNotes}
 use Rattle.host_steps.specs.Laws as laws
+use Rattle.host_steps.specs.Laws.HostCall.{step, runTo}
 use Rattle.host_steps.proofs.Answers.{lent-bus}
 use Rattle.host_steps.proofs.Stepped.{order}
-use Rattle.host_steps.proofs.Told.{one-period}
+use Rattle.host_steps.proofs.Told.{left-fits, one-period}
 
 -- ---- A refused call.
 module _ (s room : List ℕ) (reply : ℕ) (left : Kept) (notes : List Note) where
@@ -105,32 +111,107 @@ left-stored s c h =
     let o = order-called (shown s) c (order s h) in
     round-trip (called (shown s) c) (order-reply 0 (called (shown s) c) o) (octets-called (shown s) c (order s h) ∙ exact s h .octets-fit)
 
+-- ---- What stands for a bus, through the calls of document 01 and through a run of periods.
+periods-values : (n : ℕ) (k : Kept) → OctetValues (callsIn n k)
+unfolding callsIn OctetValues
+periods-values zero k = tt
+periods-values (suc n) k = (tt, by-test (goesOn (once 1 k) n) (λ t. rw t (periods-values n (keptAfter 1 k))) (λ t. rw t tt))
+
+ran-append : (b : Bus) (xs ys : List Call) → ran b (xs ++ ys) ≡ ran (ran b xs) ys
+unfolding ran
+ran-append b [] ys = refl
+ran-append b (x ∷ xs) ys = ran-append (after b x) xs ys
+
+fit-on : (b : Bus) (calls : List Call) → ((later : List Call) → Fit (ran b later)) → (later : List Call) → Fit (ran (ran b calls) later)
+fit-on b calls fit later = rw (← ran-append b calls later) (fit (calls ++ later))
+
+record Goes (b : Bus) (calls : List Call) (reply : ℕ) (left : Kept) (told : List Note) : Type 0 where
+  carries : Carries left (ran b calls)
+  replies : reply ≡ laws.firstReply b calls
+  tells : told ≡ allNotes b calls
+
+module _ (s : List ℕ) (b : Bus) (h : isBus s ≡ true) (fit : (later : List Call) → Fit (ran b later)) (c : Carries (shown s) b) where
+  one-goes : (x : Call) → OctetValues (x ∷ []) → Goes b (x ∷ []) (replied (shown s) x) (called (shown s) x) (notesTold (shown s) x)
+  unfolding laws.firstReply calledAll allTold ran OctetValues
+  one-goes x v =
+      let a = all-carried (x ∷ []) (shown s) b c fit v in
+      record {
+        carries = a .0;
+        replies = call-carried (shown s) b c (fit []) x (v .0) .replies;
+        tells = sym (append-nil (notesTold (shown s) x)) ∙ a .1;
+      }
+
+  -- a run of no periods
+  none-left : Carries (keptAfter 0 (shown s)) (ran b [])
+  unfolding keptAfter keptOn ran
+  none-left = c
+
+  none-refused : once 0 (shown s) .reply ≡ 0
+  unfolding once ranOn notYet refusedRun
+  none-refused = exact s h .ready
+
+  none-told : runTold 0 (shown s) ≡ []
+  unfolding runTold once ranOn notYet refusedRun keptAfter keptOn periodTold readerTold terminalsTold timersTold notesOf noted bitOf shown
+  none-told = rw (exact s h .ready) refl
+
+  run-goes : (most : ℕ) → Goes b (callsIn most (shown s)) (once most (shown s) .reply) (keptAfter most (shown s)) (runTold most (shown s))
+  unfolding laws.firstReply callsIn ran allNotes
+  run-goes zero = record { carries = none-left; replies = none-refused; tells = none-told }
+  run-goes (suc n) =
+      let r = runs-are-calls n (shown s) in
+      let a = all-carried (callsIn (suc n) (shown s)) (shown s) b c fit (periods-values (suc n) (shown s)) in
+      record {
+        carries = rw (r .leaves) (a .0);
+        replies = r .replies ∙ call-carried (shown s) b c (fit []) period tt .replies;
+        tells = r .tells ∙ a .1;
+      }
+
 -- ---- Lists.
 module _ (room : List ℕ) (large : notesRoom ≤ length room) where
   passed : (s : List ℕ) → isBus s ≡ true → reason s room ≡ 0
   unfolding lentReason
   passed s h = rw (h, le-ltb (length room) notesRoom large)
 
-  from : (list : List Call) (s : List ℕ) (b : Bus) → isBus s ≡ true → ((later : List Call) → Fit (ran b later)) → Carries (shown s) b
-      → laws.SteppedAll b s room list
-  unfolding laws.SteppedAll ran hostReply hostBus hostNotes replyWith busWith notesWith settled
-  from [] s b h fit c = h
-  from (x ∷ more) s b h fit c = λ octets.
-      let d = call-carried (shown s) b c (fit []) x octets in
-      let z = passed s h in
-      let e = eq-eqb _ _ z in
-      let left = left-stored s x h in
-      let fits = notes-fit s x h in
-      let text : List ℕ = notesOctets (notesTold (shown s) x) in
-      let whole : take (length text) (laid room 0 text) ≡ text = rw (laid-front text room (omega arith)) (take-append-seam text _) in
-      let next : Carries (shown (busOctets (called (shown s) x))) (after b x) =
-      rw (left .shown-is) (settled-carries (called (shown s) x) (after b x) (d .carries)) in (
+  -- the notes of a call that fit stand in the room whole
+  whole : (text : List ℕ) → length text ≤ notesRoom → take (length text) (laid room 0 text) ≡ text
+  whole text fits = rw (laid-front text room (omega arith)) (take-append-seam text _)
+
+  -- a call whose parts are these
+  module _ (s : List ℕ) (b : Bus) (h : isBus s ≡ true) (x : laws.HostCall) (reply : ℕ) (left : Kept) (told : List Note) where
+    stepped-by : laws.replyTo s room x ≡ replyWith s room reply → laws.notesAfter s room x ≡ notesWith s room reply told
+        → Goes b (laws.callsOf s x) reply left told → length (notesOctets told) ≤ notesRoom → laws.SteppedBy b s room x
+    unfolding replyWith notesWith
+    stepped-by r n g fits =
+        let e = eq-eqb _ _ (passed s h) in
+        let r′ : laws.replyTo s room x ≡ reply = r ∙ rw e in
         record {
           is-bus = h;
-          replies = rw e (d .replies);
-          tells = λ y. rw (← d .tells, e, eq-eqb _ _ (rw e at y)) whole;
-        },
-        rw e (from more (busOctets (called (shown s) x)) (after b x) (left .is-bus) (λ later. fit (x ∷ later)) next),
+          replies = r′ ∙ g .replies;
+          tells = λ y. rw (n, e, eq-eqb _ _ (sym r′ ∙ y), ← g .tells) (whole (notesOctets told) fits);
+        }
+
+  next-bus : (s : List ℕ) (b : Bus) (left : Kept) → isBus s ≡ true → Carries left b → StoredAndShown left
+      → (isBus (busWith s room left) ≡ true) × Carries (shown (busWith s room left)) b
+  unfolding busWith settled
+  next-bus s b left h c stored =
+      rw (eq-eqb _ _ (passed s h)) ((stored .is-bus, rw (stored .shown-is) (settled-carries left b c)))
+
+  from : (list : List laws.HostCall) (s : List ℕ) (b : Bus) → isBus s ≡ true → ((later : List Call) → Fit (ran b later)) → Carries (shown s) b
+      → laws.SteppedAll b s room list
+  unfolding laws.SteppedAll laws.replyTo laws.busAfter laws.notesAfter laws.callsOf hostReply hostBus hostNotes hostRunReply hostRunBus hostRunNotes OctetValues
+  from [] s b h fit c = h
+  from (step x ∷ more) s b h fit c = λ v.
+      let g = one-goes s b h fit c x (v, tt) in
+      let n = next-bus s (ran b (x ∷ [])) (called (shown s) x) h (g .carries) (left-stored s x h) in (
+        stepped-by s b h (step x) _ _ _ refl refl g (notes-fit s x h),
+        from more (busWith s room (called (shown s) x)) (ran b (x ∷ [])) (n .0) (fit-on b (x ∷ []) fit) (n .1),
+      )
+  from (runTo until ∷ more) s b h fit c = λ v.
+      let most : ℕ = mostTo until s in
+      let g = run-goes s b h fit c most in
+      let n = next-bus s (ran b (callsIn most (shown s))) (keptAfter most (shown s)) h (g .carries) (left-fits s h most) in (
+        stepped-by s b h (runTo until) _ _ _ refl refl g (run-notes-fit s most h),
+        from more (busWith s room (keptAfter most (shown s))) (ran b (callsIn most (shown s))) (n .0) (fit-on b (callsIn most (shown s)) fit) (n .1),
       )
 
 -- ---- The fresh bus.

@@ -33,7 +33,7 @@ module _ (s : List ℕ) (h : isBus s ≡ true) (most : ℕ) where
   abbrev ended : Kept
   ended = keptAfter most (shown s)
 
-  left-fits : StoredAndShown ended
+  pub left-fits : StoredAndShown ended
   unfolding shown
   left-fits =
       let l = run-left most (shown s) (order s h) in

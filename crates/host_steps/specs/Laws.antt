@@ -5,11 +5,11 @@ use mathlib.Core.Path.{_≡_}
 use Prim.Native.Nat.{ℕ, _≤_}
 use lib.ListN.{length, take}
 use Rattle.bus.specs.Bus.{Bus, freshBus}
-use Rattle.bus.specs.Calls.{Call, reply, notes, after}
-use Rattle.call_rules.specs.Lists.{OctetValue, notesTold, runTold}
+use Rattle.bus.specs.Calls.{Call, reply, ran, allNotes}
+use Rattle.call_rules.specs.Lists.{OctetValue, notesTold, callsIn, runTold}
 use Rattle.bus_octets.specs.Layout.{shown, isBus}
 use Rattle.host_bus.specs.Fresh.{freshOctets}
-use Rattle.host_steps.specs.Stepping.{notesOctets, notesRoom, hostReply, hostBus, hostNotes, hostRunReply, hostRunBus, hostRunNotes}
+use Rattle.host_steps.specs.Stepping.{notesOctets, notesRoom, hostReply, hostBus, hostNotes, mostTo, hostRunReply, hostRunBus, hostRunNotes}
 
 -- "The number comes back alone; record and lent buffers keep their contents": of whatever octets and whatever room are lent.
 pub record Untouched (s room s′ room′ : List ℕ) : Type 0 where
@@ -29,16 +29,51 @@ NotesFit = (s : List ℕ) (c : Call) → isBus s ≡ true → length (notesOctet
 abbrev pub RunNotesFit : Type 0
 RunNotesFit = (s : List ℕ) (most : ℕ) → isBus s ≡ true → length (notesOctets (runTold most (shown s))) ≤ notesRoom
 
--- ---- Lists of calls on a fresh bus, each with room for notes: every call gives the reply and the notes of document 01's rules for the same calls
--- (crate `bus`, specs/Calls.antt), its notes whole, and leaves a bus. So demand 3 (specs/Claims.antt there) speaks of these calls.
-pub record SteppedBy (b : Bus) (s room : List ℕ) (c : Call) : Type 0 where
-  pub is-bus : isBus s ≡ true
-  pub replies : hostReply s room c ≡ reply b c
-  pub tells : hostReply s room c ≡ 0 → take (length (notesOctets (notes b c))) (hostNotes s room c) ≡ notesOctets (notes b c)
+-- ---- Lists of a host's calls on a fresh bus, each with room for notes: an event or a period, or a run until so many periods have been run.
+pub data HostCall : Type 0 where
+  step : Call → HostCall
+  runTo : ℕ → HostCall
 
-unfoldable pub SteppedAll : Bus → List ℕ → List ℕ → List Call → Type 0
+-- what the call gives on octets s
+unfoldable pub replyTo : List ℕ → List ℕ → HostCall → ℕ
+replyTo s room (step c) = hostReply s room c
+replyTo s room (runTo until) = hostRunReply s room (mostTo until s)
+
+unfoldable pub busAfter : List ℕ → List ℕ → HostCall → List ℕ
+busAfter s room (step c) = hostBus s room c
+busAfter s room (runTo until) = hostRunBus s room (mostTo until s)
+
+unfoldable pub notesAfter : List ℕ → List ℕ → HostCall → List ℕ
+notesAfter s room (step c) = hostNotes s room c
+notesAfter s room (runTo until) = hostRunNotes s room (mostTo until s)
+
+-- The calls of document 01 that it stands for: a run for as many periods as it runs (crate `call_rules`, specs/Lists.antt).
+unfoldable pub callsOf : List ℕ → HostCall → List Call
+callsOf s (step c) = c ∷ []
+callsOf s (runTo until) = callsIn (mostTo until s) (shown s)
+
+-- of a run the first period is refused or none; a run of no periods is not refused
+unfoldable pub firstReply : Bus → List Call → ℕ
+firstReply b [] = 0
+firstReply b (c ∷ more) = reply b c
+
+-- Every call gives the reply and the notes of document 01's rules for the calls that it stands for (crate `bus`, specs/Calls.antt), its notes whole,
+-- and leaves a bus. So demand 3 (specs/Claims.antt there) speaks of these calls.
+pub record SteppedBy (b : Bus) (s room : List ℕ) (c : HostCall) : Type 0 where
+  pub is-bus : isBus s ≡ true
+  pub replies : replyTo s room c ≡ firstReply b (callsOf s c)
+  pub tells : replyTo s room c ≡ 0
+      → take (length (notesOctets (allNotes b (callsOf s c)))) (notesAfter s room c) ≡ notesOctets (allNotes b (callsOf s c))
+
+-- values are octets
+abbrev pub OctetsGiven : HostCall → Type 0
+OctetsGiven (step c) = OctetValue c
+OctetsGiven (runTo until) = Unit
+
+unfoldable pub SteppedAll : Bus → List ℕ → List ℕ → List HostCall → Type 0
 SteppedAll b s room [] = isBus s ≡ true
-SteppedAll b s room (c ∷ more) = OctetValue c → SteppedBy b s room c × SteppedAll (after b c) (hostBus s room c) room more
+SteppedAll b s room (c ∷ more) =
+    OctetsGiven c → SteppedBy b s room c × SteppedAll (ran b (callsOf s c)) (busAfter s room c) room more
 
 abbrev pub ListsStepped : Type 0
-ListsStepped = (room : List ℕ) (calls : List Call) → notesRoom ≤ length room → SteppedAll freshBus freshOctets room calls
+ListsStepped = (room : List ℕ) (calls : List HostCall) → notesRoom ≤ length room → SteppedAll freshBus freshOctets room calls
