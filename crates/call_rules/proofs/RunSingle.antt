@@ -1,12 +1,12 @@
 -- A run is as many single calls of `period`: `specs/Run.antt`.
 use mathlib.Core.Path.{_≡_, refl, sym, _∙_}
-use mathlib.Core.Bool.{Bool, true, false, not, _&&_}
+use mathlib.Core.Bool.{true, false, not, _&&_}
 use Prim.Native.Nat.{ℕ, zero, suc}
 use native.Mathlib.Omega.{arith}
 use lib.Dec.{eqb, ltb}
 use borrow.Author.Tests.{eqb-true, lt-ltb, ltb-true}
 use Rattle.cases.proofs.ByCases.{by-test}
-use Rattle.cases.proofs.Operators.{and-both}
+use Rattle.cases.proofs.Operators.{and-both, not-true}
 use Rattle.timing.specs.Counts.{allRun}
 use Rattle.bus_record.specs.NetworkSide.{refusedRun}
 use Rattle.bus_record.specs.declared.side.Ran.{Ran}
@@ -35,15 +35,11 @@ pub stays : (n m : ℕ) (k : Kept) → eqb (runReply n k) 0 ≡ false → goesOn
 unfolding goesOn notYet refusedRun
 stays n m k h = rw h
 
-no-nots : (a : Bool) → not a ≡ true → a ≡ false
-no-nots true h = sym h
-no-nots false h = refl
-
 pub goes-facts : (last : Ran) (n : ℕ) → goesOn last n ≡ true → (ltb 0 n ≡ true) × (allRun (last .bus .periods) ≡ false)
 unfolding goesOn
 goes-facts last n g =
     let a = and-both _ (not (allRun (last .bus .periods))) g in
-    (and-both (eqb (last .reply) 0 && not (last .told)) (ltb 0 n) (a .0) .1, no-nots _ (a .1))
+    (and-both (eqb (last .reply) 0 && not (last .told)) (ltb 0 n) (a .0) .1, not-true _ (a .1))
 
 -- ---- The first period, where the run is not refused.
 pub first-ran : (n : ℕ) (k : Kept) → runReply (suc n) k ≡ 0 → ran (suc n) k ≡ ranOn n (periodRan k) (keptRun k)

@@ -1,6 +1,6 @@
 -- The sentences of document 01, "D access (6.1)", about one terminal's access, each a lemma over every record, for normal levels x1
 -- of class 1 and x2 of class 2.
-use mathlib.Core.Bool.{Bool, true, false, cond, true≢false, Bool·beq}
+use mathlib.Core.Bool.{Bool, true, false, cond, not, _&&_, true≢false, Bool·beq}
 use mathlib.Core.Path.{_≡_, refl, sym, ap, _∙_, subst}
 use mathlib.Core.Logic.{_↔_, _⊎_, inl, inr}
 use mathlib.Core.List.{List, [], _∷_, _++_}
@@ -13,10 +13,11 @@ use lib.Seq.{getD-at, append-snoc, take-suc}
 use borrow.Author.Tests.{ltb-true, ltb-false, leb-true, leb-false, eqb-true, eqb-false, lt-ltb, le-ltb, le-leb, lt-leb, eq-eqb, ne-eqb}
 use Rattle.hdlc.specs.Bits.{sameBit}
 use Rattle.hdlc.specs.Image.{image, shortestImage, longestImage, IsBody}
-use Rattle.dchannel.specs.Access.{entered, countAfter, lowAfter, afterE, sending, lowOf, threshold, mayStart, sendsNext, stops, completes, idles, turn, leavesAt}
+use Rattle.dchannel.specs.Access.{entered, countAfter, lowAfter, afterE, sending, lowOf, threshold, mayStart, sendsNext, stops, completes, idles, turn, leavesAt, atRest}
 use Rattle.dchannel.specs.Handing.{classNumber, isImageLength, takenUp, handed, left}
 use Rattle.hdlc.specs.Ones.{endingOnes}
 use Rattle.cases.proofs.ByCases.{by-test, both}
+use Rattle.cases.proofs.Operators.{and-both, not-true}
 use Rattle.hdlc.proofs.OnesLaws.{ending-one}
 use Rattle.hdlc.proofs.ImageLaws.{length-image, image-least, image-most}
 use Rattle.dchannel.specs.declared.access.Access.{Access}
@@ -642,3 +643,18 @@ sends-whole x1 x2 (c ∷ ahead) e a n l r =
 pub image-whole : (x1 x2 : ℕ) (body : List ℕ) (e : Bool) (a : Access) → a .length ≡ length (image body) → Ready x1 x2 e a
     → Whole x1 x2 (image body) e a
 image-whole x1 x2 body e a l r = sends-whole x1 x2 (image body) e a (omega (arith, length-image body)) l r
+
+-- An access at rest: an E of 1 changes nothing, nothing leaves and nothing is completed.
+pub rests : (x1 x2 : ℕ) (next : Bool) (a : Access) → x1 < x2 → atRest x2 a ≡ true → turn x1 x2 true next a ≡ idles a
+unfolding atRest afterE countAfter lowAfter mayStart
+rests x1 x2 next a l h =
+    let p = and-both _ _ h in
+    let q = and-both _ _ (p .0) in
+    let r = and-both _ _ (q .0) in
+    let held : a .held ≡ 0 = eqb-true _ _ (r .0) in
+    let count : a .count ≡ x2 + 1 = eqb-true _ _ (q .1) in
+    let low : a .low2 ≡ false = not-true _ (p .1) in
+    let end : ltb (x2 + 1) (x2 + 1) ≡ false = le-ltb (x2 + 1) (x2 + 1) (omega arith) in
+    let apart : eqb (x2 + 1) (x1 + 1) ≡ false = ne-eqb (x2 + 1) (x1 + 1) (λ z. omega arith) in
+    let same : eqb (x2 + 1) (x2 + 1) ≡ true = eq-eqb (x2 + 1) (x2 + 1) refl in
+    idles-it x1 x2 true next a (eqb-true _ _ (r .1)) (rw held) ∙ rw (count, end, apart, same, low)

@@ -1,7 +1,7 @@
 // One terminal's access to the D channel (document 01, "D access (6.1)").
 ghost use mathlib.Core.Path.{_≡_};
 ghost use mathlib.Core.Bool.{cond};
-ghost use Rattle.dchannel.specs.Access.{normal1, normal2, fresh, entered, afterE, mayStart, completes, stops, turn};
+ghost use Rattle.dchannel.specs.Access.{normal1, normal2, fresh, entered, afterE, mayStart, completes, stops, turn, atRest};
 ghost use Rattle.dchannel.specs.Handing.{handed, left};
 ghost use Rattle.dchannel.specs.Ranges.{accessInRange};
 
@@ -238,6 +238,13 @@ impl Access {
             return NORMAL_1 + self.low1 as u8 <= self.count;
         }
         (self.held != 0) & (NORMAL_2 + self.low2 as u8 <= self.count)
+    }
+
+    // Whether every further E of 1 leaves the record as it is.
+    pub fn at_rest(self) -> bool
+        ensures { λ r. ⌜ r ≡ atRest normal2 self ⌝ }
+    {
+        (self.held == 0) & (self.sent == 0) & (self.count == NORMAL_2 + 1) & !self.low2
     }
 
     // Whether every field is in its range.

@@ -3,4 +3,5 @@
 pub mod Images
 pub mod Turning
 pub mod Shown
+pub mod Resting
 pub mod Structs

@@ -6,6 +6,8 @@ use Rattle.terminal.proofs.Terminal as T
 use Rattle.terminal.proofs.Terminal.Laws as T′
 use Rattle.exchange.proofs.moment.Moment as M
 use Rattle.exchange.proofs.moment.Moment.Laws as M′
+use Rattle.exchange.proofs.rest.Rest as R
+use Rattle.exchange.proofs.rest.Rest.Laws as R′
 use Rattle.exchange.proofs.part.Part as P
 use Rattle.exchange.proofs.part.Part.Laws as P′
 
@@ -17,3 +19,6 @@ moments = struct-kind M.the-type M′.the-laws M′.the-plain M′.the-copy M′
 
 abbrev pub parts : Kind P.the-row
 parts = struct-kind P.the-type P′.the-laws P′.the-plain P′.the-copy P′.mir refl
+
+abbrev pub rests : Kind R.the-row
+rests = struct-kind R.the-type R′.the-laws R′.the-plain R′.the-copy R′.mir refl

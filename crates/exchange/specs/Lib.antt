@@ -3,4 +3,5 @@
 pub mod Moment
 pub mod Part
 pub mod Opportunities
+pub mod Rest
 pub mod Shown

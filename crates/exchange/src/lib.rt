@@ -2,3 +2,4 @@
 pub mod moment;
 pub mod opportunity;
 pub mod part;
+pub mod rest;

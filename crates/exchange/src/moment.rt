@@ -1,8 +1,10 @@
 // The exchange of a period as an E comes, in the few values that it takes: no symbol is built.
 ghost use mathlib.Core.Path.{_≡_};
+ghost use mathlib.Core.Bool.{not};
 ghost use Rattle.combining.specs.Hit.{struckBit};
 ghost use Rattle.bus.specs.Quick.{sentE};
 ghost use Rattle.exchange.specs.Moment as spec;
+ghost use Rattle.exchange.specs.Rest as rest;
 use combining::hit::KEEP_LETTER;
 use combining::hit::MINUS_LETTER;
 use combining::hit::PLUS_LETTER;
@@ -165,6 +167,59 @@ impl Moment {
             d: self.d,
             calling: self.calling,
             frames: self.frames,
+        }
+    }
+
+    // Whether it is no exchange of which no opportunity has gone yet and all four E are 1 as long as D is.
+    pub fn must_turn(self) -> bool
+        ensures { λ r. ⌜ r ≡ not (rest.mayRest self) ⌝ }
+    {
+        let ds = self.ds;
+        let letters = self.letters;
+        let first = ds.first & ds.second & ds.third & ds.fourth
+            & (self.place == 0)
+            & (self.done1 == 0)
+            & (self.done2 == 0)
+            & self.e
+            & self.d
+            & !self.calling
+            & !self.frames;
+        let e = sent_e(self.state, true);
+        let ones = struck_bit(letters.first, sent_e(self.state, self.heard))
+            & struck_bit(letters.second, e)
+            & struck_bit(letters.third, e)
+            & struck_bit(letters.fourth, e);
+        !(first & ones)
+    }
+
+    // Four opportunities in which D was 1 throughout; `frames` is whether any terminal sends INFO 3.
+    pub fn rested(self, frames: bool) -> Self
+        ensures { λ r. ⌜ r ≡ rest.restMoment (self .state) (self .letters) frames ⌝ }
+    {
+        let letters = Letters {
+            first: KEEP_LETTER,
+            second: KEEP_LETTER,
+            third: KEEP_LETTER,
+            fourth: KEEP_LETTER,
+        };
+        let ds = Four {
+            first: true,
+            second: true,
+            third: true,
+            fourth: true,
+        };
+        Moment {
+            letters,
+            ds,
+            state: self.state,
+            place: 0,
+            done1: 0,
+            done2: 0,
+            heard: true,
+            e: struck_bit(self.letters.fourth, sent_e(self.state, true)),
+            d: true,
+            calling: false,
+            frames,
         }
     }
 }

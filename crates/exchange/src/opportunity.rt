@@ -3,6 +3,7 @@ ghost use mathlib.Core.Path.{_≡_};
 ghost use Rattle.exchange.specs.Opportunities.{momentAfter, terminalsAfter, momentAfterFour, terminalsAfterFour};
 use super::moment::Moment;
 use super::part::one_turn;
+use super::rest::rest_of;
 use terminal::Terminal;
 
 // One D opportunity: an E that all terminals in F7 hear, and the D after it.
@@ -21,12 +22,26 @@ pub fn opportunity(terminals: &mut [Terminal], images: &[u8], before: Moment) ->
     moment.ended()
 }
 
-// The four D opportunities of a period.
-pub fn exchange(terminals: &mut [Terminal], images: &[u8], first: Moment) -> Moment
+// The four D opportunities of a period, one after the other.
+fn four_turns(terminals: &mut [Terminal], images: &[u8], first: Moment) -> Moment
     ensures { λ r. ⌜ (r ≡ momentAfterFour (now (images .entry)) first (now (terminals .entry))) × (now (terminals .exit) ≡ terminalsAfterFour (now (images .entry)) first (now (terminals .entry))) ⌝ }
 {
     let second = opportunity(terminals, images, first);
     let third = opportunity(terminals, images, second);
     let fourth = opportunity(terminals, images, third);
     opportunity(terminals, images, fourth)
+}
+
+// The four D opportunities of a period. Where the E are 1 and no terminal takes part, nothing changes.
+pub fn exchange(terminals: &mut [Terminal], images: &[u8], first: Moment) -> Moment
+    ensures { λ r. ⌜ (r ≡ momentAfterFour (now (images .entry)) first (now (terminals .entry))) × (now (terminals .exit) ≡ terminalsAfterFour (now (images .entry)) first (now (terminals .entry))) ⌝ }
+{
+    if first.must_turn() {
+        return four_turns(terminals, images, first);
+    }
+    let rest = rest_of(terminals);
+    if rest.still {
+        return first.rested(rest.frames);
+    }
+    four_turns(terminals, images, first)
 }

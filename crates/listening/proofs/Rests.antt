@@ -2,14 +2,16 @@
 use mathlib.Core.Path.{_≡_, refl, sym, _∙_}
 use mathlib.Core.Bool.{Bool, true, false, not, _&&_}
 use mathlib.Core.List.{[]}
-use Prim.Native.Nat.{ℕ}
-use lib.Dec.{eqb}
-use borrow.Author.Tests.{eqb-true}
+use Prim.Native.Nat.{ℕ, _≤_}
+use native.Mathlib.Omega.{arith}
+use lib.Dec.{eqb, leb}
+use borrow.Author.Tests.{eqb-true, eqb-false, leb-true}
 use Rattle.cases.proofs.ByCases.{by-test, clash}
+use Rattle.cases.proofs.Operators.{and-both, not-true}
 use Rattle.cells.specs.Notes.{packedNotes}
 use Rattle.cells.specs.Cells.{cellIn}
 use Rattle.dchannel.specs.declared.access.Access.{Access}
-use Rattle.table_6_2.specs.Table62.{F1, F3, F7}
+use Rattle.table_6_2.specs.Table62.{F1, F3, F4, F5, F7}
 use Rattle.timing.specs.Counts.{nextPeriod}
 use Rattle.timing.specs.Timers.{due}
 use Rattle.timing.specs.declared.counts.Periods.{Periods}
@@ -19,9 +21,18 @@ use Rattle.hearing.specs.declared.heard.Downward.{Downward}
 use Rattle.terminal.specs.Terminal.{unchanged, acts, happens, aligned, heardAs, hears, timer, ready, checked}
 use Rattle.terminal.specs.declared.Terminal.{Terminal}
 use Rattle.terminal.specs.declared.TerminalStep.{TerminalStep}
-use Rattle.listening.specs.Hears.{rests, heardStep, timedStep, hasNote, heardOne}
+use Rattle.listening.specs.Hears.{isWaiting, rests, heardStep, timedStep, hasNote, heardOne}
 
--- ---- the two cells, each computed
+-- one of the three states
+waiting-is {ℓ} : {X : Type ℓ} (state : ℕ) → isWaiting state ≡ true → (state ≡ F3 → X) → (state ≡ F4 → X) → (state ≡ F5 → X) → X
+waiting-is state h three four five =
+    let p = and-both (leb F3 state) (leb state F5) h in
+    let low : F3 ≤ state = leb-true F3 state (p .0) in
+    let high : state ≤ F5 = leb-true state F5 (p .1) in
+    by-test (eqb state F3) (λ t. three (eqb-true state F3 t))
+    (λ t. by-test (eqb state F4) (λ u. four (eqb-true state F4 u)) (λ u. five (omega (arith, eqb-false state F3 t, eqb-false state F4 u))))
+
+-- ---- the cells, each computed
 module _ (now t3 : ℕ) (access : Access) where
   in-F7 : (state run : ℕ) (al pulse framed a : Bool) → state ≡ F7 → run ≡ 0 → (((al && pulse) && framed) && a) ≡ true →
       hears (record { pulse = pulse; framed = framed; a = a }) now (record { t3 = t3; access = access; state = state; alignment = record { aligned = al; run = run } })
@@ -33,13 +44,13 @@ module _ (now t3 : ℕ) (access : Access) where
   in-F7 state run true false framed a p q h = clash false h refl
   in-F7 state run false pulse framed a p q h = clash false h refl
 
-  in-F3 : (state run : ℕ) (al pulse framed a : Bool) → state ≡ F3 → run ≡ 0 → (not al && not pulse) ≡ true →
+  in-silence : (state run : ℕ) (al pulse framed a : Bool) → isWaiting state ≡ true → run ≡ 0 → (not al && not pulse) ≡ true →
       hears (record { pulse = pulse; framed = framed; a = a }) now (record { t3 = t3; access = access; state = state; alignment = record { aligned = al; run = run } })
       ≡ unchanged 0 (record { t3 = t3; access = access; state = state; alignment = record { aligned = al; run = run } })
   unfolding hears heardAs aligned happens acts followed downwardEvent cellIn
-  in-F3 state run false false framed a p q h = rw (p, q)
-  in-F3 state run true pulse framed a p q h = clash false h refl
-  in-F3 state run false true framed a p q h = clash false h refl
+  in-silence state run false false framed a p q h = waiting-is state p (λ e. rw (e, q)) (λ e. rw (e, q)) (λ e. rw (e, q))
+  in-silence state run true pulse framed a p q h = clash false h refl
+  in-silence state run false true framed a p q h = clash false h refl
 
 in-F1 : (line : Downward) (now : ℕ) (t : Terminal) → eqb (t .state) F1 ≡ true → hears line now t ≡ unchanged 0 t
 unfolding hears
@@ -54,8 +65,8 @@ rests-hears line now t h =
     by-test (eqb (t .state) F7)
     (λ v. in-F7 now (t .t3) (t .access) (t .state) (t .alignment .run) (t .alignment .aligned) (line .pulse) (line .framed) (line .a) (eqb-true _ _ v) (eqb-true _ _ u) (rw v at h1))
     (λ v. let h2 = rw v at h1 in
-    by-test (eqb (t .state) F3)
-    (λ w. in-F3 now (t .t3) (t .access) (t .state) (t .alignment .run) (t .alignment .aligned) (line .pulse) (line .framed) (line .a) (eqb-true _ _ w) (eqb-true _ _ u) (rw w at h2))
+    by-test (isWaiting (t .state))
+    (λ w. in-silence now (t .t3) (t .access) (t .state) (t .alignment .run) (t .alignment .aligned) (line .pulse) (line .framed) (line .a) w (eqb-true _ _ u) (rw w at h2))
     (λ w. in-F1 line now t (rw w at h2))))
     (λ u. in-F1 line now t (rw u at h))
 
@@ -85,11 +96,7 @@ module _ (line : Downward) (now : Periods) (t : Terminal) (r : rests line t ≡ 
   unfolding heardOne hasNote
   one-rests = rw (hearing-rests .1, timing-rests .0, timing-rests .1)
 
-not-held : (b : Bool) → not b ≡ true → b ≡ false
-not-held true h = clash false h refl
-not-held false h = refl
-
 -- The same, as the code finds it.
 pub rested : (line : Downward) (now : Periods) (t : Terminal) {next : Periods} {r d : Bool} → next ≡ nextPeriod now → r ≡ rests line t → r ≡ true → d ≡ due (t .t3) (next .0) → not d ≡ true →
     record { terminal = t; notes = record { heard = packedNotes []; timed = packedNotes [] }; told = false } ≡ heardOne line now t
-rested line now t {next} {r} {d} n p q e f = sym (one-rests line now t (sym p ∙ q) (rw n at (sym e ∙ not-held d f)))
+rested line now t {next} {r} {d} n p q e f = sym (one-rests line now t (sym p ∙ q) (rw n at (sym e ∙ not-true d f)))

@@ -2,10 +2,10 @@
 use mathlib.Core.Bool.{Bool, false, cond, not, _&&_, _||_}
 use mathlib.Core.List.{List}
 use Prim.Native.Nat.{ℕ}
-use lib.Dec.{eqb, ltb}
+use lib.Dec.{eqb, ltb, leb}
 use lib.ListN.{length}
 use Rattle.walks.specs.Over.{mapFrom, foldFrom}
-use Rattle.table_6_2.specs.Table62.{F1, F3, F7}
+use Rattle.table_6_2.specs.Table62.{F1, F3, F5, F7}
 use Rattle.timing.specs.Counts.{nextPeriod}
 use Rattle.timing.specs.declared.counts.Periods.{Periods}
 use Rattle.hearing.specs.declared.heard.Downward.{Downward}
@@ -16,13 +16,17 @@ use Rattle.cells.specs.declared.notes.Notes.{Notes}
 use Rattle.listening.specs.declared.hears.UnitNotes.{UnitNotes}
 use Rattle.listening.specs.declared.hears.HeardOne.{HeardOne}
 
+-- F3, F4 and F5: what a terminal without alignment does not leave in silence
+abbrev pub isWaiting : ℕ → Bool
+isWaiting state = leb F3 state && leb state F5
+
 -- whether a terminal hears what it has heard before, so that nothing happens
 unfoldable pub rests : Downward → Terminal → Bool
 rests line t =
     cond (eqb (t .alignment .run) 0)
     (cond (eqb (t .state) F7)
     (((t .alignment .aligned && line .pulse) && line .framed) && line .a)
-    (cond (eqb (t .state) F3) (not (t .alignment .aligned) && not (line .pulse)) (eqb (t .state) F1)))
+    (cond (isWaiting (t .state)) (not (t .alignment .aligned) && not (line .pulse)) (eqb (t .state) F1)))
     (eqb (t .state) F1)
 
 -- the two calls one after the other

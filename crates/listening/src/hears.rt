@@ -6,6 +6,7 @@ use cells::notes::Notes;
 use hearing::heard::Downward;
 use table_6_2::F1;
 use table_6_2::F3;
+use table_6_2::F5;
 use table_6_2::F7;
 use terminal::Terminal;
 use timing::counts::Periods;
@@ -24,7 +25,8 @@ pub struct HeardOne {
     pub told: bool,
 }
 
-// Whether a terminal hears what it has heard before: in F1 it hears nothing; unaligned in F3, no pulse; aligned in F7, INFO 4.
+// Whether a terminal hears what it has heard before: in F1 it hears nothing; unaligned in F3, F4 or F5, no pulse; aligned in F7,
+// INFO 4.
 fn rests(terminal: Terminal, line: Downward) -> bool
     ensures { λ r. ⌜ r ≡ rests line terminal ⌝ }
 {
@@ -34,7 +36,7 @@ fn rests(terminal: Terminal, line: Downward) -> bool
         if state == F7 {
             return aligned & line.pulse & line.framed & line.a;
         }
-        if state == F3 {
+        if (F3 <= state) & (state <= F5) {
             return !aligned & !line.pulse;
         }
     }

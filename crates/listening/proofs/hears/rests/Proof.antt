@@ -11,13 +11,13 @@ returns c = simp (eq-eqb _ _ (c .before .before .before .if2 .taken), eq-eqb _ _
 
 returns-2 : tie.Need-returns-2
 unfolding rests
-returns-2 c = simp (eq-eqb _ _ (c .before .if3 .taken), ne-eqb _ _ (c .before .before .if2 .left), eq-eqb _ _ (c .before .before .before .if1 .taken))
+returns-2 c = simp (c .before .if3 .taken, ne-eqb _ _ (c .before .before .if2 .left), eq-eqb _ _ (c .before .before .before .if1 .taken))
 
 returns-3 : tie.Need-returns-3
 unfolding rests
 returns-3 c =
     ⊎-elim
-    (λ p. simp (ne-eqb _ _ (p .2 .left), ne-eqb _ _ (p .1 .left), eq-eqb _ _ (p .0 .taken)))
+    (λ p. simp (p .2 .left, ne-eqb _ _ (p .1 .left), eq-eqb _ _ (p .0 .taken)))
     (λ p. simp (ne-eqb _ _ (p .left)))
     (c .if1 .came)
 

@@ -1,0 +1,178 @@
+-- An exchange in which nothing happens: `specs/Rest.antt`. One opportunity first, then four.
+use mathlib.Core.Path.{_≡_, refl, sym, ap, _∙_}
+use mathlib.Core.Bool.{Bool, true, false, cond, not, _&&_, _||_, and-true, or-false, or-assoc, and-assoc}
+use mathlib.Core.List.{List, [], _∷_}
+use Prim.Native.Nat.{ℕ, suc}
+use native.Mathlib.Omega.{arith}
+use lib.Dec.{eqb}
+use borrow.Author.Tests.{eqb-true}
+use Rattle.cases.proofs.ByCases.{by-test}
+use Rattle.cases.proofs.Operators.{and-both, not-true}
+use Rattle.frame.specs.Four.{allFour}
+use Rattle.frame.specs.declared.fields.Four.{Four}
+use Rattle.combining.specs.Hit.{keepLetter}
+use Rattle.cells.specs.Cells.{infoIn}
+use Rattle.table_6_2.specs.Table62.{F7, infoSent}
+use Rattle.packing.specs.Octets.{shifted}
+use Rattle.dchannel.specs.Access.{normal1, normal2, atRest, idles}
+use Rattle.dchannel.proofs.AccessLaws.{rests}
+use Rattle.terminal.specs.declared.Terminal.{Terminal}
+use Rattle.walks.specs.Over.{mapFrom, foldFrom}
+use Rattle.bus.specs.Exchange.{inF7, turnOf, turned, dOf}
+use Rattle.exchange.specs.Moment.{firstMoment, begun, also, combinedD, ended}
+use Rattle.exchange.specs.Part.{seatIn, turnedIn, doneIn, goneThrough}
+use Rattle.exchange.specs.Opportunities.{momentAfter, terminalsAfter, momentAfterFour, terminalsAfterFour}
+use Rattle.exchange.specs.Rest.{partRests, allRest, anyFrames, noneRest, alsoRests, restOf, eSent, onesSent, isFirst, mayRest, restMoment, RestsThrough, RestFour}
+use Rattle.exchange.specs.declared.moment.Letters.{Letters}
+use Rattle.exchange.specs.declared.moment.Moment.{Moment}
+use Rattle.exchange.specs.declared.rest.Rest.{Rest}
+
+-- ---- One terminal.
+module _ (images : List ℕ) (e : Bool) (i : ℕ) (t : Terminal) (h : partRests e t ≡ true) where
+  silent : eqb (infoIn infoSent (t .state)) 1 ≡ false
+  unfolding partRests
+  silent = not-true _ (and-both _ _ h .0)
+
+  idle : eqb (t .state) F7 ≡ true → turnOf e (seatIn images i t) ≡ idles (t .access)
+  unfolding partRests turnOf
+  idle f =
+      let q : cond (eqb (t .state) F7) (atRest normal2 (t .access) && e) true ≡ true = and-both (not (eqb (infoIn infoSent (t .state)) 1)) _ h .1 in
+      let p = and-both (atRest normal2 (t .access)) e (rw f at q) in
+      rw (p .1) (rests normal1 normal2 _ (t .access) (omega arith) (p .0))
+
+  as-it-was : turnedIn images e i t ≡ t
+  unfolding turnedIn turned idles
+  as-it-was = by-test (eqb (t .state) F7) (λ f. rw (turnedIn, f, idle f)) (λ f. rw (turnedIn, f))
+
+  one-d : dOf e (seatIn images i t) ≡ true
+  unfolding dOf idles
+  one-d = by-test (eqb (t .state) F7) (λ f. rw (f, idle f)) (λ f. rw f)
+
+  none-done : doneIn images e i t ≡ 0
+  unfolding doneIn idles
+  none-done = by-test (eqb (t .state) F7) (λ f. rw (f, idle f)) (λ f. rw f)
+
+-- ---- All terminals.
+-- the exchange at a place, nothing sent so far
+abbrev quiet : Letters → Four → ℕ → ℕ → Bool → Bool → Bool → Moment
+quiet letters ds state place heardD e frames =
+    record { letters = letters; ds = ds; state = state; place = place; done1 = 0; done2 = 0; heard = heardD; e = e; d = true; calling = false; frames = frames }
+
+module _ (images : List ℕ) (letters : Letters) (ds : Four) (state place : ℕ) (heardD e : Bool) where
+  quiet-through : (i : ℕ) (f : Bool) (ts : List Terminal) → allRest e ts ≡ true
+      → foldFrom (goneThrough images) i (quiet letters ds state place heardD e f) ts ≡ quiet letters ds state place heardD e (f || anyFrames ts)
+  unfolding foldFrom allRest anyFrames goneThrough also shifted
+  quiet-through i f [] h = rw or-false
+  quiet-through i f (t ∷ ts) h =
+      let p = and-both (partRests e t) (allRest e ts) h in
+      rw (one-d images e i t (p .0), none-done images e i t (p .0), silent images e i t (p .0))
+      (quiet-through (suc i) (f || eqb (infoIn infoSent (t .state)) 3) ts (p .1) ∙ rw or-assoc)
+
+all-as-they-were : (images : List ℕ) (e : Bool) (i : ℕ) (ts : List Terminal) → allRest e ts ≡ true → mapFrom (turnedIn images e) i ts ≡ ts
+unfolding mapFrom allRest
+all-as-they-were images e i [] h = refl
+all-as-they-were images e i (t ∷ ts) h =
+    let p = and-both (partRests e t) (allRest e ts) h in rw (as-it-was images e i t (p .0), all-as-they-were images e (suc i) ts (p .1))
+
+-- ---- One opportunity.
+module _ (images : List ℕ) (letters : Letters) (ds : Four) (state place : ℕ) (heardD e₀ f₀ : Bool) (ts : List Terminal) (h : allRest (eSent state (letters .first) heardD) ts ≡ true) where
+  moment-after : momentAfter images (quiet letters ds state place heardD e₀ f₀) ts ≡ ended (quiet letters ds state place heardD (eSent state (letters .first) heardD) (anyFrames ts))
+  unfolding momentAfter begun
+  moment-after = rw (quiet-through images letters ds state place heardD (eSent state (letters .first) heardD) 0 false ts h)
+
+  terminals-after : terminalsAfter images (quiet letters ds state place heardD e₀ f₀) ts ≡ ts
+  unfolding terminalsAfter begun
+  terminals-after = all-as-they-were images (eSent state (letters .first) heardD) 0 ts h
+
+-- ---- Four.
+abbrev shifted-letters : Letters → Letters
+shifted-letters l = record { first = l .second; second = l .third; third = l .fourth; fourth = keepLetter }
+
+pub rest-four : RestFour
+unfolding momentAfterFour terminalsAfterFour ended combinedD
+rest-four images state l1 heardD ts r =
+    let l2 = shifted-letters l1 in
+    let l3 = shifted-letters l2 in
+    let l4 = shifted-letters l3 in
+    let f = anyFrames ts in
+    let e1 = eSent state (l1 .first) heardD in
+    let e2 = eSent state (l2 .first) true in
+    let e3 = eSent state (l3 .first) true in
+    let m1 = moment-after images l1 (allFour true) state 0 heardD true false ts (r .first) in
+    let t1 = terminals-after images l1 (allFour true) state 0 heardD true false ts (r .first) in
+    let m2 = moment-after images l2 (allFour true) state 1 true e1 f ts (r .second) in
+    let t2 = terminals-after images l2 (allFour true) state 1 true e1 f ts (r .second) in
+    let m3 = moment-after images l3 (allFour true) state 2 true e2 f ts (r .third) in
+    let t3 = terminals-after images l3 (allFour true) state 2 true e2 f ts (r .third) in
+    let m4 = moment-after images l4 (allFour true) state 3 true e3 f ts (r .fourth) in
+    let t4 = terminals-after images l4 (allFour true) state 3 true e3 f ts (r .fourth) in
+    (rw (m1, t1, m2, t2, m3, t3, m4), rw (m1, t1, m2, t2, m3, t3) t4)
+
+-- ---- What is gathered of all terminals.
+gathered : (i : ℕ) (r : Rest) (ts : List Terminal) → foldFrom alsoRests i r ts ≡ record { still = r .still && allRest true ts; frames = r .frames || anyFrames ts }
+unfolding foldFrom allRest anyFrames
+gathered i r [] = rw (and-true (r .still), or-false (r .frames))
+gathered i r (t ∷ ts) = gathered (suc i) (alsoRests i r t) ts ∙ rw (and-assoc, or-assoc)
+
+pub rest-is : (ts : List Terminal) → restOf ts ≡ record { still = allRest true ts; frames = anyFrames ts }
+unfolding restOf
+rest-is ts = gathered 0 noneRest ts
+
+-- ---- An exchange whose E are all 1.
+pub ones-rest : (state : ℕ) (letters : Letters) (heardD : Bool) (ts : List Terminal)
+    → onesSent (firstMoment state letters heardD) ≡ true → allRest true ts ≡ true → RestsThrough state letters heardD ts
+unfolding onesSent
+ones-rest state letters heardD ts o h =
+    let p = and-both _ (eSent state (letters .fourth) true) o in
+    let q = and-both _ (eSent state (letters .third) true) (p .0) in
+    let s = and-both (eSent state (letters .first) heardD) (eSent state (letters .second) true) (q .0) in
+    record { first = rw (s .0) h; second = rw (s .1) h; third = rw (q .1) h; fourth = rw (p .1) h }
+
+-- ---- As the code finds it.
+made : (letters : Letters) (state : ℕ) (heardD : Bool) {d1 d2 d3 d4 e d calling frames : Bool} {place done1 done2 : ℕ}
+    → d1 ≡ true → d2 ≡ true → d3 ≡ true → d4 ≡ true → place ≡ 0 → done1 ≡ 0 → done2 ≡ 0 → e ≡ true → d ≡ true → calling ≡ false → frames ≡ false
+    → record {
+        letters = letters;
+        ds = record { first = d1; second = d2; third = d3; fourth = d4 };
+        state = state;
+        place = place;
+        done1 = done1;
+        done2 = done2;
+        heard = heardD;
+        e = e;
+        d = d;
+        calling = calling;
+        frames = frames;
+      } ≡ firstMoment state letters heardD
+made letters state heardD a b c d p x y e f g h = cc
+
+first-is : (m : Moment) → isFirst m ≡ true → m ≡ firstMoment (m .state) (m .letters) (m .heard)
+unfolding isFirst
+first-is m h =
+    let a = and-both _ (not (m .frames)) h in
+    let b = and-both _ (not (m .calling)) (a .0) in
+    let c = and-both _ (m .d) (b .0) in
+    let d = and-both _ (m .e) (c .0) in
+    let e = and-both _ (eqb (m .done2) 0) (d .0) in
+    let f = and-both _ (eqb (m .done1) 0) (e .0) in
+    let g = and-both _ (eqb (m .place) 0) (f .0) in
+    let i = and-both _ (m .ds .fourth) (g .0) in
+    let j = and-both _ (m .ds .third) (i .0) in
+    let k = and-both (m .ds .first) (m .ds .second) (j .0) in
+    let frames : m .frames ≡ false = not-true (m .frames) (a .1) in
+    let calling : m .calling ≡ false = not-true (m .calling) (b .1) in
+    let done2 : m .done2 ≡ 0 = eqb-true (m .done2) 0 (e .1) in
+    let done1 : m .done1 ≡ 0 = eqb-true (m .done1) 0 (f .1) in
+    let place : m .place ≡ 0 = eqb-true (m .place) 0 (g .1) in
+    made (m .letters) (m .state) (m .heard) (k .0) (k .1) (j .1) (i .1) place done1 done2 (d .1) (c .1) calling frames
+
+-- an exchange in which nothing happens ..
+pub left-at-rest : (images : List ℕ) (m : Moment) (ts : List Terminal) → mayRest m ≡ true → restOf ts .still ≡ true
+    → (restMoment (m .state) (m .letters) (restOf ts .frames) ≡ momentAfterFour images m ts) × (ts ≡ terminalsAfterFour images m ts)
+unfolding mayRest
+left-at-rest images m ts h s =
+    let p = and-both (isFirst m) (onesSent m) h in
+    let f = first-is m (p .0) in
+    let all : allRest true ts ≡ true = rw (rest-is ts) at s in
+    let r = rest-four images (m .state) (m .letters) (m .heard) ts (ones-rest (m .state) (m .letters) (m .heard) ts (rw f at (p .1)) all) in
+    (rw (rest-is ts) (sym (r .0) ∙ ap (λ (x : Moment). momentAfterFour images x ts) (sym f)), sym (r .1) ∙ ap (λ (x : Moment). terminalsAfterFour images x ts) (sym f))

@@ -1,0 +1,94 @@
+-- An exchange in which nothing happens: no terminal sends INFO 1, and each in F7 has a D access that the E leaves as it is. Then D is 1 at
+-- every opportunity, and the terminals are as before.
+-- This is how the code goes; the law `rest-four` holds it to Opportunities.antt.
+use mathlib.Core.Path.{_≡_}
+use mathlib.Core.Bool.{Bool, true, false, cond, not, _&&_, _||_}
+use mathlib.Core.List.{List, [], _∷_}
+use Prim.Native.Nat.{ℕ}
+use lib.Dec.{eqb}
+use Rattle.frame.specs.Four.{allFour}
+use Rattle.combining.specs.Hit.{keepLetter, struckBit}
+use Rattle.cells.specs.Cells.{infoIn}
+use Rattle.table_6_2.specs.Table62.{F7, infoSent}
+use Rattle.dchannel.specs.Access.{normal2, atRest}
+use Rattle.terminal.specs.declared.Terminal.{Terminal}
+use Rattle.walks.specs.Over.{foldFrom}
+use Rattle.bus.specs.Quick.{sentE}
+use Rattle.exchange.specs.Moment.{firstMoment}
+use Rattle.exchange.specs.Opportunities.{momentAfterFour, terminalsAfterFour}
+use Rattle.exchange.specs.declared.moment.Letters.{Letters}
+use Rattle.exchange.specs.declared.moment.Moment.{Moment}
+use Rattle.exchange.specs.declared.rest.Rest.{Rest}
+
+-- whether an E changes nothing in a terminal, and nothing but 1s leaves it
+unfoldable pub partRests : Bool → Terminal → Bool
+partRests e t = not (eqb (infoIn infoSent (t .state)) 1) && cond (eqb (t .state) F7) (atRest normal2 (t .access) && e) true
+
+unfoldable pub allRest : Bool → List Terminal → Bool
+allRest e [] = true
+allRest e (t ∷ ts) = partRests e t && allRest e ts
+
+-- whether any of them sends INFO 3
+unfoldable pub anyFrames : List Terminal → Bool
+anyFrames [] = false
+anyFrames (t ∷ ts) = eqb (infoIn infoSent (t .state)) 3 || anyFrames ts
+
+-- ---- As the code gathers it, for an E of 1.
+abbrev pub noneRest : Rest
+noneRest = record { still = true; frames = false }
+
+abbrev pub alsoRests : ℕ → Rest → Terminal → Rest
+alsoRests i r t = record { still = r .still && partRests true t; frames = r .frames || eqb (infoIn infoSent (t .state)) 3 }
+
+unfoldable pub restOf : List Terminal → Rest
+restOf ts = foldFrom alsoRests 0 noneRest ts
+
+-- the E at place k of an exchange in which D is 1 throughout: the first is of the D heard before it
+abbrev pub eSent : ℕ → ℕ → Bool → Bool
+eSent state letter heardD = struckBit letter (sentE state heardD)
+
+-- whether all four E are 1
+unfoldable pub onesSent : Moment → Bool
+onesSent m =
+    ((eSent (m .state) (m .letters .first) (m .heard) && eSent (m .state) (m .letters .second) true)
+    && eSent (m .state) (m .letters .third) true)
+    && eSent (m .state) (m .letters .fourth) true
+
+-- whether no opportunity has gone yet
+unfoldable pub isFirst : Moment → Bool
+isFirst m =
+    (((((((((m .ds .first && m .ds .second) && m .ds .third) && m .ds .fourth) && eqb (m .place) 0) && eqb (m .done1) 0) && eqb (m .done2) 0)
+    && m .e) && m .d) && not (m .calling)) && not (m .frames)
+
+unfoldable pub mayRest : Moment → Bool
+mayRest m = isFirst m && onesSent m
+
+-- what it leaves
+abbrev pub restMoment : ℕ → Letters → Bool → Moment
+restMoment state letters frames =
+    record {
+      letters = record { first = keepLetter; second = keepLetter; third = keepLetter; fourth = keepLetter };
+      ds = allFour true;
+      state = state;
+      place = 0;
+      done1 = 0;
+      done2 = 0;
+      heard = true;
+      e = eSent state (letters .fourth) true;
+      d = true;
+      calling = false;
+      frames = frames;
+    }
+
+-- ---- The four opportunities, where all terminals rest at each of the four E (proofs/Resting.antt).
+pub record RestsThrough (state : ℕ) (letters : Letters) (heardD : Bool) (ts : List Terminal) : Type 0 where
+  pub first : allRest (eSent state (letters .first) heardD) ts ≡ true
+  pub second : allRest (eSent state (letters .second) true) ts ≡ true
+  pub third : allRest (eSent state (letters .third) true) ts ≡ true
+  pub fourth : allRest (eSent state (letters .fourth) true) ts ≡ true
+
+abbrev pub RestFour : Type 0
+RestFour =
+    (images : List ℕ) (state : ℕ) (letters : Letters) (heardD : Bool) (ts : List Terminal) → RestsThrough state letters heardD ts
+    → (momentAfterFour images (firstMoment state letters heardD) ts ≡ restMoment state letters (anyFrames ts))
+    × (terminalsAfterFour images (firstMoment state letters heardD) ts ≡ ts)

@@ -1,0 +1,57 @@
+// An exchange in which nothing happens.
+ghost use mathlib.Core.Path.{_≡_};
+ghost use Rattle.exchange.specs.Rest.{partRests, noneRest, alsoRests, restOf};
+ghost use mathlib.Core.Bool.{true};
+use table_6_2::F7;
+use table_6_2::info_sent;
+use terminal::Terminal;
+
+// Whether no terminal gone through so far takes part in an exchange whose E are 1, and whether any sends INFO 3.
+pub struct Rest {
+    pub still: bool,
+    pub frames: bool,
+}
+
+// Whether an E of 1 changes nothing in a terminal, and nothing but 1s leaves it.
+pub fn part_rests(terminal: Terminal) -> bool
+    ensures { λ r. ⌜ r ≡ partRests true terminal ⌝ }
+{
+    let access = terminal.access;
+    (info_sent(terminal.state) != 1) & ((terminal.state != F7) | access.at_rest())
+}
+
+impl Rest {
+    // No terminal gone through.
+    fn start() -> Self
+        ensures { λ r. ⌜ r ≡ noneRest ⌝ }
+    {
+        Rest {
+            still: true,
+            frames: false,
+        }
+    }
+
+    // One terminal more.
+    pub fn also(self, terminal: Terminal) -> Self
+        ensures { λ r. ⌜ r ≡ alsoRests 0 self terminal ⌝ }
+    {
+        Rest {
+            still: self.still & part_rests(terminal),
+            frames: self.frames | (info_sent(terminal.state) == 3),
+        }
+    }
+}
+
+// All terminals.
+pub fn rest_of(terminals: &[Terminal]) -> Rest
+    ensures { λ r. ⌜ r ≡ restOf (now (terminals .entry)) ⌝ }
+{
+    let mut rest = Rest::start();
+    let mut i: usize = 0;
+    while i < terminals.len() {
+        let t = terminals[i];
+        rest = rest.also(t);
+        i += 1;
+    }
+    rest
+}
