@@ -59,7 +59,7 @@ pub fn first_moment(bus: BusRecord, letters: &[u8]) -> Moment
 }
 
 // What a line that the network end sends in a state shows.
-fn shown_by(state: u8) -> Downward
+pub fn shown_by(state: u8) -> Downward
     ensures { λ r. ⌜ r ≡ shownBy state ⌝ }
 {
     let info = info_sent(state);

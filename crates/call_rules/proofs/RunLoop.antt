@@ -33,7 +33,7 @@ unfolding keptOn
 kept-goes zero last k g = absurd (omega (arith, ltb-true 0 0 (goes-facts last 0 g .0)))
 kept-goes (suc n) last k g = let less : suc n - 1 ≡ n = omega arith in rw (g, less)
 
-goes-reply : (last : Ran) (n : ℕ) → goesOn last n ≡ true → last .reply ≡ 0
+pub goes-reply : (last : Ran) (n : ℕ) → goesOn last n ≡ true → last .reply ≡ 0
 unfolding goesOn
 goes-reply last n g = eqb-true (last .reply) 0 (and-both _ _ (and-both _ _ (and-both _ _ g .0) .0) .0)
 

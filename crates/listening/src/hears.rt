@@ -27,7 +27,7 @@ pub struct HeardOne {
 
 // Whether a terminal hears what it has heard before: in F1 it hears nothing; unaligned in F3, F4 or F5, no pulse; aligned in F7,
 // INFO 4.
-fn rests(terminal: Terminal, line: Downward) -> bool
+pub fn rests(terminal: Terminal, line: Downward) -> bool
     ensures { λ r. ⌜ r ≡ rests line terminal ⌝ }
 {
     let state = terminal.state;

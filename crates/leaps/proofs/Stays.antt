@@ -1,0 +1,126 @@
+-- What a reach that is not 0 says: every unit stays as it is for so many periods.
+use mathlib.Core.Path.{_≡_, refl, sym, _∙_}
+use mathlib.Core.Bool.{Bool, true, false, cond, not, _&&_, _||_, or-false, or-assoc}
+use mathlib.Core.Logic.{_⊎_, inl, inr, ⊎-elim}
+use mathlib.Core.List.{List, [], _∷_}
+use Prim.Native.Nat.{ℕ, suc, _+_, _-_, _≤_, _<_}
+use native.Mathlib.Omega.{arith}
+use lib.Dec.{eqb, leb}
+use borrow.Author.Tests.{le-leb}
+use Rattle.cases.proofs.ByCases.{by-test}
+use Rattle.cases.proofs.Operators.{and-both}
+use Rattle.walks.specs.Over.{foldFrom}
+use Rattle.timing.specs.Counts.{mostPeriods, atPeriod}
+use Rattle.hearing.specs.declared.heard.Downward.{Downward}
+use Rattle.terminal.specs.declared.Terminal.{Terminal}
+use Rattle.bus.specs.Quick.{shownBy}
+use Rattle.exchange.specs.Rest.{partRests, anyFrames}
+use Rattle.listening.specs.Hears.{rests}
+use Rattle.bus_record.specs.declared.record.BusRecord.{BusRecord}
+use Rattle.leaps.specs.Still.{clear, networkRests, quiet, farthest, firstAhead, overWith, alsoAhead, reached, reach, leapt}
+use Rattle.leaps.specs.declared.ahead.Ahead.{Ahead}
+use Rattle.leaps.proofs.Clear.{Clear, clear-most, clear-is}
+
+-- ---- The terminals.
+pub record Stays (line : Downward) (now j : ℕ) (t : Terminal) : Type 0 where
+  pub hears-alike : rests line t ≡ true
+  pub takes-no-part : partRests true t ≡ true
+  pub t3-clear : Clear now j (t .t3)
+
+abbrev pub AllStay : Downward → ℕ → ℕ → List Terminal → Type 0
+AllStay line now j [] = Unit
+AllStay line now j (t ∷ ts) = Stays line now j t × AllStay line now j ts
+
+module _ (j : ℕ) (some : 0 < j) where
+  with-one : (a : Ahead) (t : Terminal) → j ≤ overWith a t → (rests (a .line) t ≡ true) × (partRests true t ≡ true) × (j ≤ clear (a .now .0) (a .over) (t .t3))
+  unfolding overWith
+  with-one a t h =
+      by-test (rests (a .line) t && partRests true t)
+      (λ u. let p = and-both (rests (a .line) t) (partRests true t) u in (p .0, p .1, rw u at h))
+      (λ u. let z : j ≤ 0 = rw u at h in absurd (omega arith))
+
+  pub gathered-stay : (i : ℕ) (a : Ahead) (ts : List Terminal) → j ≤ foldFrom alsoAhead i a ts .over → AllStay (a .line) (a .now .0) j ts × (j ≤ a .over)
+  unfolding foldFrom alsoAhead
+  gathered-stay i a [] h = (tt, h)
+  gathered-stay i a (t ∷ ts) h =
+      let rest = gathered-stay (suc i) (alsoAhead i a t) ts h in
+      let w = with-one a t (rest .1) in
+      ((record { hears-alike = w .0; takes-no-part = w .1; t3-clear = clear-is (a .now .0) (a .over) (t .t3) j (w .2) }, rest .0), omega (arith, clear-most (a .now .0) (a .over) (t .t3), w .2))
+
+pub gathered-frames : (i : ℕ) (a : Ahead) (ts : List Terminal) → foldFrom alsoAhead i a ts .frames ≡ (a .frames || anyFrames ts)
+unfolding foldFrom alsoAhead anyFrames
+gathered-frames i a [] = rw or-false
+gathered-frames i a (t ∷ ts) = gathered-frames (suc i) (alsoAhead i a t) ts ∙ rw or-assoc
+
+-- ---- All units.
+pub record Still (j : ℕ) (b : BusRecord) (ts : List Terminal) : Type 0 where
+  pub quiet-is : quiet b ≡ true
+  pub network-rests : networkRests (anyFrames ts) (b .network) ≡ true
+  pub terminals-stay : AllStay (shownBy (b .network .state)) (b .periods .0) j ts
+  pub t1-clear : Clear (b .periods .0) j (b .network .t1)
+  pub t2-clear : Clear (b .periods .0) j (b .network .t2)
+  pub one-left : b .periods .0 + j < mostPeriods
+
+module _ (b : BusRecord) (ts : List Terminal) (left j : ℕ) (some : 0 < j) (h : j ≤ reach b ts left) where
+  abbrev now : ℕ
+  now = b .periods .0
+
+  abbrev all : Ahead
+  all = foldFrom alsoAhead 0 (firstAhead b left) ts
+
+  rests-so : (networkRests (all .frames) (b .network) ≡ true) × (j ≤ all .over)
+  unfolding reach reached
+  rests-so =
+      by-test (networkRests (all .frames) (b .network)) (λ u. (u, rw u at h)) (λ u. let z : j ≤ 0 = rw u at h in absurd (omega arith))
+
+  abbrev far : AllStay (firstAhead b left .line) (firstAhead b left .now .0) j ts × (j ≤ firstAhead b left .over)
+  far = gathered-stay j some 0 (firstAhead b left) ts (rests-so .1)
+
+  own : (quiet b ≡ true) × (j ≤ clear now (clear now (clear now (left - 1) mostPeriods) (b .network .t1)) (b .network .t2))
+  unfolding firstAhead farthest
+  own = by-test (quiet b) (λ u. (u, rw u at (far .1))) (λ u. let z : j ≤ 0 = rw u at (far .1) in absurd (omega arith))
+
+  second : j ≤ clear now (clear now (left - 1) mostPeriods) (b .network .t1)
+  second = omega (arith, own .1, clear-most now (clear now (clear now (left - 1) mostPeriods) (b .network .t1)) (b .network .t2))
+
+  third : j ≤ clear now (left - 1) mostPeriods
+  third = omega (arith, second, clear-most now (clear now (left - 1) mostPeriods) (b .network .t1))
+
+  pub reach-less : j < left
+  reach-less = omega (arith, third, clear-most now (left - 1) mostPeriods)
+
+  pub reach-still : b .periods .0 < mostPeriods → Still j b ts
+  unfolding firstAhead
+  reach-still run =
+      record {
+        quiet-is = own .0;
+        network-rests = rw (gathered-frames 0 (firstAhead b left) ts) at (rests-so .0);
+        terminals-stay = far .0;
+        t1-clear = clear-is now (clear now (left - 1) mostPeriods) (b .network .t1) j second;
+        t2-clear = clear-is now (clear now (clear now (left - 1) mostPeriods) (b .network .t1)) (b .network .t2) j (own .1);
+        one-left = ⊎-elim (λ past. omega arith) (λ before. before) (clear-is now (left - 1) mostPeriods j third);
+      }
+
+-- ---- One period later.
+clear-next : (now j timer : ℕ) → Clear now (suc j) timer → Clear (now + 1) j timer
+clear-next now j timer (inl p) = inl (omega arith)
+clear-next now j timer (inr p) = inr (omega arith)
+
+all-next : (line : Downward) (now j : ℕ) (ts : List Terminal) → AllStay line now (suc j) ts → AllStay line (now + 1) j ts
+all-next line now j [] all = tt
+all-next line now j (t ∷ ts) all =
+    (record { hears-alike = all .0 .hears-alike; takes-no-part = all .0 .takes-no-part; t3-clear = clear-next now j (t .t3) (all .0 .t3-clear) }, all-next line now j ts (all .1))
+
+pub still-next : (j : ℕ) (b : BusRecord) (ts : List Terminal) → Still (suc j) b ts → Still j (leapt 1 b) ts
+unfolding leapt quiet
+still-next j b ts s =
+    let l : leb (b .periods .0 + 1) mostPeriods ≡ true = le-leb (b .periods .0 + 1) mostPeriods (omega (arith, s .one-left)) in
+    rw l
+    (record {
+      quiet-is = s .quiet-is;
+      network-rests = s .network-rests;
+      terminals-stay = all-next (shownBy (b .network .state)) (b .periods .0) j ts (s .terminals-stay);
+      t1-clear = clear-next (b .periods .0) j (b .network .t1) (s .t1-clear);
+      t2-clear = clear-next (b .periods .0) j (b .network .t2) (s .t2-clear);
+      one-left = omega (arith, s .one-left);
+    })

@@ -1,0 +1,265 @@
+-- A period of a still bus, as the code goes through it: it hands back no notes and changes nothing but the counts.
+use mathlib.Core.Path.{_≡_, refl, sym, ap, _∙_}
+use mathlib.Core.Bool.{Bool, true, false, cond, not, _&&_, _||_}
+use mathlib.Core.Logic.{⊎-elim}
+use mathlib.Core.List.{List, [], _∷_, map}
+use Prim.Native.Nat.{ℕ, suc, _+_, _*_, _≤_, _<_}
+use native.Mathlib.Omega.{arith}
+use lib.Dec.{eqb, ltb, leb}
+use lib.ListN.{length}
+use borrow.Author.Tests.{eqb-true, eq-eqb, ne-eqb, le-leb, lt-leb, leb-true}
+use Rattle.cases.proofs.ByCases.{by-test, clash}
+use Rattle.cases.proofs.Operators.{and-both, not-true}
+use Rattle.hdlc.specs.Image.{longestBody}
+use Rattle.walks.specs.Over.{mapFrom, foldFrom}
+use Rattle.frame.specs.Four.{allFour}
+use Rattle.combining.specs.Hit.{keepLetter}
+use Rattle.cells.specs.Notes.{packedNotes, noted}
+use Rattle.cells.specs.Cells.{cellIn, infoIn}
+use Rattle.table_6_2.specs.Table62.{F1, F7}
+use Rattle.table_6_3.specs.Table63.{G1, G2, G3}
+use Rattle.table_6_3.specs.Table63 as table63
+use Rattle.timing.specs.Counts.{mostPeriods, atPeriod, allRun, nextPeriod, fourMore}
+use Rattle.timing.specs.Timers.{due}
+use Rattle.timing.specs.declared.counts.Periods.{Periods}
+use Rattle.alignment.specs.Alignment.{framedPeriod, followed}
+use Rattle.hearing.specs.Heard.{upwardEvent, lossUp}
+use Rattle.hearing.specs.declared.heard.Downward.{Downward}
+use Rattle.network.specs.Network.{unchanged, acts, happens, andThen, aligned, t1Due, t2Due, checked, ready}
+use Rattle.network.specs.Network as network
+use Rattle.network.specs.declared.Network.{Network}
+use Rattle.network.specs.declared.NetworkStep.{NetworkStep}
+use Rattle.terminal.specs.declared.Terminal.{Terminal}
+use Rattle.reader.specs.Counters.{freshReader, afterBit, answerTo, fills, storeWhole, readBit, readOctets}
+use Rattle.reader.specs.declared.Reader.{Reader}
+use Rattle.bus.specs.Quick.{sentE, shownBy, shownFrom}
+use Rattle.exchange.specs.Rest.{partRests, allRest, anyFrames, eSent, restMoment, RestsThrough}
+use Rattle.exchange.specs.Shown.{lettersOf}
+use Rattle.exchange.proofs.Resting.{rest-four}
+use Rattle.listening.specs.Hears.{rests, heardOne, terminalAfter, notesAfter, toldAfter}
+use Rattle.listening.specs.declared.hears.UnitNotes.{UnitNotes}
+use Rattle.listening.specs.declared.hears.HeardOne.{HeardOne}
+use Rattle.listening.proofs.Rests.{one-rests}
+use Rattle.bus_record.specs.Echo.{hitIn, firstMoment, heardDown}
+use Rattle.bus_record.specs.Reading.{quietReading, saidWith, spokenTo, octetsTo, spokenToFour, octetsToFour, readIn, octetsIn}
+use Rattle.bus_record.specs.NetworkSide.{leavesG3, readerAfter, hears, timers, networkListens, countedAfter, anyNote, ranWith, ranAfter, octetsAfter, noNotes, refusedRun}
+use Rattle.bus_record.specs.declared.record.BusRecord.{BusRecord}
+use Rattle.call_rules.specs.Step.{stepMoment, stepExchanged, stepLine, stepTerminals, stepNotes, stepTold, stepRan, stepOctets}
+use Rattle.leaps.specs.Still.{networkRests, readerWaits, quiet, countedOver, leapt}
+use Rattle.leaps.proofs.Clear.{Clear}
+use Rattle.leaps.proofs.Stays.{Stays, AllStay, Still}
+
+-- ---- Timers.
+clear-due : (now j timer : ℕ) → Clear now (suc j) timer → due timer (now + 1) ≡ false
+unfolding due
+clear-due now j timer c =
+    by-test (eqb timer 0) (λ t. rw t) (λ t. rw t (ne-eqb timer (now + 1) (λ z. ⊎-elim (λ p. omega arith) (λ p. omega arith) c)))
+
+next-is : (p : Periods) → p .0 < mostPeriods → nextPeriod p ≡ atPeriod (p .0 + 1)
+unfolding nextPeriod
+next-is p l = rw (lt-leb mostPeriods (p .0) l)
+
+-- ---- The reader: 1s after seven 1s.
+module _ (buf : List ℕ) where
+  one-said : spokenTo true buf (quietReading freshReader) ≡ quietReading freshReader
+  unfolding spokenTo readBit afterBit answerTo saidWith
+  one-said = by-test (ltb (length buf) longestBody) (λ t. rw t) (λ t. rw t)
+
+  one-stored : octetsTo true (quietReading freshReader) buf ≡ buf
+  unfolding octetsTo readOctets storeWhole fills
+  one-stored = by-test (ltb (length buf) longestBody) (λ t. rw t) (λ t. rw t)
+
+  four-said : spokenToFour (allFour true) buf (quietReading freshReader) ≡ quietReading freshReader
+  unfolding spokenToFour
+  four-said = rw (one-stored, one-said, one-stored, one-said, one-stored, one-said, one-said)
+
+  four-stored : octetsToFour (allFour true) (quietReading freshReader) buf ≡ buf
+  unfolding octetsToFour
+  four-stored = rw (one-stored, one-said, one-stored, one-said, one-stored, one-said, one-stored)
+
+waits-fresh : (r : Reader) → readerWaits r ≡ true → r ≡ freshReader
+unfolding readerWaits
+waits-fresh r h =
+    let a = and-both _ (not (r .zero)) h in
+    let b = and-both _ (not (r .opened)) (a .0) in
+    let c = and-both _ (eqb (r .octet) 0) (b .0) in
+    let d = and-both (eqb (r .bits) 0) (eqb (r .ones) 7) (c .0) in
+    made (eqb-true _ _ (d .0)) (eqb-true _ _ (d .1)) (eqb-true _ _ (c .1)) (not-true _ (b .1)) (not-true _ (a .1))
+  where
+    made : {bits ones octet : ℕ} {opened zero : Bool} → bits ≡ 0 → ones ≡ 7 → octet ≡ 0 → opened ≡ false → zero ≡ false
+        → record { bits = bits; ones = ones; octet = octet; opened = opened; zero = zero } ≡ freshReader
+    made p q r s t = cc
+
+-- ---- The network end: hearing, then its timers.
+module _ (now t1 t2 : ℕ) where
+  abbrev with : ℕ → ℕ → Bool → Network
+  with state run al = record { t1 = t1; t2 = t2; state = state; alignment = record { aligned = al; run = run } }
+
+  in-G3 : (state run : ℕ) (al f : Bool) → state ≡ G3 → run ≡ 0 → (al && f) ≡ true → network.hears (shownFrom false f) now (with state run al) ≡ unchanged 0 (with state run al)
+  unfolding network.hears network.heardAs happens acts andThen aligned followed framedPeriod upwardEvent lossUp cellIn shownFrom noted
+  in-G3 state run true true p q h = rw (p, q)
+  in-G3 state run true false p q h = clash false h refl
+  in-G3 state run false f p q h = clash false h refl
+
+  in-silence : (state run : ℕ) (al f : Bool) → (eqb state G1 || eqb state G2) ≡ true → run ≡ 0 → (not al && not f) ≡ true → network.hears (shownFrom false f) now (with state run al) ≡ unchanged 0 (with state run al)
+  unfolding network.hears network.heardAs happens acts andThen aligned followed framedPeriod upwardEvent lossUp cellIn shownFrom noted
+  in-silence state run false false p q h =
+      by-test (eqb state G1) (λ t. rw (eqb-true state G1 t, q)) (λ t. let u : eqb state G2 ≡ true = rw t at p in rw (eqb-true state G2 u, q))
+  in-silence state run true f p q h = clash false h refl
+  in-silence state run false true p q h = clash false h refl
+
+hears-nothing : (f : Bool) (now : ℕ) (n : Network) → networkRests f n ≡ true → network.hears (shownFrom false f) now n ≡ unchanged 0 n
+unfolding networkRests
+hears-nothing f now n h =
+    let p = and-both (eqb (n .alignment .run) 0) (cond (eqb (n .state) G3) (n .alignment .aligned && f) ((not (n .alignment .aligned) && not f) && (eqb (n .state) G1 || eqb (n .state) G2))) h in
+    let run : n .alignment .run ≡ 0 = eqb-true (n .alignment .run) 0 (p .0) in
+    by-test (eqb (n .state) G3)
+    (λ t. in-G3 now (n .t1) (n .t2) (n .state) (n .alignment .run) (n .alignment .aligned) f (eqb-true (n .state) G3 t) run (rw t at (p .1)))
+    (λ t.
+    let q = and-both (not (n .alignment .aligned) && not f) (eqb (n .state) G1 || eqb (n .state) G2) (rw t at (p .1)) in
+    in-silence now (n .t1) (n .t2) (n .state) (n .alignment .run) (n .alignment .aligned) f (q .1) run (q .0))
+
+none-due : (now j : ℕ) (n : Network) → Clear now (suc j) (n .t1) → Clear now (suc j) (n .t2) → network.timers (now + 1) n ≡ unchanged 0 n
+unfolding network.timers andThen t1Due t2Due noted
+none-due now j n a b = rw (clear-due now j (n .t1) a, clear-due now j (n .t2) b)
+
+-- a call that is a step which changes nothing, in range or not
+checked-nothing : (step : ℕ → Network → NetworkStep) (p : Periods) (n : Network) → step (p .0) n ≡ unchanged 0 n
+    → (checked step p n .network ≡ n) × (checked step p n .notes ≡ packedNotes [])
+unfolding checked
+checked-nothing step p n h = by-test (ready p n) (λ u. (rw (u, h), rw (u, h))) (λ u. (rw u, rw u))
+
+leaves-none : (s : ℕ) → leavesG3 s s ≡ false
+leaves-none s = by-test (eqb s G3) (λ t. rw t) (λ t. rw t)
+
+module _ (f : Bool) (p : Periods) (j : ℕ) (n : Network) (l : p .0 < mostPeriods) (r : networkRests f n ≡ true) (a : Clear (p .0) (suc j) (n .t1)) (b : Clear (p .0) (suc j) (n .t2)) where
+  hearing : (hears (shownFrom false f) p n .network ≡ n) × (hears (shownFrom false f) p n .notes ≡ packedNotes [])
+  unfolding hears
+  hearing = checked-nothing (network.hears (shownFrom false f)) p n (hears-nothing f (p .0) n r)
+
+  timing : (timers (shownFrom false f) p n .network ≡ n) × (timers (shownFrom false f) p n .notes ≡ packedNotes [])
+  unfolding timers
+  timing = rw (hearing .0, next-is p l) (checked-nothing network.timers (atPeriod (p .0 + 1)) n (none-due (p .0) j n a b))
+
+  listens : networkListens (shownFrom false f) p n ≡ record { network = n; notes = noNotes; left = false }
+  unfolding networkListens
+  listens = rw (timing .0, hearing .1, timing .1, hearing .0, leaves-none (n .state))
+
+-- ---- The terminals.
+-- one in F7 that rests hears A at 1
+hears-a : (line : Downward) (t : Terminal) → rests line t ≡ true → eqb (t .state) F7 ≡ true → line .a ≡ true
+unfolding rests
+hears-a line t h f =
+    by-test (eqb (t .alignment .run) 0)
+    (λ u. let h1 : (((t .alignment .aligned && line .pulse) && line .framed) && line .a) ≡ true = rw (u, f) at h in and-both ((t .alignment .aligned && line .pulse) && line .framed) (line .a) h1 .1)
+    (λ u. let h1 : eqb (t .state) F1 ≡ true = rw u at h in absurd (omega (arith, eqb-true (t .state) F1 h1, eqb-true (t .state) F7 f)))
+
+-- so an E of 1 is sent
+e-sent : (state : ℕ) (t : Terminal) → rests (shownBy state) t ≡ true → partRests true t ≡ true → partRests (sentE state true) t ≡ true
+unfolding partRests shownBy sentE
+e-sent state t h p =
+    by-test (eqb (t .state) F7)
+    (λ f.
+    let a = hears-a (shownBy state) t h f in
+    by-test (eqb (infoIn table63.infoSent state) 4) (λ u. rw u p)
+    (λ u. by-test (eqb (infoIn table63.infoSent state) 2)
+    (λ v. clash false (rw (u, v) at a) refl)
+    (λ v. rw (u, v) p)))
+    (λ f. rw f (rw f at p))
+
+module _ (state : ℕ) (p : Periods) (j : ℕ) (l : p .0 < mostPeriods) where
+  abbrev AllHere : List Terminal → Type 0
+  AllHere ts = AllStay (shownBy state) (p .0) (suc j) ts
+
+  take-no-part : (ts : List Terminal) → AllHere ts → allRest (sentE state true) ts ≡ true
+  unfolding allRest
+  take-no-part [] all = refl
+  take-no-part (t ∷ ts) all = rw (e-sent state t (all .0 .hears-alike) (all .0 .takes-no-part), take-no-part ts (all .1))
+
+  hear-nothing : (t : Terminal) → Stays (shownBy state) (p .0) (suc j) t → heardOne (shownBy state) p t ≡ record { terminal = t; notes = noNotes; told = false }
+  hear-nothing t h = one-rests (shownBy state) p t (h .hears-alike) (rw (next-is p l) (clear-due (p .0) j (t .t3) (h .t3-clear)))
+
+  terminals-stay : (i : ℕ) (ts : List Terminal) → AllHere ts → mapFrom (terminalAfter (shownBy state) p) i ts ≡ ts
+  unfolding mapFrom
+  terminals-stay i [] all = refl
+  terminals-stay i (t ∷ ts) all =
+      ap (λ (h : HeardOne). h .terminal ∷ mapFrom (terminalAfter (shownBy state) p) (suc i) ts) (hear-nothing t (all .0)) ∙ ap (λ (zs : List Terminal). t ∷ zs) (terminals-stay (suc i) ts (all .1))
+
+  no-notes : (i : ℕ) (ts : List Terminal) → AllHere ts → mapFrom (notesAfter (shownBy state) p) i ts ≡ map (λ (t : Terminal). noNotes) ts
+  unfolding mapFrom
+  no-notes i [] all = refl
+  no-notes i (t ∷ ts) all =
+      ap (λ (h : HeardOne). h .notes ∷ mapFrom (notesAfter (shownBy state) p) (suc i) ts) (hear-nothing t (all .0)) ∙ ap (λ (zs : List UnitNotes). noNotes ∷ zs) (no-notes (suc i) ts (all .1))
+
+  none-told : (i : ℕ) (ts : List Terminal) → AllHere ts → foldFrom (toldAfter (shownBy state) p) i false ts ≡ false
+  unfolding foldFrom
+  none-told i [] all = refl
+  none-told i (t ∷ ts) all = rw (hear-nothing t (all .0)) (none-told (suc i) ts (all .1))
+
+-- ---- The whole.
+module _ (images octets letters : List ℕ) (j : ℕ) (b : BusRecord) (ts : List Terminal) (s : Still (suc j) b ts) where
+  abbrev state : ℕ
+  state = b .network .state
+
+  run : b .periods .0 < mostPeriods
+  run = omega (arith, s .one-left)
+
+  parts : (b .hit ≡ false) × (b .heard ≡ true) × (cond (eqb state G3) (readerWaits (b .reader)) true ≡ true)
+  unfolding quiet
+  parts =
+      let p = and-both (not (b .hit) && b .heard) (cond (eqb state G3) (readerWaits (b .reader)) true) (s .quiet-is) in
+      let q = and-both (not (b .hit)) (b .heard) (p .0) in
+      (not-true (b .hit) (q .0), q .1, p .1)
+
+  rest : RestsThrough state (lettersOf (hitIn false letters)) true ts
+  unfolding hitIn lettersOf
+  rest = let all = take-no-part state (b .periods) j run ts (s .terminals-stay) in record { first = all; second = all; third = all; fourth = all }
+
+  moment-is : stepMoment b ts images letters ≡ restMoment state (lettersOf (hitIn false letters)) (anyFrames ts)
+  unfolding stepMoment firstMoment
+  moment-is = rw (parts .0, parts .1) (rest-four images state (lettersOf (hitIn false letters)) true ts rest .0)
+
+  exchanged-is : stepExchanged b ts images letters ≡ ts
+  unfolding stepExchanged firstMoment
+  exchanged-is = rw (parts .0, parts .1) (rest-four images state (lettersOf (hitIn false letters)) true ts rest .1)
+
+  line-is : stepLine b ts images letters ≡ shownBy state
+  unfolding stepLine heardDown
+  line-is = rw (parts .0)
+
+  pub still-terminals : stepTerminals b ts images letters ≡ ts
+  unfolding stepTerminals
+  still-terminals = rw (line-is, exchanged-is) (terminals-stay state (b .periods) j run 0 ts (s .terminals-stay))
+
+  pub still-notes : stepNotes b ts images letters ≡ map (λ (t : Terminal). noNotes) ts
+  unfolding stepNotes
+  still-notes = rw (line-is, exchanged-is) (no-notes state (b .periods) j run 0 ts (s .terminals-stay))
+
+  told-is : stepTold b ts images letters ≡ false
+  unfolding stepTold
+  told-is = rw (line-is, exchanged-is) (none-told state (b .periods) j run 0 ts (s .terminals-stay))
+
+  read-is : readIn state (allFour true) octets (b .reader) ≡ quietReading (b .reader)
+  unfolding readIn
+  read-is =
+      by-test (eqb state G3)
+      (λ t. let w = waits-fresh (b .reader) (rw t at (parts .2)) in rw (t, w) (four-said octets))
+      (λ t. rw t)
+
+  pub still-octets : stepOctets b ts images octets letters ≡ octets
+  unfolding stepOctets octetsAfter octetsIn
+  still-octets =
+      rw moment-is
+      (by-test (eqb state G3)
+      (λ t. let w = waits-fresh (b .reader) (rw t at (parts .2)) in rw (t, w) (four-stored octets))
+      (λ t. rw t))
+
+  counted-is : countedAfter state (b .opportunities) ≡ countedOver state 1 (b .opportunities)
+  unfolding countedAfter countedOver fourMore
+  counted-is = by-test (eqb state G3) (λ t. by-test (leb (b .opportunities .0) (4 * mostPeriods)) (λ u. rw (t, u)) (λ u. rw (t, u))) (λ t. rw t)
+
+  pub still-ran : stepRan b ts images octets letters ≡ refusedRun 0 (leapt 1 b)
+  unfolding stepRan ranAfter ranWith refusedRun leapt anyNote readerAfter
+  still-ran =
+      let l : leb (b .periods .0 + 1) mostPeriods ≡ true = le-leb (b .periods .0 + 1) mostPeriods (omega (arith, s .one-left)) in
+      rw (moment-is, told-is, read-is, listens (anyFrames ts) (b .periods) j (b .network) run (s .network-rests) (s .t1-clear) (s .t2-clear), next-is (b .periods) run, counted-is, l, parts .0, parts .1)

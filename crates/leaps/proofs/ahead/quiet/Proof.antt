@@ -1,0 +1,16 @@
+-- `leaps::ahead::quiet` meets its contract.
+use Rattle.leaps.proofs.Tests.{not-or}
+use Rattle.leaps.specs.Still.{quiet}
+use borrow.Author.Needs.{needs}
+use Rattle.leaps.proofs.ahead.quiet.Statement.{statement}
+use Rattle.leaps.proofs.ahead.quiet.Tie as tie
+
+reader-waits-requires : tie.Need-reader-waits-requires
+reader-waits-requires c κs = search needs
+
+returns : tie.Need-returns
+unfolding quiet
+returns c = rw (c .reader-waits .ensures, not-or)
+
+pub quiet-spec : {M : Type 1} → statement M
+quiet-spec = tie.close (tie.spec reader-waits-requires returns)

@@ -1,0 +1,87 @@
+-- A bus is still when a period hands back no notes and changes nothing but the counts: periods run and, in G3, D opportunities run. From
+-- there as many periods as lie before the next timer, the number asked for and 4,000,000 are one step.
+-- This is how the code goes; the law `leap` (Leap.antt) holds it to single periods.
+use mathlib.Core.Bool.{Bool, true, false, cond, not, _&&_, _||_}
+use mathlib.Core.List.{List}
+use Prim.Native.Nat.{ℕ, _+_, _-_, _*_}
+use lib.Dec.{eqb, ltb, leb}
+use Rattle.walks.specs.Over.{foldFrom}
+use Rattle.cells.specs.Cells.{infoIn}
+use Rattle.table_6_2.specs.Table62.{infoSent}
+use Rattle.table_6_3.specs.Table63.{G1, G2, G3}
+use Rattle.timing.specs.Counts.{mostPeriods, atPeriod}
+use Rattle.timing.specs.declared.counts.Opportunities.{Opportunities}
+use Rattle.network.specs.declared.Network.{Network}
+use Rattle.terminal.specs.declared.Terminal.{Terminal}
+use Rattle.reader.specs.declared.Reader.{Reader}
+use Rattle.bus.specs.Quick.{shownBy}
+use Rattle.exchange.specs.Rest.{partRests}
+use Rattle.listening.specs.Hears.{rests}
+use Rattle.bus_record.specs.declared.record.BusRecord.{BusRecord}
+use Rattle.leaps.specs.declared.ahead.Ahead.{Ahead}
+
+-- how many of the next periods' starts come before a timer is due, `most` at most; `now` is the number of the coming period
+unfoldable pub clear : ℕ → ℕ → ℕ → ℕ
+clear now most timer = cond (ltb now timer) (cond (leb (timer - now) most) (timer - now - 1) most) most
+
+-- ---- The network end.
+
+-- it hears what it has heard before: in G1 and G2 unaligned no pulse, in G3 aligned INFO 3
+unfoldable pub networkRests : Bool → Network → Bool
+networkRests frames n =
+    eqb (n .alignment .run) 0
+    && cond (eqb (n .state) G3)
+    (n .alignment .aligned && frames)
+    ((not (n .alignment .aligned) && not frames) && (eqb (n .state) G1 || eqb (n .state) G2))
+
+-- the reader waits for a flag, after seven 1s or more
+unfoldable pub readerWaits : Reader → Bool
+readerWaits r = (((eqb (r .bits) 0 && eqb (r .ones) 7) && eqb (r .octet) 0) && not (r .opened)) && not (r .zero)
+
+-- no hit is pending, D was 1, and in G3 the reader waits
+unfoldable pub quiet : BusRecord → Bool
+quiet b = (not (b .hit) && b .heard) && cond (eqb (b .network .state) G3) (readerWaits (b .reader)) true
+
+-- its own timers, and the number of periods left: one of them stays to be run after the step
+unfoldable pub farthest : BusRecord → ℕ → ℕ
+farthest b left =
+    let now = b .periods .0 in
+    cond (quiet b) (clear now (clear now (clear now (left - 1) mostPeriods) (b .network .t1)) (b .network .t2)) 0
+
+-- ---- All units.
+unfoldable pub firstAhead : BusRecord → ℕ → Ahead
+firstAhead b left = record { over = farthest b left; now = b .periods; line = shownBy (b .network .state); frames = false }
+
+-- a terminal takes no part in the exchange and hears what it has heard before, until its timer is due
+unfoldable pub overWith : Ahead → Terminal → ℕ
+overWith a t = cond (rests (a .line) t && partRests true t) (clear (a .now .0) (a .over) (t .t3)) 0
+
+unfoldable pub alsoAhead : ℕ → Ahead → Terminal → Ahead
+alsoAhead i a t =
+    record { over = overWith a t; now = a .now; line = a .line; frames = a .frames || eqb (infoIn infoSent (t .state)) 3 }
+
+unfoldable pub reached : Network → Ahead → ℕ
+reached n a = cond (networkRests (a .frames) n) (a .over) 0
+
+-- as far as the bus is still, with so many periods left to run; 0 where it is not
+unfoldable pub reach : BusRecord → List Terminal → ℕ → ℕ
+reach b ts left = reached (b .network) (foldFrom alsoAhead 0 (firstAhead b left) ts)
+
+-- ---- The step: so many periods more, in G3 four times as many D opportunities, and all else as it was.
+-- (No count that a bus can have is above the bounds.)
+unfoldable pub countedOver : ℕ → ℕ → Opportunities → Opportunities
+countedOver state over o =
+    cond ((eqb state G3 && leb (o .0) (4 * mostPeriods)) && leb over mostPeriods) (record { 0 = o .0 + 4 * over }) o
+
+unfoldable pub leapt : ℕ → BusRecord → BusRecord
+leapt over b =
+    cond (leb (b .periods .0 + over) mostPeriods)
+    (record {
+      network = b .network;
+      periods = atPeriod (b .periods .0 + over);
+      opportunities = countedOver (b .network .state) over (b .opportunities);
+      reader = b .reader;
+      heard = b .heard;
+      hit = b .hit;
+    })
+    b

@@ -1,0 +1,144 @@
+// How far a bus is still, gathered from its units by value.
+ghost use mathlib.Core.Path.{_≡_};
+ghost use Prim.Native.Nat.{_-_};
+ghost use Rattle.leaps.specs.Still as spec;
+use bus_record::echo::shown_by;
+use bus_record::record::BusRecord;
+use exchange::rest::part_rests;
+use hearing::heard::Downward;
+use listening::hears::rests;
+use network::Network;
+use reader::Reader;
+use table_6_2::info_sent;
+use table_6_3::G1;
+use table_6_3::G2;
+use table_6_3::G3;
+use terminal::Terminal;
+use timing::counts::MOST_PERIODS;
+use timing::counts::Periods;
+
+// As far as the units gone through allow.
+pub struct Ahead {
+    // How many periods are one step.
+    pub over: u32,
+    // The number of the coming period.
+    pub now: Periods,
+    // What all powered terminals hear in it.
+    pub line: Downward,
+    // Whether any terminal sends INFO 3.
+    pub frames: bool,
+}
+
+// How many of the next periods' starts come before a timer is due, `most` at most.
+fn clear(now: Periods, most: u32, timer: u64) -> u32
+    ensures { λ r. ⌜ r ≡ spec.clear (now .0) most timer ⌝ }
+{
+    let from = now.0 as u64;
+    if from < timer {
+        let until = timer - from;
+        if until <= most as u64 {
+            return (until - 1) as u32;
+        }
+    }
+    most
+}
+
+// Whether the reader waits for a flag, after seven 1s or more.
+fn reader_waits(reader: Reader) -> bool
+    ensures { λ r. ⌜ r ≡ spec.readerWaits reader ⌝ }
+{
+    (reader.bits == 0) & (reader.ones == 7) & (reader.octet == 0) & !reader.opened & !reader.zero
+}
+
+// Whether no hit is pending, D was 1, and in G3 the reader waits.
+fn quiet(bus: BusRecord) -> bool
+    ensures { λ r. ⌜ r ≡ spec.quiet bus ⌝ }
+{
+    let reader = bus.reader;
+    !bus.hit & bus.heard & ((bus.network.state != G3) | reader_waits(reader))
+}
+
+// Whether the network end hears what it has heard before, where `frames` is whether any terminal sends INFO 3 and none sends INFO 1.
+fn network_rests(network: Network, frames: bool) -> bool
+    ensures { λ r. ⌜ r ≡ spec.networkRests frames network ⌝ }
+{
+    let state = network.state;
+    let aligned = network.alignment.aligned;
+    let run = network.alignment.run;
+    if state == G3 {
+        return (run == 0) & (aligned & frames);
+    }
+    (run == 0) & (!aligned & !frames & ((state == G1) | (state == G2)))
+}
+
+// One less, or 0.
+fn one_less(n: u32) -> u32
+    ensures { λ r. ⌜ r ≡ n - 1 ⌝ }
+{
+    if n == 0 { 0 } else { n - 1 }
+}
+
+// As far as the network end's own timers and the number of periods left allow; one of these stays to be run.
+fn farthest(bus: BusRecord, left: u32) -> u32
+    ensures { λ r. ⌜ r ≡ spec.farthest bus left ⌝ }
+{
+    if quiet(bus) {
+        let asked = clear(bus.periods, one_less(left), MOST_PERIODS as u64);
+        clear(bus.periods, clear(bus.periods, asked, bus.network.t1), bus.network.t2)
+    } else {
+        0
+    }
+}
+
+impl Ahead {
+    // The network end, and no terminal gone through.
+    pub fn first(bus: BusRecord, left: u32) -> Self
+        ensures { λ r. ⌜ r ≡ spec.firstAhead bus left ⌝ }
+    {
+        let now = bus.periods;
+        let line = shown_by(bus.network.state);
+        Ahead {
+            over: farthest(bus, left),
+            now,
+            line,
+            frames: false,
+        }
+    }
+
+    // As far as one terminal more allows: it takes no part in the exchange and hears what it has heard before, until its timer is due.
+    fn over_with(self, terminal: Terminal) -> u32
+        ensures { λ r. ⌜ r ≡ spec.overWith self terminal ⌝ }
+    {
+        let line = self.line;
+        if rests(terminal, line) & part_rests(terminal) {
+            clear(self.now, self.over, terminal.t3)
+        } else {
+            0
+        }
+    }
+
+    // One terminal more.
+    pub fn also(self, terminal: Terminal) -> Self
+        ensures { λ r. ⌜ r ≡ spec.alsoAhead 0 self terminal ⌝ }
+    {
+        let now = self.now;
+        let line = self.line;
+        Ahead {
+            over: self.over_with(terminal),
+            now,
+            line,
+            frames: self.frames | (info_sent(terminal.state) == 3),
+        }
+    }
+
+    // All terminals gone through.
+    pub fn reached(self, network: Network) -> u32
+        ensures { λ r. ⌜ r ≡ spec.reached network self ⌝ }
+    {
+        if network_rests(network, self.frames) {
+            self.over
+        } else {
+            0
+        }
+    }
+}
