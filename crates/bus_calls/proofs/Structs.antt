@@ -16,6 +16,8 @@ use Rattle.bus_record.proofs.record.BusRecord as Bus
 use Rattle.bus_record.proofs.record.BusRecord.Laws as Bus′
 use Rattle.bus_record.proofs.side.Ran as Ran
 use Rattle.bus_record.proofs.side.Ran.Laws as Ran′
+use Rattle.bus_calls.proofs.turn.Turn as Turn
+use Rattle.bus_calls.proofs.turn.Turn.Laws as Turn′
 use Rattle.bus_event.proofs.event.Told as Told
 use Rattle.bus_event.proofs.event.Told.Laws as Told′
 
@@ -42,3 +44,6 @@ terminal-steps = struct-kind Step.the-type Step′.the-laws Step′.the-plain St
 
 abbrev pub tolds : Kind Told.the-row
 tolds = struct-kind Told.the-type Told′.the-laws Told′.the-plain Told′.the-copy Told′.mir refl
+
+abbrev pub turns : Kind Turn.the-row
+turns = struct-kind Turn.the-type Turn′.the-laws Turn′.the-plain Turn′.the-copy Turn′.mir refl

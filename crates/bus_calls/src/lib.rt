@@ -3,3 +3,4 @@ pub mod event;
 pub mod ready;
 pub mod run;
 pub mod step;
+pub mod turn;

@@ -5,7 +5,7 @@ ghost use Rattle.call_rules.specs.Run.{ran, keptAfter};
 use super::ready::goes_on;
 use super::ready::in_range;
 use super::ready::run_reason;
-use super::step::step;
+use super::turn::advance;
 use bus_record::record::BusRecord;
 use bus_record::side::Ran;
 use bus_record::side::refused_run;
@@ -39,8 +39,9 @@ pub fn run(
     let mut left = most;
     let mut going = goes_on(last, left);
     while going {
-        last = step(last.bus, terminals, images, octets, letters, notes);
-        left -= 1;
+        let t = advance(last.bus, terminals, images, octets, letters, notes, left);
+        last = t.ran;
+        left -= 1 + t.over;
         going = goes_on(last, left);
     }
     last

@@ -23,12 +23,12 @@ use Rattle.call_rules.proofs.ReadyKept.{order-kept}
 use Rattle.call_rules.proofs.RunSingle.{goes-facts, ran-ends, kept-ends}
 
 -- ---- One turn of the definitions.
-ran-goes : (n : ℕ) (last : Ran) (k : Kept) → goesOn last n ≡ true → ranOn n last k ≡ ranOn (n - 1) (periodRan k) (keptRun k)
+pub ran-goes : (n : ℕ) (last : Ran) (k : Kept) → goesOn last n ≡ true → ranOn n last k ≡ ranOn (n - 1) (periodRan k) (keptRun k)
 unfolding ranOn
 ran-goes zero last k g = absurd (omega (arith, ltb-true 0 0 (goes-facts last 0 g .0)))
 ran-goes (suc n) last k g = let less : suc n - 1 ≡ n = omega arith in rw (g, less)
 
-kept-goes : (n : ℕ) (last : Ran) (k : Kept) → goesOn last n ≡ true → keptOn n last k ≡ keptOn (n - 1) (periodRan k) (keptRun k)
+pub kept-goes : (n : ℕ) (last : Ran) (k : Kept) → goesOn last n ≡ true → keptOn n last k ≡ keptOn (n - 1) (periodRan k) (keptRun k)
 unfolding keptOn
 kept-goes zero last k g = absurd (omega (arith, ltb-true 0 0 (goes-facts last 0 g .0)))
 kept-goes (suc n) last k g = let less : suc n - 1 ≡ n = omega arith in rw (g, less)

@@ -4,4 +4,5 @@ pub mod Clear
 pub mod Stays
 pub mod StillPeriod
 pub mod Leaping
+pub mod Turning
 pub mod Structs

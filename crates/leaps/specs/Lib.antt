@@ -1,3 +1,4 @@
--- Still buses, and how many periods are one step from there (Still); the law of leaps (Leap); scenes, computed (Scenes).
+-- Still buses, and how many periods are one step from there (Still); the law of leaps (Leap); a turn of the loop of a run (Turn).
 pub mod Still
 pub mod Leap
+pub mod Turn

@@ -1,7 +1,7 @@
 -- `bus_calls::run::run` meets its contract: a walk of its MIR with the lemmas of crate `walks`, a `while` on a truth value whose turn lends three slices to
--- `step`. What holds before each turn is `Going` (RunLoop.antt). All that it knows of what it calls are their contracts. Assumes nothing.
+-- `advance`. What holds before each turn is `Going` (RunLoop.antt). All that it knows of what it calls are their contracts. Assumes nothing.
 use Rattle.walks.proofs.Walk.{_≡_, refl, sym, _∙_, ap, ℕ, _<_, _^_, arith, Bool, true, false, List, [], _∷_, length, set, URA, w8, w32, w64, Val, vbool, vint, SProp, ent, emp, via, id⊢, fst∗, Memory, Routine, Heap, Tables, WpFn, Atoms, Fun, factI, givenOf, tables, tablesOf, Given, Item, ⋆, _$_, !, lit, of-opd, no-more, and-then, bin, Is, u8, u32, usize, bool, Room, onEntry, Meets, tripleOf, Contract, Triple, entered, cited, walkOf, Holds, free, has, loc, part, sets, leaves, blurs, bool-kind, uint-kind, typed, Spot, spot, word, lends-at, shows-at, hands-at, Param, plain-of, lfts-at, shares-at, args-at, vals-of, lfts-of, shares-of, args-of, itemsOf, reborrows, Call, calls-giving, calls-giving-last, enters-with, returns-with, mut-way, shr-way, plain-way, Ways-of, stays-of, meets-by, whiles-by}
-use Prim.Native.Nat.{_-_, _≤_}
+use Prim.Native.Nat.{_+_, _-_, _≤_}
 use denote.Struct.Laws as LL
 use Rattle.terminal.specs.declared.Terminal.{Terminal}
 use Rattle.terminal.proofs.Terminal as T
@@ -14,11 +14,13 @@ use Rattle.bus_record.proofs.record.BusRecord as B
 use Rattle.bus_record.proofs.side.Ran as R
 use Rattle.bus_record.proofs.side.Ran.Laws as R′
 use Rattle.call_rules.specs.Kept.{Kept, kept}
-use Rattle.call_rules.specs.Step.{stepRan, stepTerminals, stepOctets, stepNotes}
 use Rattle.call_rules.specs.Ready.{eightInRange, runReason, runReply, goesOn}
 use Rattle.call_rules.specs.Run.{ran, keptAfter}
-use Rattle.bus_calls.proofs.Structs.{buses, runs}
-use Rattle.call_rules.proofs.RunLoop.{Going, going-first, going-on, going-left, going-lengths, going-ends}
+use Rattle.bus_calls.proofs.Structs.{buses, runs, turns}
+use Rattle.call_rules.proofs.RunLoop.{Going, going-first, going-left, going-lengths, going-ends}
+use Rattle.leaps.specs.Turn.{Turns}
+use Rattle.leaps.proofs.Turning.{turned-within, turned-on}
+use Rattle.bus_calls.specs.declared.turn.Turn.{Turn}
 use Rattle.bus_calls.proofs.ready.in_range as ready
 use Rattle.bus_calls.proofs.ready.in_range.Symbol as ready-def
 use Rattle.bus_calls.proofs.ready.in_range.Symbol.{name as #ready}
@@ -35,10 +37,12 @@ use Rattle.bus_calls.proofs.ready.goes_on as goes
 use Rattle.bus_calls.proofs.ready.goes_on.Symbol as goes-def
 use Rattle.bus_calls.proofs.ready.goes_on.Symbol.{name as #goes}
 use Rattle.bus_calls.proofs.ready.goes_on.Met as goes-thm
-use Rattle.bus_calls.proofs.step.step as step
-use Rattle.bus_calls.proofs.step.step.Symbol as step-def
-use Rattle.bus_calls.proofs.step.step.Symbol.{name as #step}
-use Rattle.bus_calls.proofs.step.step.Met as step-thm
+use Rattle.bus_calls.proofs.turn.Turn as Tu
+use Rattle.bus_calls.proofs.turn.Turn.Laws as Tu′
+use Rattle.bus_calls.proofs.turn.advance as step
+use Rattle.bus_calls.proofs.turn.advance.Symbol as step-def
+use Rattle.bus_calls.proofs.turn.advance.Symbol.{name as #step}
+use Rattle.bus_calls.proofs.turn.advance.Met as step-thm
 use Rattle.bus_calls.proofs.run.run.Key.{name as #walk}
 use Rattle.bus_calls.proofs.run.run as all
 use Rattle.bus_calls.proofs.run.run.Statement as stated
@@ -47,8 +51,12 @@ use Rattle.bus_calls.proofs.run.run.Code as code
 abbrev ways : Ways-of all.ended
 ways = (plain-way B.the-row buses (λ x f. refl), (mut-way 0 tt T.the-row, (shr-way 1 tt u8, (mut-way 2 tt u8, (shr-way 3 tt u8, (mut-way 4 tt N.the-row, (plain-way u32 (uint-kind w32) (λ x f. refl), tt)))))))
 
-less : (n : ℕ) → n < 2 ^ 32 → n - 1 < 2 ^ 32
-less n l = omega arith
+less : (n m : ℕ) → n < 2 ^ 32 → n - m < 2 ^ 32
+less n m l = omega arith
+
+-- no more than are left
+no-more-than : (n m : ℕ) → m ≤ n → n < 2 ^ 32 → m < 2 ^ 32
+no-more-than n m l f = omega arith
 
 -- the state of a turn: what the last period gave, the periods left, whether there is one more, and the slices that change
 record State : Type 0 where
@@ -79,15 +87,15 @@ module _ (bus : BusRecord) (ys : List Terminal) (es os ls : List ℕ) (us : List
     going-is : s .going ≡ goesOn (s .last) (s .left)
     so-far : GoesFrom (s .last) (s .left) (s .terminals) (s .octets) (s .notes)
 
-  -- what `step` says
-  abbrev Stepped : BusRecord → List Terminal → List ℕ → Ran → List Terminal → List ℕ → List UnitNotes → Type 0
-  Stepped b ts octs r ts′ octs′ ns′ = (r ≡ stepRan b ts es octs ls) × (ts′ ≡ stepTerminals b ts es ls) × (octs′ ≡ stepOctets b ts es octs ls) × (ns′ ≡ stepNotes b ts es ls)
+  -- what `advance` says
+  abbrev Advanced : State → Turn → List Terminal → List ℕ → List UnitNotes → Type 0
+  Advanced s t ts octs ns = Turns (s .left) (kept (s .last .bus) (s .terminals) es (s .octets) ls (s .notes)) (t .ran) (t .over) (kept (t .ran .bus) ts es octs ls ns)
 
   abbrev first-state : (r : Ran) → Bool → State
   first-state r g = record { last = r; left = most; going = g; terminals = ys; octets = os; notes = us }
 
-  abbrev next-state : State → Ran → Bool → List Terminal → List ℕ → List UnitNotes → State
-  next-state s r g ts octs ns = record { last = r; left = s .left - 1; going = g; terminals = ts; octets = octs; notes = ns }
+  abbrev next-state : State → Turn → Bool → List Terminal → List ℕ → List UnitNotes → State
+  next-state s t g ts octs ns = record { last = t .ran; left = s .left - (1 + t .over); going = g; terminals = ts; octets = octs; notes = ns }
 
   first-goes : (w : Bool) (k : ℕ) (r : Ran) → w ≡ eightInRange ys → k ≡ runReason w bus (length es) (length os) ls (length us) most → r ≡ refusedRun k bus → GoesFrom r most ys os us
   unfolding runReply
@@ -97,17 +105,21 @@ module _ (bus : BusRecord) (ys : List Terminal) (es os ls : List ℕ) (us : List
     goes-here : goesOn (s .last) (s .left) ≡ true
     goes-here = sym (i .going-is) ∙ on
 
-    one-left : 1 ≤ s .left
-    one-left = let l : 0 < s .left = going-left es ls (ran most at) (keptAfter most at) (s .last) (s .left) (s .terminals) (s .octets) (s .notes) (i .so-far) goes-here in omega arith
-
     lengths-here : length (s .notes) ≡ length (s .terminals)
     lengths-here = going-lengths es ls (ran most at) (keptAfter most at) (s .last) (s .left) (s .terminals) (s .octets) (s .notes) (i .so-far) goes-here
 
-    fewer : s .left - 1 < s .left
-    fewer = omega (arith, one-left)
+    some-left : 0 < s .left
+    some-left = going-left es ls (ran most at) (keptAfter most at) (s .last) (s .left) (s .terminals) (s .octets) (s .notes) (i .so-far) goes-here
 
-    goes-after : (r : Ran) (ts : List Terminal) (octs : List ℕ) (ns : List UnitNotes) → Stepped (s .last .bus) (s .terminals) (s .octets) r ts octs ns → GoesFrom r (s .left - 1) ts octs ns
-    goes-after r ts octs ns so = rw (so .0, so .1, so .2, so .3) (going-on es ls (ran most at) (keptAfter most at) (s .last) (s .left) (s .terminals) (s .octets) (s .notes) (i .so-far) goes-here)
+    module _ (t : Turn) (ts : List Terminal) (octs : List ℕ) (ns : List UnitNotes) (so : Advanced s t ts octs ns) where
+      turn-within : 1 + t .over ≤ s .left
+      turn-within = turned-within es ls (ran most at) (keptAfter most at) (s .last) (s .left) (s .terminals) (s .octets) (s .notes) (i .so-far) goes-here (t .ran) (t .over) ts octs ns so
+
+      fewer : s .left - (1 + t .over) < s .left
+      fewer = omega (arith, some-left)
+
+      goes-after : GoesFrom (t .ran) (s .left - (1 + t .over)) ts octs ns
+      goes-after = turned-on es ls (ran most at) (keptAfter most at) (s .last) (s .left) (s .terminals) (s .octets) (s .notes) (i .so-far) goes-here (t .ran) (t .over) ts octs ns so
 
   done-all : (s : State) → Inv s → s .going ≡ false → Promised (s .last) (s .terminals) (s .octets) (s .notes)
   done-all s i off =
@@ -215,21 +227,21 @@ module _ {M : Type 1} (𝓤 : URA M) (H : Heap 𝓤) (A : Atoms 𝓤) (W : Given
     ensured = λ ns g ws. id⊢ 𝓤 _;
   }
 
-  abbrev to-step : (r : Ran) → Is R.the-row r (runs .val r ∷ []) → List Terminal → List ℕ → List UnitNotes → List Param
-  to-step r gr ts octs us′ =
-      plain-of B.the-row buses (r .bus) (LL.owed R.the-type R′.the-laws r _ gr .0) ∷ lends-at 0 T.the-row s₁ (length ys) ts ∷ hands-at 1 u8 s₂ (length es) es ∷ lends-at 2 u8 s₃ (length os) octs ∷ hands-at 3 u8 s₄ (length ls) ls ∷ lends-at 4 N.the-row s₅ (length us) us′ ∷ []
+  abbrev to-step : (s : State) → Inv bus ys es os ls us most s → List Param
+  to-step s i =
+      plain-of B.the-row buses (s .last .bus) (LL.owed R.the-type R′.the-laws (s .last) _ (i .last-is) .0) ∷ lends-at 0 T.the-row s₁ (length ys) (s .terminals) ∷ hands-at 1 u8 s₂ (length es) es ∷ lends-at 2 u8 s₃ (length os) (s .octets) ∷ hands-at 3 u8 s₄ (length ls) ls ∷ lends-at 4 N.the-row s₅ (length us) (s .notes) ∷ plain-of u32 (uint-kind w32) (s .left) (refl, i .left-fits) ∷ []
 
-  abbrev the-step : (r : Ran) (gr : Is R.the-row r (runs .val r ∷ [])) (ts : List Terminal) (octs : List ℕ) (us′ : List UnitNotes) → length us′ ≡ length ts → Call W (to-step r gr ts octs us′) step.ended (step.clauses 𝓤 H A mem run)
-  the-step r gr ts octs us′ l = record {
-    bound = λ ns. ((lfts-of (to-step r gr ts octs us′) ns, shares-of (to-step r gr ts octs us′), tt, args-of (to-step r gr ts octs us′) ns, vals-of (to-step r gr ts octs us′)), tt);
+  abbrev the-step : (s : State) (i : Inv bus ys es os ls us most s) → length (s .notes) ≡ length (s .terminals) → Call W (to-step s i) step.ended (step.clauses 𝓤 H A mem run)
+  the-step s i l = record {
+    bound = λ ns. ((lfts-of (to-step s i) ns, shares-of (to-step s i), tt, args-of (to-step s i) ns, vals-of (to-step s i)), tt);
     asks = λ ns. id⊢ 𝓤 _;
     needed = λ ns. factI 𝓤 _ (emp 𝓤) l;
     tokens = λ ns. id⊢ 𝓤 _;
     last = λ ns ws. ws;
     finals = λ ns ws. id⊢ 𝓤 _;
-    result = λ ns. runs;
-    Said = λ ns r′ ws. Stepped bus ys es os ls us most (r .bus) ts octs r′ (ws .1 .0) (ws .1 .1 .1 .0) (ws .1 .1 .1 .1 .1 .0);
-    ensured = λ ns r′ ws. id⊢ 𝓤 _;
+    result = λ ns. turns;
+    Said = λ ns t ws. Advanced bus ys es os ls us most s t (ws .1 .0) (ws .1 .1 .1 .0) (ws .1 .1 .1 .1 .1 .0);
+    ensured = λ ns t ws. id⊢ 𝓤 _;
   }
 
   -- ---- The loop.
@@ -237,13 +249,13 @@ module _ {M : Type 1} (𝓤 : URA M) (H : Heap 𝓤) (A : Atoms 𝓤) (W : Given
   Inv-here s = Inv bus ys es os ls us most s
 
   abbrev holds : State → List Holds
-  holds s = free ∷ has (buses .val bus) ∷ has (word s₁ (length ys)) ∷ has (word s₂ (length es)) ∷ has (word s₃ (length os)) ∷ has (word s₄ (length ls)) ∷ has (word s₅ (length us)) ∷ has (vint w32 most) ∷ free ∷ free ∷ has (runs .val (s .last)) ∷ has (vint w32 (s .left)) ∷ has (vbool (s .going)) ∷ free ∷ free ∷ free ∷ free ∷ free ∷ free ∷ free ∷ free ∷ free ∷ free ∷ free ∷ free ∷ []
+  holds s = free ∷ has (buses .val bus) ∷ has (word s₁ (length ys)) ∷ has (word s₂ (length es)) ∷ has (word s₃ (length os)) ∷ has (word s₄ (length ls)) ∷ has (word s₅ (length us)) ∷ has (vint w32 most) ∷ free ∷ free ∷ has (runs .val (s .last)) ∷ has (vint w32 (s .left)) ∷ has (vbool (s .going)) ∷ free ∷ free ∷ free ∷ free ∷ free ∷ free ∷ free ∷ free ∷ free ∷ free ∷ free ∷ free ∷ free ∷ free ∷ []
 
   abbrev items : State → List (Item 𝓤)
   items s = itemsOf W (params (s .terminals) (s .octets) (s .notes))
 
   abbrev tested : State → List Holds
-  tested s = set (holds s) 18 (has (vbool (s .going)))
+  tested s = set (holds s) 19 (has (vbool (s .going)))
 
   walk : (𝓣 : Tables 𝓤 H) → Triple 𝓤 (𝓣 .C #ready) (Readies 𝓤 H A mem run) → Triple 𝓤 (𝓣 .C #reason) (Reasons 𝓤 H A mem run) → Triple 𝓤 (𝓣 .C #refused) (Refuses 𝓤 H A mem run) → Triple 𝓤 (𝓣 .C #goes) (Goes 𝓤 H A mem run) → Triple 𝓤 (𝓣 .C #step) (Steps 𝓤 H A mem run)
       → ent 𝓤 (onEntry 𝓤 H A all.signature (bound .0 .0) (bound .0 .1) (bound .0 .3) (bound .0 .4)) (WpFn 𝓤 H (𝓣 .C) (𝓣 .Λ) code.function words Post)
@@ -263,16 +275,18 @@ module _ {M : Type 1} (𝓤 : URA M) (H : Heap 𝓤) (A : Atoms 𝓤) (W : Given
       blurs ! (holds (first-state bus ys es os ls us most r g)) (refl, (refl, (refl, (refl, (refl, (refl, (refl, (refl, (refl, (refl, tt)))))))))) $
       whiles-by 𝓣 (λ s. s .left) Inv-here (λ s. s .going) holds tested items ! (λ s i X. sets ! (of-opd ! (loc ! tt refl)) tt (tt, tt)) (λ s. tt) (λ s. refl)
       (λ s i on X ret next.
-      -- step(last.bus, terminals, images, octets, letters, notes)
+      -- advance(last.bus, terminals, images, octets, letters, notes, left)
       reborrows ! (g₁ .0) (tt, refl, refl, tt, (tt, tt), tt, refl, tt, refl, tt, tt) $ reborrows ! (g₃ .0) (tt, refl, refl, tt, (tt, tt), tt, refl, tt, refl, tt, tt) $ reborrows ! (g₅ .0) (tt, refl, refl, tt, (tt, tt), tt, refl, tt, refl, tt, tt) $
-      calls-giving (the-step (s .last) (i .last-is) (s .terminals) (s .octets) (s .notes) (lengths-here bus ys es os ls us most s i on)) (1 ∷ 2 ∷ 3 ∷ 4 ∷ 5 ∷ []) ! refl 𝓣 k₅ (λ ns Θ. and-then ! (part ! tt refl refl refl) (and-then ! (loc ! tt refl) (and-then ! (loc ! tt refl) (and-then ! (loc ! tt refl) (and-then ! (loc ! tt refl) (and-then ! (loc ! tt refl) (no-more !))))))) tt (λ ns. refl) (λ ns r′ ws same so gr′.
-      -- left -= 1; goes_on(last, left)
-      sets ! (bin ! (loc ! tt refl) (lit ! tt) (one-left bus ys es os ls us most s i on)) tt (tt, record { fits = less (s .left) (i .left-fits) }) $
-      calls-giving-last (the-goes r′ gr′ (s .left - 1) (less (s .left) (i .left-fits))) [] ! refl 𝓣 k₄ (λ ns Θ. and-then ! (loc ! tt refl) (and-then ! (loc ! tt refl) (no-more !))) tt (λ ns. refl) (λ ns g′ _ _ is-g′ gg′.
-      blurs ! (holds (next-state bus ys es os ls us most s r′ g′ (ws .1 .0) (ws .1 .1 .1 .0) (ws .1 .1 .1 .1 .1 .0))) (refl, (refl, (refl, (refl, (refl, (refl, (refl, (refl, (refl, (refl, tt)))))))))) $
-      next (next-state bus ys es os ls us most s r′ g′ (ws .1 .0) (ws .1 .1 .1 .0) (ws .1 .1 .1 .1 .1 .0))
-      (record { same₁ = same .0 ∙ i .same₁; same₃ = same .1 .0 ∙ i .same₃; same₅ = same .1 .1 .0 ∙ i .same₅; last-is = gr′; left-fits = less (s .left) (i .left-fits); going-is = is-g′; so-far = goes-after bus ys es os ls us most s i on r′ (ws .1 .0) (ws .1 .1 .1 .0) (ws .1 .1 .1 .1 .1 .0) so })
-      (fewer bus ys es os ls us most s i on))))
+      calls-giving (the-step s i (lengths-here bus ys es os ls us most s i on)) (1 ∷ 2 ∷ 3 ∷ 4 ∷ 5 ∷ []) ! refl 𝓣 k₅ (λ ns Θ. and-then ! (part ! tt refl refl refl) (and-then ! (loc ! tt refl) (and-then ! (loc ! tt refl) (and-then ! (loc ! tt refl) (and-then ! (loc ! tt refl) (and-then ! (loc ! tt refl) (and-then ! (loc ! tt refl) (no-more !)))))))) tt (λ ns. refl) (λ ns t ws same so gt.
+      -- last = t.ran; left -= 1 + t.over; goes_on(last, left)
+      sets ! (of-opd ! (part ! tt refl refl refl)) tt (typed runs 𝓤 H A W (t .ran) _ (LL.owed Tu.the-type Tu′.the-laws t _ gt .0)) $
+      sets ! (bin ! (lit ! tt) (part ! tt refl refl refl) (record { fits = no-more-than (s .left) (1 + t .over) (turn-within bus ys es os ls us most s i on t (ws .1 .0) (ws .1 .1 .1 .0) (ws .1 .1 .1 .1 .1 .0) so) (i .left-fits) })) tt (tt, record { fits = no-more-than (s .left) (1 + t .over) (turn-within bus ys es os ls us most s i on t (ws .1 .0) (ws .1 .1 .1 .0) (ws .1 .1 .1 .1 .1 .0) so) (i .left-fits) }) $
+      sets ! (bin ! (loc ! tt refl) (loc ! tt refl) (turn-within bus ys es os ls us most s i on t (ws .1 .0) (ws .1 .1 .1 .0) (ws .1 .1 .1 .1 .1 .0) so)) tt (tt, record { fits = less (s .left) (1 + t .over) (i .left-fits) }) $
+      calls-giving-last (the-goes (t .ran) (LL.owed Tu.the-type Tu′.the-laws t _ gt .0) (s .left - (1 + t .over)) (less (s .left) (1 + t .over) (i .left-fits))) [] ! refl 𝓣 k₄ (λ ns Θ. and-then ! (loc ! tt refl) (and-then ! (loc ! tt refl) (no-more !))) tt (λ ns. refl) (λ ns g′ _ _ is-g′ gg′.
+      blurs ! (holds (next-state bus ys es os ls us most s t g′ (ws .1 .0) (ws .1 .1 .1 .0) (ws .1 .1 .1 .1 .1 .0))) (refl, (refl, (refl, (refl, (refl, (refl, (refl, (refl, (refl, (refl, tt)))))))))) $
+      next (next-state bus ys es os ls us most s t g′ (ws .1 .0) (ws .1 .1 .1 .0) (ws .1 .1 .1 .1 .1 .0))
+      (record { same₁ = same .0 ∙ i .same₁; same₃ = same .1 .0 ∙ i .same₃; same₅ = same .1 .1 .0 ∙ i .same₅; last-is = LL.owed Tu.the-type Tu′.the-laws t _ gt .0; left-fits = less (s .left) (1 + t .over) (i .left-fits); going-is = is-g′; so-far = goes-after bus ys es os ls us most s i on t (ws .1 .0) (ws .1 .1 .1 .0) (ws .1 .1 .1 .1 .1 .0) so })
+      (fewer bus ys es os ls us most s i on t (ws .1 .0) (ws .1 .1 .1 .0) (ws .1 .1 .1 .1 .1 .0) so))))
       (λ s i off. sets ! (of-opd ! (loc ! tt refl)) tt (typed runs 𝓤 H A W (s .last) _ (i .last-is)) $ leaves ! Post refl tt refl (exits (s .last) (s .terminals) (s .octets) (s .notes) (i .same₁) (i .same₃) (i .same₅) (done-all bus ys es os ls us most s i off) (i .last-is)))
       (first-state bus ys es os ls us most r g) (record { same₁ = refl; same₃ = refl; same₅ = refl; last-is = gr; left-fits = gm; going-is = is-g; so-far = first-goes bus ys es os ls us most w k r is-w is-k is-r }))))))
 
@@ -294,4 +308,4 @@ run-spec 𝓤 H 𝓜 𝓖 𝓡 =
     (cited 𝓤 H (Reasons 𝓤 H (𝓖 .A) (𝓜 .mem) (𝓡 .run)) 𝓜 𝓡 code.env #reason reason-def.routine code.calls-bus-calls·ready·run-reason (reason-thm.met 𝓤 H 𝓜 𝓖 𝓡))
     (cited 𝓤 H (Refuses 𝓤 H (𝓖 .A) (𝓜 .mem) (𝓡 .run)) 𝓜 𝓡 code.env #refused refused-def.routine code.calls-bus-record·side·refused-run (refused-thm.met 𝓤 H 𝓜 𝓖 𝓡))
     (cited 𝓤 H (Goes 𝓤 H (𝓖 .A) (𝓜 .mem) (𝓡 .run)) 𝓜 𝓡 code.env #goes goes-def.routine code.calls-bus-calls·ready·goes-on (goes-thm.met 𝓤 H 𝓜 𝓖 𝓡))
-    (cited 𝓤 H (Steps 𝓤 H (𝓖 .A) (𝓜 .mem) (𝓡 .run)) 𝓜 𝓡 code.env #step step-def.routine code.calls-bus-calls·step·step (step-thm.met 𝓤 H 𝓜 𝓖 𝓡)))
+    (cited 𝓤 H (Steps 𝓤 H (𝓖 .A) (𝓜 .mem) (𝓡 .run)) 𝓜 𝓡 code.env #step step-def.routine code.calls-bus-calls·turn·advance (step-thm.met 𝓤 H 𝓜 𝓖 𝓡)))

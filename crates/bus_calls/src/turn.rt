@@ -1,0 +1,42 @@
+// A turn of a run's loop: the shortest way from here that a lemma allows.
+ghost use mathlib.Core.Path.{_≡_};
+ghost use lib.ListN.{length};
+ghost use Rattle.call_rules.specs.Kept.{kept};
+ghost use Rattle.leaps.specs.Turn.{Turns};
+use super::step::step;
+use bus_record::record::BusRecord;
+use bus_record::side::Ran;
+use leaps::leap::leapt;
+use leaps::reach::reach;
+use listening::hears::UnitNotes;
+use terminal::Terminal;
+
+// What the last period of a turn gives, and how many were run before it.
+pub struct Turn {
+    pub ran: Ran,
+    pub over: u32,
+}
+
+fn turned(ran: Ran, over: u32) -> Turn
+    ensures { λ r. ⌜ (r .ran ≡ ran) × (r .over ≡ over) ⌝ }
+{
+    Turn { ran, over }
+}
+
+// With so many periods left to run: a step over those of a still bus, and one more.
+pub(crate) fn advance(
+    bus: BusRecord,
+    terminals: &mut [Terminal],
+    images: &[u8],
+    octets: &mut [u8],
+    letters: &[u8],
+    notes: &mut [UnitNotes],
+    left: u32,
+) -> Turn
+    requires { ⌜ length (now notes) ≡ length (now terminals) ⌝ }
+    ensures { λ r. ⌜ Turns left (kept bus (now (terminals .entry)) (now (images .entry)) (now (octets .entry)) (now (letters .entry)) (now (notes .entry))) (r .ran) (r .over) (kept (r .ran .bus) (now (terminals .exit)) (now (images .entry)) (now (octets .exit)) (now (letters .entry)) (now (notes .exit))) ⌝ }
+{
+    let over = reach(bus, terminals, left);
+    let ran = step(leapt(bus, over), terminals, images, octets, letters, notes);
+    turned(ran, over)
+}
