@@ -18,7 +18,7 @@ pub struct Part {
 }
 
 // Bit number `sent` of the image lent with terminal i, from 0; 1 where there is none.
-fn image_bit(images: &[u8], i: usize, sent: u16) -> bool
+pub fn image_bit(images: &[u8], i: usize, sent: u16) -> bool
     ensures { λ r. ⌜ r ≡ imageBit (now (images .entry)) i sent ⌝ }
 {
     if i < TERMINALS {

@@ -1,0 +1,2 @@
+-- One opportunity and four of them, alone (SoloFour).
+pub mod SoloFour

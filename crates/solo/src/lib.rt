@@ -1,0 +1,2 @@
+// Periods in which one terminal alone sends on the D channel, without going through the terminals.
+pub mod solo;

@@ -1,0 +1,119 @@
+// The one terminal that sends, in the few values that its sending takes.
+ghost use mathlib.Core.Path.{_≡_};
+ghost use Rattle.solo.specs.Solo.{countedAt, soloTurned, soloTurns, soloStep, momentOf};
+use combining::hit::KEEP_LETTER;
+use exchange::moment::Letters;
+use exchange::moment::Moment;
+use exchange::part::image_bit;
+use frame::fields::Four;
+
+// The C at which a frame of class 1 may start: at a lower one no frame starts, and no level changes.
+const FIRST_START: u8 = 8;
+// C stays there.
+const MOST_COUNT: u8 = 11;
+
+// The terminal that sends alone.
+pub struct Solo {
+    // Its index.
+    pub at: usize,
+    // The bits of its image, and those that have left.
+    pub length: u16,
+    pub sent: u16,
+    // C, which all terminals in F7 share.
+    pub count: u8,
+    // The bit that left last.
+    pub last: bool,
+}
+
+// What a period gives: the sender after it, the four D, and whether it sends alone at all four.
+pub struct SoloStep {
+    pub solo: Solo,
+    pub ds: Four,
+    pub goes: bool,
+}
+
+impl Solo {
+    // One opportunity: its E is the last bit.
+    fn turned(self, images: &[u8]) -> Self
+        ensures { λ r. ⌜ r ≡ soloTurned (now (images .entry)) self ⌝ }
+    {
+        let sent = if self.sent < self.length {
+            self.sent + 1
+        } else {
+            self.sent
+        };
+        Solo {
+            at: self.at,
+            length: self.length,
+            sent,
+            count: self.counted(),
+            last: image_bit(images, self.at, self.sent),
+        }
+    }
+
+    // C after the E.
+    fn counted(self) -> u8
+        ensures { λ r. ⌜ r ≡ countedAt self ⌝ }
+    {
+        if self.last {
+            if self.count < MOST_COUNT {
+                self.count + 1
+            } else {
+                MOST_COUNT
+            }
+        } else {
+            0
+        }
+    }
+
+    // Whether the next bit leaves, and no other terminal starts.
+    fn turns(self) -> bool
+        ensures { λ r. ⌜ r ≡ soloTurns self ⌝ }
+    {
+        (0 < self.sent) & (self.sent < self.length) & (self.counted() < FIRST_START)
+    }
+
+    // The four opportunities of a period.
+    pub fn after_four(self, images: &[u8]) -> SoloStep
+        ensures { λ r. ⌜ r ≡ soloStep (now (images .entry)) self ⌝ }
+    {
+        let second = self.turned(images);
+        let third = second.turned(images);
+        let fourth = third.turned(images);
+        let solo = fourth.turned(images);
+        SoloStep {
+            solo,
+            ds: Four {
+                first: second.last,
+                second: third.last,
+                third: fourth.last,
+                fourth: solo.last,
+            },
+            goes: self.turns() & second.turns() & third.turns() & fourth.turns(),
+        }
+    }
+}
+
+// The exchange that the four opportunities leave.
+pub fn moment_of(state: u8, ds: Four) -> Moment
+    ensures { λ r. ⌜ r ≡ momentOf state ds ⌝ }
+{
+    Moment {
+        letters: Letters {
+            first: KEEP_LETTER,
+            second: KEEP_LETTER,
+            third: KEEP_LETTER,
+            fourth: KEEP_LETTER,
+        },
+        ds,
+        state,
+        place: 0,
+        done1: 0,
+        done2: 0,
+        heard: ds.fourth,
+        e: ds.third,
+        d: ds.fourth,
+        calling: false,
+        frames: true,
+    }
+}
