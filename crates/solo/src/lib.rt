@@ -1,2 +1,3 @@
 // Periods in which one terminal alone sends on the D channel, without going through the terminals.
+pub mod alone;
 pub mod solo;
