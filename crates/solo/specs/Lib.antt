@@ -1,4 +1,5 @@
 -- Periods in which one terminal alone sends on the D channel: the sender in a few values, and the terminals as the run has them (Solo); a run
--- of such periods (Alone).
+-- of such periods (Alone); whether one terminal sends alone, and which (Search).
 pub mod Solo
 pub mod Alone
+pub mod Search

@@ -1,0 +1,58 @@
+-- Whether one terminal sends alone, and which: the terminals gone through one by one. This is how the code goes; the law `found-alone` says
+-- what a search that finds one has shown.
+use mathlib.Core.Bool.{Bool, true, false, cond, not, _&&_, _||_}
+use mathlib.Core.List.{List, [], _∷_}
+use mathlib.Core.Path.{_≡_}
+use Prim.Native.Nat.{ℕ, _+_, _-_, _≤_}
+use lib.Dec.{eqb, ltb, leb}
+use Rattle.walks.specs.Over.{mapFrom, foldFrom}
+use Rattle.table_6_2.specs.Table62.{F7}
+use Rattle.table_6_3.specs.Table63.{G3}
+use Rattle.timing.specs.declared.counts.Periods.{Periods}
+use Rattle.terminal.specs.declared.Terminal.{Terminal}
+use Rattle.bus.specs.Quick.{shownBy}
+use Rattle.listening.specs.Hears.{rests}
+use Rattle.solo.specs.Solo.{followed, soloSeats, senderIn}
+use Rattle.solo.specs.declared.solo.Solo.{Solo}
+use Rattle.solo.specs.declared.search.Search.{Search}
+
+-- how many periods, of at most so many from period `now` on, can be run before a timer is due
+unfoldable pub clearOf : ℕ → ℕ → ℕ → ℕ
+clearOf now most timer = cond (ltb now timer) (cond (leb (timer - now) most) (timer - now - 1) most) most
+
+-- whether a terminal counts E, and whether it sends
+abbrev pub counting : Terminal → Bool
+counting t = eqb (t .state) F7
+
+abbrev pub sendingNow : Terminal → Bool
+sendingNow t = counting t && ltb 0 (t .access .sent)
+
+-- terminal i, where it sends, with its C; else the one found before it
+unfoldable pub senderAfter : ℕ → Solo → Terminal → Solo
+senderAfter i s t =
+    let count = cond (counting t) (t .access .count) (s .count) in
+    cond (sendingNow t)
+    (record { at = i; length = t .access .length; sent = t .access .sent; count = count; last = t .access .last })
+    (record { at = s .at; length = s .length; sent = s .sent; count = count; last = s .last })
+
+-- whether a terminal rests while the network end in G3 is heard, counts as those before it and is no second one that sends
+unfoldable pub fitsIn : Search → Terminal → Bool
+fitsIn a t =
+    (rests (shownBy G3) t && ((not (counting t) || not (a .counts)) || eqb (t .access .count) (a .solo .count))) && not (a .sends && sendingNow t)
+
+unfoldable pub searchedOne : Periods → ℕ → Search → Terminal → Search
+searchedOne period i a t =
+    record {
+      solo = senderAfter i (a .solo) t;
+      over = clearOf (period .0) (a .over) (t .t3);
+      counts = a .counts || counting t;
+      sends = a .sends || sendingNow t;
+      fits = a .fits && fitsIn a t;
+    }
+
+abbrev pub noSearch : ℕ → Search
+noSearch most =
+    record { solo = record { at = 0; length = 0; sent = 0; count = 0; last = true }; over = most; counts = false; sends = false; fits = true }
+
+unfoldable pub searched : Periods → ℕ → List Terminal → Search
+searched period most ts = foldFrom (searchedOne period) 0 (noSearch most) ts

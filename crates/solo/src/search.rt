@@ -1,0 +1,123 @@
+// Whether one terminal sends alone, and which.
+ghost use mathlib.Core.Path.{_≡_};
+ghost use Rattle.solo.specs.Search.{clearOf, senderAfter, searchedOne, noSearch, searched};
+use super::solo::Solo;
+use hearing::heard::Downward;
+use listening::hears::rests;
+use table_6_2::F7;
+use terminal::Terminal;
+use timing::counts::Periods;
+
+// What is known of the terminals gone through.
+pub struct Search {
+    // The one that sends, and C of those in F7.
+    pub solo: Solo,
+    // The periods that can be run before T3 is due at one of them.
+    pub over: u32,
+    // Whether one is in F7, and whether one sends.
+    pub counts: bool,
+    pub sends: bool,
+    // Whether all of them rest, those in F7 have one C, and no second one sends.
+    pub fits: bool,
+}
+
+// How many periods, of at most so many from a period on, can be run before a timer is due.
+fn clear_of(period: Periods, most: u32, timer: u64) -> u32
+    ensures { λ r. ⌜ r ≡ clearOf (period .0) most timer ⌝ }
+{
+    let from = period.0 as u64;
+    if from < timer {
+        let left = timer - from;
+        if left <= most as u64 {
+            return (left - 1) as u32;
+        }
+    }
+    most
+}
+
+// Terminal i, where it sends, with its C; else the one found before it.
+fn sender_after(before: Solo, i: usize, t: Terminal) -> Solo
+    ensures { λ r. ⌜ r ≡ senderAfter i before t ⌝ }
+{
+    let access = t.access;
+    let count = if t.state == F7 {
+        access.count
+    } else {
+        before.count
+    };
+    if (t.state == F7) & (0 < access.sent) {
+        Solo {
+            at: i,
+            length: access.length,
+            sent: access.sent,
+            count,
+            last: access.last,
+        }
+    } else {
+        Solo {
+            at: before.at,
+            length: before.length,
+            sent: before.sent,
+            count,
+            last: before.last,
+        }
+    }
+}
+
+// Nothing is known yet, of at most so many periods.
+fn no_search(most: u32) -> Search
+    ensures { λ r. ⌜ r ≡ noSearch most ⌝ }
+{
+    Search {
+        solo: Solo {
+            at: 0,
+            length: 0,
+            sent: 0,
+            count: 0,
+            last: true,
+        },
+        over: most,
+        counts: false,
+        sends: false,
+        fits: true,
+    }
+}
+
+impl Search {
+    // One terminal more.
+    fn also(self, i: usize, t: Terminal, period: Periods) -> Self
+        ensures { λ r. ⌜ r ≡ searchedOne period i self t ⌝ }
+    {
+        let line = Downward {
+            pulse: true,
+            framed: true,
+            a: true,
+        };
+        let before = self.solo;
+        let counts = t.state == F7;
+        let sends = counts & (0 < t.access.sent);
+        let same = !counts | !self.counts | (t.access.count == before.count);
+        let fits = rests(t, line) & same & !(self.sends & sends);
+        Search {
+            solo: sender_after(before, i, t),
+            over: clear_of(period, self.over, t.t3),
+            counts: self.counts | counts,
+            sends: self.sends | sends,
+            fits: self.fits & fits,
+        }
+    }
+}
+
+// All terminals, from a period on.
+pub fn find(terminals: &[Terminal], period: Periods, most: u32) -> Search
+    ensures { λ r. ⌜ r ≡ searched period most (now (terminals .entry)) ⌝ }
+{
+    let mut search = no_search(most);
+    let mut i: usize = 0;
+    while i < terminals.len() {
+        let t = terminals[i];
+        search = search.also(i, t, period);
+        i += 1;
+    }
+    search
+}
