@@ -1,4 +1,6 @@
--- One opportunity and four of them, alone (SoloFour); the loop over such periods (AloneLoop); the structs of the walks (Structs).
+-- One opportunity and four of them, alone (SoloFour); the loop over such periods (AloneLoop); what a search that finds one has
+-- shown (FoundAlone); the structs of the walks (Structs).
 pub mod SoloFour
 pub mod AloneLoop
+pub mod FoundAlone
 pub mod Structs

@@ -31,7 +31,7 @@ use Rattle.exchange.proofs.Images.{image-at}
 use Rattle.solo.specs.Solo.{countedAt, soloBit, soloTurned, soloTurns, soloAfterFour, soloBits, soloGoes, noLetters, momentOf, followedAccess, followed, soloSeat, soloSeats, senderIn, FourAlone, SoloFour}
 use Rattle.solo.specs.declared.solo.Solo.{Solo}
 
-not-false : (b : Bool) → not b ≡ true → b ≡ false
+pub not-false : (b : Bool) → not b ≡ true → b ≡ false
 not-false true h = clash false h refl
 not-false false h = refl
 
@@ -116,11 +116,11 @@ module _ (images : List ℕ) (e : Bool) (i : ℕ) (t : Terminal) (h : eqb (t .st
   done-here = rw (h, image-at)
 
 module _ (s : Solo) (i : ℕ) (t : Terminal) where
-  followed-in : eqb (t .state) F7 ≡ true → followed s i t ≡ record { t3 = t .t3; access = followedAccess s i (t .access); state = t .state; alignment = t .alignment }
+  pub followed-in : eqb (t .state) F7 ≡ true → followed s i t ≡ record { t3 = t .t3; access = followedAccess s i (t .access); state = t .state; alignment = t .alignment }
   unfolding followed
   followed-in h = rw h
 
-  followed-out : eqb (t .state) F7 ≡ false → followed s i t ≡ t
+  pub followed-out : eqb (t .state) F7 ≡ false → followed s i t ≡ t
   unfolding followed
   followed-out h = rw h
 

@@ -56,3 +56,27 @@ noSearch most =
 
 unfoldable pub searched : Periods → ℕ → List Terminal → Search
 searched period most ts = foldFrom (searchedOne period) 0 (noSearch most) ts
+
+-- ---- What a search that finds one has shown (proofs/FoundAlone.antt).
+unfoldable pub allRest : List Terminal → Bool
+allRest [] = true
+allRest (t ∷ ts) = rests (shownBy G3) t && allRest ts
+
+-- T3 is due at the start of none of the n periods after period `now`
+unfoldable pub allClear : ℕ → ℕ → List Terminal → Bool
+allClear now n [] = true
+allClear now n (t ∷ ts) = (leb (t .t3) now || ltb (now + n) (t .t3)) && allClear now n ts
+
+-- the terminals are as the run has them at its start, each in its place; all rest, and no timer is due while it lasts
+pub record IsAlone (now most : ℕ) (r : Search) (ts : List Terminal) : Type 0 where
+  pub seats : soloSeats (r .solo .at) (r .solo .length) 0 ts ≡ true
+  pub sender : senderIn (r .solo .at) 0 ts ≡ true
+  pub followed-is : mapFrom (followed (r .solo)) 0 ts ≡ ts
+  pub rest : allRest ts ≡ true
+  pub clear : allClear now (r .over) ts ≡ true
+  pub few : r .over ≤ most
+
+abbrev pub FoundAlone : Type 0
+FoundAlone =
+    (period : Periods) (most : ℕ) (ts : List Terminal) → searched period most ts .fits ≡ true → searched period most ts .sends ≡ true
+    → IsAlone (period .0) most (searched period most ts) ts

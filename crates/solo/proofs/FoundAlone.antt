@@ -1,0 +1,265 @@
+-- What a search that finds a terminal has shown: `found-alone` (specs/Search.antt).
+use mathlib.Core.Path.{_≡_, refl, sym, _∙_}
+use mathlib.Core.Bool.{Bool, true, false, cond, not, _&&_, _||_, or-true, or-false}
+use mathlib.Core.List.{List, [], _∷_}
+use Prim.Native.Nat.{ℕ, suc, _+_, _-_, _≤_, _<_}
+use native.Mathlib.Omega.{arith}
+use lib.Dec.{eqb, ltb, leb}
+use borrow.Author.Tests.{ltb-true, ltb-false, leb-true, leb-false, eqb-true, eq-eqb, ne-eqb, lt-ltb, le-leb}
+use Rattle.cases.proofs.ByCases.{by-test, clash}
+use Rattle.cases.proofs.Operators.{and-both}
+use Rattle.cells.specs.Cells.{infoIn}
+use Rattle.table_6_2.specs.Table62.{F1, F3, F7, infoSent}
+use Rattle.table_6_3.specs.Table63.{G3}
+use Rattle.timing.specs.declared.counts.Periods.{Periods}
+use Rattle.dchannel.specs.declared.access.Access.{Access}
+use Rattle.terminal.specs.declared.Terminal.{Terminal}
+use Rattle.walks.specs.Over.{mapFrom, foldFrom}
+use Rattle.bus.specs.Quick.{shownBy}
+use Rattle.listening.specs.Hears.{rests}
+use Rattle.solo.specs.Solo.{followedAccess, followed, soloSeat, soloSeats, senderIn}
+use Rattle.solo.specs.Search.{clearOf, counting, sendingNow, senderAfter, fitsIn, searchedOne, noSearch, searched, allRest, allClear, IsAlone, FoundAlone}
+use Rattle.solo.specs.declared.solo.Solo.{Solo}
+use Rattle.solo.specs.declared.search.Search.{Search}
+use Rattle.solo.proofs.SoloFour.{not-false, followed-in, followed-out}
+
+-- ---- A terminal that rests while INFO 4 is heard is in F7 or in F1: it sends no INFO 1.
+rest-quiet : (t : Terminal) → rests (shownBy G3) t ≡ true → eqb (infoIn infoSent (t .state)) 1 ≡ false
+unfolding rests shownBy infoIn
+rest-quiet t h =
+    by-test (eqb (t .state) F7) (λ v. rw (eqb-true (t .state) F7 v))
+    (λ v. by-test (eqb (t .state) F1) (λ w. rw (eqb-true (t .state) F1 w))
+    (λ w. clash (rests (shownBy G3) t) h
+    (by-test (eqb (t .alignment .run) 0)
+    (λ u. rw (u, v) (by-test (eqb (t .state) F3) (λ x. rw x (neither (t .alignment .aligned))) (λ x. rw x w)))
+    (λ u. rw u w))))
+  where
+    neither : (b : Bool) → (not b && false) ≡ false
+    neither true = refl
+    neither false = refl
+
+-- ---- The timers.
+clear-less : (now most timer : ℕ) → clearOf now most timer ≤ most
+unfolding clearOf
+clear-less now most timer =
+    by-test (ltb now timer) (λ t. rw t (by-test (leb (timer - now) most) (λ u. rw u (omega (arith, leb-true (timer - now) most u))) (λ u. rw u (omega arith)))) (λ t. rw t (omega arith))
+
+clear-one : (now most timer n : ℕ) → n ≤ clearOf now most timer → (leb timer now || ltb (now + n) timer) ≡ true
+unfolding clearOf
+clear-one now most timer n h =
+    by-test (ltb now timer)
+    (λ t. let h1 = rw t at h in
+    let later : now < timer = ltb-true now timer t in
+    by-test (leb (timer - now) most)
+    (λ u. let h2 : n ≤ timer - now - 1 = rw u at h1 in rw (lt-ltb (now + n) timer (omega arith), or-true (leb timer now)))
+    (λ u. let h2 : n ≤ most = rw u at h1 in rw (lt-ltb (now + n) timer (omega (arith, leb-false (timer - now) most u)), or-true (leb timer now))))
+    (λ t. rw (le-leb timer now (omega (arith, ltb-false now timer t))))
+
+-- ---- What one terminal adds.
+record FitsOne (a : Search) (t : Terminal) : Type 0 where
+  rest : rests (shownBy G3) t ≡ true
+  same : counting t ≡ true → a .counts ≡ true → t .access .count ≡ a .solo .count
+  one : a .sends ≡ true → sendingNow t ≡ false
+
+fits-one : (a : Search) (t : Terminal) → fitsIn a t ≡ true → FitsOne a t
+unfolding fitsIn
+fits-one a t h =
+    let alike : Bool = (not (counting t) || not (a .counts)) || eqb (t .access .count) (a .solo .count) in
+    let outer = and-both (rests (shownBy G3) t && alike) (not (a .sends && sendingNow t)) h in
+    let inner = and-both (rests (shownBy G3) t) alike (outer .0) in
+    record {
+      rest = inner .0;
+      same = λ c k. eqb-true (t .access .count) (a .solo .count) (rw (c, k) at (inner .1));
+      one = λ s. rw s at (not-false (a .sends && sendingNow t) (outer .1));
+    }
+
+sender-count : (i : ℕ) (s : Solo) (t : Terminal) → senderAfter i s t .count ≡ cond (counting t) (t .access .count) (s .count)
+unfolding senderAfter
+sender-count i s t = by-test (sendingNow t) (λ h. rw h) (λ h. rw h)
+
+-- the sender is the same, whatever C
+record SameSender (r s : Solo) : Type 0 where
+  at-is : r .at ≡ s .at
+  length-is : r .length ≡ s .length
+  sent-is : r .sent ≡ s .sent
+  last-is : r .last ≡ s .last
+
+sender-stays : (i : ℕ) (s : Solo) (t : Terminal) → sendingNow t ≡ false → SameSender (senderAfter i s t) s
+unfolding senderAfter
+sender-stays i s t h = record { at-is = rw h; length-is = rw h; sent-is = rw h; last-is = rw h }
+
+record IsSender (r : Solo) (i : ℕ) (t : Terminal) : Type 0 where
+  at-is : r .at ≡ i
+  length-is : t .access .length ≡ r .length
+  sent-is : t .access .sent ≡ r .sent
+  last-is : t .access .last ≡ r .last
+
+sender-here : (i : ℕ) (s : Solo) (t : Terminal) → sendingNow t ≡ true → IsSender (senderAfter i s t) i t
+unfolding senderAfter
+sender-here i s t h = record { at-is = rw h; length-is = rw h; sent-is = rw h; last-is = rw h }
+
+-- ---- Along the terminals.
+module _ (period : Periods) where
+  abbrev go : ℕ → Search → Terminal → Search
+  go i a t = searchedOne period i a t
+
+  fits-kept : (i : ℕ) (a : Search) (ts : List Terminal) → foldFrom go i a ts .fits ≡ true → a .fits ≡ true
+  unfolding foldFrom searchedOne
+  fits-kept i a [] h = h
+  fits-kept i a (t ∷ ts) h = and-both (a .fits) (fitsIn a t) (fits-kept (suc i) (go i a t) ts h) .0
+
+  head-fits : (i : ℕ) (a : Search) (t : Terminal) (ts : List Terminal) → foldFrom go (suc i) (go i a t) ts .fits ≡ true → FitsOne a t
+  unfolding searchedOne
+  head-fits i a t ts h = fits-one a t (and-both (a .fits) (fitsIn a t) (fits-kept (suc i) (go i a t) ts h) .1)
+
+  over-less : (i : ℕ) (a : Search) (ts : List Terminal) → foldFrom go i a ts .over ≤ a .over
+  unfolding foldFrom searchedOne
+  over-less i a [] = omega arith
+  over-less i a (t ∷ ts) = omega (arith, over-less (suc i) (go i a t) ts, clear-less (period .0) (a .over) (t .t3))
+
+  count-kept : (i : ℕ) (a : Search) (ts : List Terminal) → foldFrom go i a ts .fits ≡ true → a .counts ≡ true → foldFrom go i a ts .solo .count ≡ a .solo .count
+  unfolding foldFrom searchedOne
+  count-kept i a [] h c = refl
+  count-kept i a (t ∷ ts) h c =
+      count-kept (suc i) (go i a t) ts h (rw c)
+      ∙ (sender-count i (a .solo) t ∙ by-test (counting t) (λ k. rw k (head-fits i a t ts h .same k c)) (λ k. rw k))
+
+  count-here : (i : ℕ) (a : Search) (t : Terminal) (ts : List Terminal) → foldFrom go (suc i) (go i a t) ts .fits ≡ true → counting t ≡ true → t .access .count ≡ foldFrom go (suc i) (go i a t) ts .solo .count
+  unfolding searchedOne
+  count-here i a t ts h c = sym (count-kept (suc i) (go i a t) ts h (rw (c, or-true (a .counts))) ∙ (sender-count i (a .solo) t ∙ rw c))
+
+  sender-kept : (i : ℕ) (a : Search) (ts : List Terminal) → foldFrom go i a ts .fits ≡ true → a .sends ≡ true → SameSender (foldFrom go i a ts .solo) (a .solo)
+  unfolding foldFrom searchedOne
+  sender-kept i a [] h s = record { at-is = refl; length-is = refl; sent-is = refl; last-is = refl }
+  sender-kept i a (t ∷ ts) h s =
+      let on = sender-kept (suc i) (go i a t) ts h (rw s) in
+      let here = sender-stays i (a .solo) t (head-fits i a t ts h .one s) in
+      record {
+        at-is = on .at-is ∙ here .at-is;
+        length-is = on .length-is ∙ here .length-is;
+        sent-is = on .sent-is ∙ here .sent-is;
+        last-is = on .last-is ∙ here .last-is;
+      }
+
+-- ---- One terminal in its place.
+record Placed (s : Solo) (i : ℕ) (t : Terminal) : Type 0 where
+  counted : counting t ≡ true → t .access .count ≡ s .count
+  sender : counting t ≡ true → eqb i (s .at) ≡ true → IsSender s i t
+  other : counting t ≡ true → eqb i (s .at) ≡ false → t .access .sent ≡ 0
+
+module _ (s : Solo) (i : ℕ) (t : Terminal) (p : Placed s i t) where
+  access-same : counting t ≡ true → followedAccess s i (t .access) ≡ t .access
+  access-same c =
+      let count = p .counted c in
+      by-test (eqb i (s .at))
+      (λ h. let sent = p .sender c h .sent-is in let last = p .sender c h .last-is in rw (h, ← count, ← sent, ← last))
+      (λ h. rw (h, ← count))
+
+  terminal-same : followed s i t ≡ t
+  terminal-same = by-test (counting t) (λ c. followed-in s i t c ∙ rw (access-same c)) (λ c. followed-out s i t c)
+
+  seat-is : rests (shownBy G3) t ≡ true → soloSeat (s .at) (s .length) i t ≡ true
+  unfolding soloSeat
+  seat-is r =
+      rw (rest-quiet t r)
+      (by-test (counting t)
+      (λ c. rw c (by-test (eqb i (s .at)) (λ h. rw h (eq-eqb (t .access .length) (s .length) (p .sender c h .length-is))) (λ h. rw h (eq-eqb (t .access .sent) 0 (p .other c h)))))
+      (λ c. rw c))
+
+-- none of it has left
+none-sent : (t : Terminal) → sendingNow t ≡ false → counting t ≡ true → t .access .sent ≡ 0
+none-sent t h c = let none : ltb 0 (t .access .sent) ≡ false = rw c at h in omega (arith, ltb-false 0 (t .access .sent) none)
+
+-- ---- All of them, the first being terminal i.
+module _ (now : ℕ) where
+  record Rest (r : Search) (i : ℕ) (ts : List Terminal) : Type 0 where
+    seats : soloSeats (r .solo .at) (r .solo .length) i ts ≡ true
+    followed-is : mapFrom (followed (r .solo)) i ts ≡ ts
+    rest : allRest ts ≡ true
+    clear : allClear now (r .over) ts ≡ true
+
+  none-rest : (r : Search) (i : ℕ) → Rest r i []
+  unfolding soloSeats mapFrom allRest allClear
+  none-rest r i = record { seats = refl; followed-is = refl; rest = refl; clear = refl }
+
+  one-rest : (r : Search) (i : ℕ) (t : Terminal) (ts : List Terminal) → Placed (r .solo) i t → rests (shownBy G3) t ≡ true → (leb (t .t3) now || ltb (now + r .over) (t .t3)) ≡ true → Rest r (suc i) ts → Rest r i (t ∷ ts)
+  unfolding soloSeats mapFrom allRest allClear
+  one-rest r i t ts p quiet clear on =
+      record {
+        seats = rw (seat-is (r .solo) i t p quiet) (on .seats);
+        followed-is = rw (terminal-same (r .solo) i t p, on .followed-is);
+        rest = rw quiet (on .rest);
+        clear = rw clear (on .clear);
+      }
+
+module _ (period : Periods) where
+  abbrev foundFrom : ℕ → Search → List Terminal → Search
+  foundFrom i a ts = foldFrom (searchedOne period) i a ts
+
+  -- one more, with the search to its end
+  module _ (i : ℕ) (a : Search) (t : Terminal) (ts : List Terminal) (h : foundFrom (suc i) (searchedOne period i a t) ts .fits ≡ true) where
+    abbrev end : Search
+    end = foundFrom (suc i) (searchedOne period i a t) ts
+
+    end-clear : (leb (t .t3) (period .0) || ltb (period .0 + end .over) (t .t3)) ≡ true
+    unfolding searchedOne
+    end-clear = clear-one (period .0) (a .over) (t .t3) (end .over) (over-less period (suc i) (searchedOne period i a t) ts)
+
+    more : Placed (end .solo) i t → Rest (period .0) end (suc i) ts → Rest (period .0) end i (t ∷ ts)
+    more p on = one-rest (period .0) end i t ts p (head-fits period i a t ts h .rest) end-clear on
+
+    -- it does not send, and the sender is another one
+    is-other : sendingNow t ≡ false → eqb i (end .solo .at) ≡ false → Placed (end .solo) i t
+    is-other s n =
+        record { counted = count-here period i a t ts h; sender = λ c is. clash (eqb i (end .solo .at)) is n; other = λ c _. none-sent t s c }
+
+  -- after the sender
+  rest-after : (i : ℕ) (a : Search) (ts : List Terminal) → foundFrom i a ts .fits ≡ true → a .sends ≡ true → a .solo .at < i → Rest (period .0) (foundFrom i a ts) i ts
+  unfolding foldFrom searchedOne
+  rest-after i a [] h s past = none-rest (period .0) a i
+  rest-after i a (t ∷ ts) h s past =
+      let quiet = head-fits period i a t ts h .one s in
+      let stays = sender-stays i (a .solo) t quiet .at-is in
+      let kept = sender-kept period (suc i) (searchedOne period i a t) ts h (rw s) .at-is ∙ stays in
+      more i a t ts h (is-other i a t ts h quiet (ne-eqb i _ (λ z. omega (arith, kept))))
+      (rest-after (suc i) (searchedOne period i a t) ts h (rw s) (omega (arith, stays)))
+
+  -- the sender and those before it
+  record Before (r : Search) (i : ℕ) (ts : List Terminal) : Type 0 where
+    rest : Rest (period .0) r i ts
+    sender : senderIn (r .solo .at) i ts ≡ true
+    later : i ≤ r .solo .at
+
+  rest-before : (i : ℕ) (a : Search) (ts : List Terminal) → foundFrom i a ts .fits ≡ true → foundFrom i a ts .sends ≡ true → a .sends ≡ false → Before (foundFrom i a ts) i ts
+  unfolding foldFrom searchedOne senderIn
+  rest-before i a [] h found none = clash (a .sends) found none
+  rest-before i a (t ∷ ts) h found none =
+      by-test (sendingNow t)
+      (λ s. let here = sender-here i (a .solo) t s in
+      let yes : searchedOne period i a t .sends ≡ true = rw (s, or-true (a .sends)) in
+      let kept = sender-kept period (suc i) (searchedOne period i a t) ts h yes in
+      let at : end i a t ts h .solo .at ≡ i = kept .at-is ∙ here .at-is in
+      let is : IsSender (end i a t ts h .solo) i t = record { at-is = at; length-is = here .length-is ∙ sym (kept .length-is); sent-is = here .sent-is ∙ sym (kept .sent-is); last-is = here .last-is ∙ sym (kept .last-is) } in
+      let same : eqb i (end i a t ts h .solo .at) ≡ true = eq-eqb i _ (sym at) in
+      record {
+        rest = more i a t ts h (record { counted = count-here period i a t ts h; sender = λ _ _. is; other = λ _ n. clash (eqb i (end i a t ts h .solo .at)) same n })
+            (rest-after (suc i) (searchedOne period i a t) ts h yes (omega (arith, here .at-is)));
+        sender = rw same (and-both (counting t) (ltb 0 (t .access .sent)) s .0);
+        later = omega (arith, at);
+      })
+      (λ s. let on = rest-before (suc i) (searchedOne period i a t) ts h found (rw (s, none)) in
+      let differs : eqb i (end i a t ts h .solo .at) ≡ false = ne-eqb i _ (λ z. omega (arith, on .later)) in
+      record { rest = more i a t ts h (is-other i a t ts h s differs) (on .rest); sender = rw differs (on .sender); later = omega (arith, on .later) })
+
+pub found-alone : FoundAlone
+unfolding searched
+found-alone period most ts h found =
+    let on = rest-before period 0 (noSearch most) ts h found refl in
+    record {
+      seats = on .rest .seats;
+      sender = on .sender;
+      followed-is = on .rest .followed-is;
+      rest = on .rest .rest;
+      clear = on .rest .clear;
+      few = over-less period 0 (noSearch most) ts;
+    }
