@@ -1,0 +1,52 @@
+-- A period of a run alone is the period over all terminals: the exchange, the terminals' hearing and their timers (crate `call_rules`,
+-- specs/Step.antt). The statements are types; `proofs/Period.antt` proves each under the same name in small letters.
+use mathlib.Core.Bool.{true, false}
+use mathlib.Core.List.{List}
+use mathlib.Core.Path.{_≡_}
+use Prim.Native.Nat.{ℕ, _+_, _<_}
+use Rattle.walks.specs.Over.{mapFrom, foldFrom}
+use Rattle.hearing.specs.declared.heard.Downward.{Downward}
+use Rattle.terminal.specs.declared.Terminal.{Terminal}
+use Rattle.exchange.specs.Opportunities.{momentAfterFour, terminalsAfterFour}
+use Rattle.exchange.specs.declared.moment.Moment.{Moment}
+use Rattle.listening.specs.Hears.{terminalAfter, notesAfter, toldAfter}
+use Rattle.bus_record.specs.Echo.{firstMoment, heardDown}
+use Rattle.bus_record.specs.NetworkSide.{noNotes}
+use Rattle.bus_record.specs.declared.record.BusRecord.{BusRecord}
+use Rattle.solo.specs.Solo.{soloAfterFour, soloMoment, followed, soloSeats, senderIn}
+use Rattle.solo.specs.Alone.{goesAlone}
+use Rattle.solo.specs.Search.{allRest, allClear}
+use Rattle.solo.specs.declared.alone.Alone.{Alone}
+
+-- the exchange of the period, and the line that is heard
+abbrev pub exchangeOver : BusRecord → List ℕ → List ℕ → List Terminal → Moment
+exchangeOver bus images letters ts = momentAfterFour images (firstMoment bus letters) ts
+
+abbrev pub lineOver : BusRecord → List ℕ → List ℕ → List Terminal → Downward
+lineOver bus images letters ts = heardDown bus (exchangeOver bus images letters ts .ds) letters
+
+-- the terminals at its start, as the run has them, and after the exchange
+abbrev pub terminalsHere : Alone → List Terminal → List Terminal
+terminalsHere a ts = mapFrom (followed (a .solo)) 0 ts
+
+abbrev pub exchangedHere : List ℕ → List ℕ → Alone → List Terminal → List Terminal
+exchangedHere images letters a ts = terminalsAfterFour images (firstMoment (a .ran .bus) letters) (terminalsHere a ts)
+
+abbrev pub lineHere : List ℕ → List ℕ → Alone → List Terminal → Downward
+lineHere images letters a ts = lineOver (a .ran .bus) images letters (terminalsHere a ts)
+
+pub record IsPeriod (images letters : List ℕ) (a : Alone) (ts : List Terminal) : Type 0 where
+  pub moment-is : exchangeOver (a .ran .bus) images letters (terminalsHere a ts) ≡ soloMoment images (a .ran .bus .network .state) (a .solo)
+  pub terminals-are : mapFrom (terminalAfter (lineHere images letters a ts) (a .ran .bus .periods)) 0 (exchangedHere images letters a ts) ≡ mapFrom (followed (soloAfterFour images (a .solo))) 0 ts
+  pub notes-are : mapFrom (notesAfter (lineHere images letters a ts) (a .ran .bus .periods)) 0 (exchangedHere images letters a ts) ≡ mapFrom (λ (_ : ℕ) (_ : Terminal). noNotes) 0 ts
+  pub told-is : foldFrom (toldAfter (lineHere images letters a ts) (a .ran .bus .periods)) 0 false (exchangedHere images letters a ts) ≡ false
+
+abbrev pub PeriodAlone : Type 0
+PeriodAlone =
+    (images letters : List ℕ) (a : Alone) (ts : List Terminal) → goesAlone images a ≡ true
+    → soloSeats (a .solo .at) (a .solo .length) 0 ts ≡ true → senderIn (a .solo .at) 0 ts ≡ true
+    → allRest ts ≡ true → allClear (a .ran .bus .periods .0) 1 ts ≡ true → IsPeriod images letters a ts
+
+-- timers that are clear for n periods are clear at each of them
+abbrev pub ClearOn : Type 0
+ClearOn = (now n k : ℕ) (ts : List Terminal) → k < n → allClear now n ts ≡ true → allClear (now + k) 1 ts ≡ true
