@@ -1,6 +1,6 @@
--- Tests of the code (Tests); timers (Clear); what a reach says (Stays); the structs of the walk (Structs).
+-- Tests of the code (Tests); a reach of 0 (NoReach); what a reach says (Stays); the structs of the walk (Structs).
 pub mod Tests
-pub mod Clear
+pub mod NoReach
 pub mod Stays
 pub mod StillPeriod
 pub mod Leaping

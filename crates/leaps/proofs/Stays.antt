@@ -11,15 +11,16 @@ use Rattle.cases.proofs.ByCases.{by-test}
 use Rattle.cases.proofs.Operators.{and-both}
 use Rattle.walks.specs.Over.{foldFrom}
 use Rattle.timing.specs.Counts.{mostPeriods, atPeriod}
+use Rattle.timing.specs.Timers.{clear}
+use Rattle.timing.proofs.TimerLaws.{Clear, clear-most, clear-is, clear-next}
 use Rattle.hearing.specs.declared.heard.Downward.{Downward}
 use Rattle.terminal.specs.declared.Terminal.{Terminal}
 use Rattle.bus.specs.Quick.{shownBy}
 use Rattle.exchange.specs.Rest.{partRests, anyFrames}
 use Rattle.listening.specs.Hears.{rests}
 use Rattle.bus_record.specs.declared.record.BusRecord.{BusRecord}
-use Rattle.leaps.specs.Still.{clear, networkRests, quiet, farthest, firstAhead, overWith, alsoAhead, reached, reach, leapt}
+use Rattle.leaps.specs.Still.{networkRests, quiet, farthest, firstAhead, overWith, alsoAhead, reached, reach, leapt}
 use Rattle.leaps.specs.declared.ahead.Ahead.{Ahead}
-use Rattle.leaps.proofs.Clear.{Clear, clear-most, clear-is}
 
 -- ---- The terminals.
 pub record Stays (line : Downward) (now j : ℕ) (t : Terminal) : Type 0 where
@@ -102,10 +103,6 @@ module _ (b : BusRecord) (ts : List Terminal) (left j : ℕ) (some : 0 < j) (h :
       }
 
 -- ---- One period later.
-clear-next : (now j timer : ℕ) → Clear now (suc j) timer → Clear (now + 1) j timer
-clear-next now j timer (inl p) = inl (omega arith)
-clear-next now j timer (inr p) = inr (omega arith)
-
 all-next : (line : Downward) (now j : ℕ) (ts : List Terminal) → AllStay line now (suc j) ts → AllStay line (now + 1) j ts
 all-next line now j [] all = tt
 all-next line now j (t ∷ ts) all =

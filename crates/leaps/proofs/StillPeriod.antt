@@ -20,7 +20,7 @@ use Rattle.table_6_2.specs.Table62.{F1, F7}
 use Rattle.table_6_3.specs.Table63.{G1, G2, G3}
 use Rattle.table_6_3.specs.Table63 as table63
 use Rattle.timing.specs.Counts.{mostPeriods, atPeriod, allRun, nextPeriod, fourMore}
-use Rattle.timing.specs.Timers.{due}
+use Rattle.timing.proofs.TimerLaws.{Clear, clear-due}
 use Rattle.timing.specs.declared.counts.Periods.{Periods}
 use Rattle.alignment.specs.Alignment.{framedPeriod, followed}
 use Rattle.hearing.specs.Heard.{upwardEvent, lossUp}
@@ -46,15 +46,9 @@ use Rattle.bus_record.specs.NetworkSide.{leavesG3, readerAfter, hears, timers, 
 use Rattle.bus_record.specs.declared.record.BusRecord.{BusRecord}
 use Rattle.call_rules.specs.Step.{stepMoment, stepExchanged, stepLine, stepTerminals, stepNotes, stepTold, stepRan, stepOctets}
 use Rattle.leaps.specs.Still.{networkRests, readerWaits, quiet, countedOver, leapt}
-use Rattle.leaps.proofs.Clear.{Clear}
 use Rattle.leaps.proofs.Stays.{Stays, AllStay, Still}
 
 -- ---- Timers.
-clear-due : (now j timer : ℕ) → Clear now (suc j) timer → due timer (now + 1) ≡ false
-unfolding due
-clear-due now j timer c =
-    by-test (eqb timer 0) (λ t. rw t) (λ t. rw t (ne-eqb timer (now + 1) (λ z. ⊎-elim (λ p. omega arith) (λ p. omega arith) c)))
-
 next-is : (p : Periods) → p .0 < mostPeriods → nextPeriod p ≡ atPeriod (p .0 + 1)
 unfolding nextPeriod
 next-is p l = rw (lt-leb mostPeriods (p .0) l)

@@ -10,6 +10,7 @@ use Rattle.cells.specs.Cells.{infoIn}
 use Rattle.table_6_2.specs.Table62.{infoSent}
 use Rattle.table_6_3.specs.Table63.{G1, G2, G3}
 use Rattle.timing.specs.Counts.{mostPeriods, atPeriod}
+use Rattle.timing.specs.Timers.{clear}
 use Rattle.timing.specs.declared.counts.Opportunities.{Opportunities}
 use Rattle.network.specs.declared.Network.{Network}
 use Rattle.terminal.specs.declared.Terminal.{Terminal}
@@ -19,10 +20,6 @@ use Rattle.exchange.specs.Rest.{partRests}
 use Rattle.listening.specs.Hears.{rests}
 use Rattle.bus_record.specs.declared.record.BusRecord.{BusRecord}
 use Rattle.leaps.specs.declared.ahead.Ahead.{Ahead}
-
--- how many of the next periods' starts come before a timer is due, `most` at most; `now` is the number of the coming period
-unfoldable pub clear : ℕ → ℕ → ℕ → ℕ
-clear now most timer = cond (ltb now timer) (cond (leb (timer - now) most) (timer - now - 1) most) most
 
 -- ---- The network end.
 

@@ -16,6 +16,7 @@ use table_6_3::G3;
 use terminal::Terminal;
 use timing::counts::MOST_PERIODS;
 use timing::counts::Periods;
+use timing::timers::clear;
 
 // As far as the units gone through allow.
 pub struct Ahead {
@@ -27,20 +28,6 @@ pub struct Ahead {
     pub line: Downward,
     // Whether any terminal sends INFO 3.
     pub frames: bool,
-}
-
-// How many of the next periods' starts come before a timer is due, `most` at most.
-fn clear(now: Periods, most: u32, timer: u64) -> u32
-    ensures { λ r. ⌜ r ≡ spec.clear (now .0) most timer ⌝ }
-{
-    let from = now.0 as u64;
-    if from < timer {
-        let until = timer - from;
-        if until <= most as u64 {
-            return (until - 1) as u32;
-        }
-    }
-    most
 }
 
 // Whether the reader waits for a flag, after seven 1s or more.

@@ -1,6 +1,6 @@
 -- One terminal's hearing of a period, and then its timer at the next one's start (document 01, "Order inside a period"); and that of all terminals.
 use mathlib.Core.Bool.{Bool, false, cond, not, _&&_, _||_}
-use mathlib.Core.List.{List}
+use mathlib.Core.List.{List, []}
 use Prim.Native.Nat.{ℕ}
 use lib.Dec.{eqb, ltb, leb}
 use lib.ListN.{length}
@@ -12,6 +12,7 @@ use Rattle.hearing.specs.declared.heard.Downward.{Downward}
 use Rattle.terminal.specs.Terminal as terminal
 use Rattle.terminal.specs.declared.Terminal.{Terminal}
 use Rattle.terminal.specs.declared.TerminalStep.{TerminalStep}
+use Rattle.cells.specs.Notes.{packedNotes}
 use Rattle.cells.specs.declared.notes.Notes.{Notes}
 use Rattle.listening.specs.declared.hears.UnitNotes.{UnitNotes}
 use Rattle.listening.specs.declared.hears.HeardOne.{HeardOne}
@@ -66,3 +67,11 @@ allTerminals line period ns ts = cond (eqb (length ns) (length ts)) (mapFrom (te
 
 unfoldable pub allNotes : Downward → Periods → List UnitNotes → List Terminal → List UnitNotes
 allNotes line period ns ts = cond (eqb (length ns) (length ts)) (mapFrom (notesAfter line period) 0 ts) ns
+
+-- ---- No notes.
+abbrev pub silentNotes : UnitNotes
+silentNotes = record { heard = packedNotes []; timed = packedNotes [] }
+
+-- at any place
+abbrev pub silenced : ℕ → UnitNotes → UnitNotes
+silenced i n = silentNotes

@@ -1,6 +1,7 @@
 -- What a search that finds a terminal has shown: `found-alone` (specs/Search.antt).
 use mathlib.Core.Path.{_≡_, refl, sym, _∙_}
 use mathlib.Core.Bool.{Bool, true, false, cond, not, _&&_, _||_, or-true, or-false}
+use mathlib.Core.Logic.{⊎-elim}
 use mathlib.Core.List.{List, [], _∷_}
 use Prim.Native.Nat.{ℕ, suc, _+_, _-_, _≤_, _<_}
 use native.Mathlib.Omega.{arith}
@@ -11,14 +12,16 @@ use Rattle.cases.proofs.Operators.{and-both}
 use Rattle.cells.specs.Cells.{infoIn}
 use Rattle.table_6_2.specs.Table62.{F1, F3, F7, infoSent}
 use Rattle.table_6_3.specs.Table63.{G3}
+use Rattle.timing.specs.Timers.{clear}
+use Rattle.timing.proofs.TimerLaws.{clear-most, clear-is}
 use Rattle.timing.specs.declared.counts.Periods.{Periods}
 use Rattle.dchannel.specs.declared.access.Access.{Access}
 use Rattle.terminal.specs.declared.Terminal.{Terminal}
 use Rattle.walks.specs.Over.{mapFrom, foldFrom}
 use Rattle.bus.specs.Quick.{shownBy}
-use Rattle.listening.specs.Hears.{rests}
+use Rattle.listening.specs.Hears.{isWaiting, rests}
 use Rattle.solo.specs.Solo.{followedAccess, followed, soloSeat, soloSeats, senderIn}
-use Rattle.solo.specs.Search.{clearOf, counting, sendingNow, senderAfter, fitsIn, searchedOne, noSearch, searched, allRest, allClear, IsAlone, FoundAlone}
+use Rattle.solo.specs.Search.{counting, sendingNow, senderAfter, fitsIn, searchedOne, noSearch, searched, allRest, allClear, IsAlone, FoundAlone}
 use Rattle.solo.specs.declared.solo.Solo.{Solo}
 use Rattle.solo.specs.declared.search.Search.{Search}
 use Rattle.solo.proofs.SoloFour.{not-false, followed-in, followed-out}
@@ -31,7 +34,7 @@ rest-quiet t h =
     (λ v. by-test (eqb (t .state) F1) (λ w. rw (eqb-true (t .state) F1 w))
     (λ w. clash (rests (shownBy G3) t) h
     (by-test (eqb (t .alignment .run) 0)
-    (λ u. rw (u, v) (by-test (eqb (t .state) F3) (λ x. rw x (neither (t .alignment .aligned))) (λ x. rw x w)))
+    (λ u. rw (u, v) (by-test (isWaiting (t .state)) (λ x. rw x (neither (t .alignment .aligned))) (λ x. rw x w)))
     (λ u. rw u w))))
   where
     neither : (b : Bool) → (not b && false) ≡ false
@@ -39,21 +42,9 @@ rest-quiet t h =
     neither false = refl
 
 -- ---- The timers.
-clear-less : (now most timer : ℕ) → clearOf now most timer ≤ most
-unfolding clearOf
-clear-less now most timer =
-    by-test (ltb now timer) (λ t. rw t (by-test (leb (timer - now) most) (λ u. rw u (omega (arith, leb-true (timer - now) most u))) (λ u. rw u (omega arith)))) (λ t. rw t (omega arith))
-
-clear-one : (now most timer n : ℕ) → n ≤ clearOf now most timer → (leb timer now || ltb (now + n) timer) ≡ true
-unfolding clearOf
+clear-one : (now most timer n : ℕ) → n ≤ clear now most timer → (leb timer now || ltb (now + n) timer) ≡ true
 clear-one now most timer n h =
-    by-test (ltb now timer)
-    (λ t. let h1 = rw t at h in
-    let later : now < timer = ltb-true now timer t in
-    by-test (leb (timer - now) most)
-    (λ u. let h2 : n ≤ timer - now - 1 = rw u at h1 in rw (lt-ltb (now + n) timer (omega arith), or-true (leb timer now)))
-    (λ u. let h2 : n ≤ most = rw u at h1 in rw (lt-ltb (now + n) timer (omega (arith, leb-false (timer - now) most u)), or-true (leb timer now))))
-    (λ t. rw (le-leb timer now (omega (arith, ltb-false now timer t))))
+    ⊎-elim (λ p. rw (le-leb timer now p)) (λ p. rw (lt-ltb (now + n) timer p, or-true (leb timer now))) (clear-is now most timer n h)
 
 -- ---- What one terminal adds.
 record FitsOne (a : Search) (t : Terminal) : Type 0 where
@@ -115,7 +106,7 @@ module _ (period : Periods) where
   over-less : (i : ℕ) (a : Search) (ts : List Terminal) → foldFrom go i a ts .over ≤ a .over
   unfolding foldFrom searchedOne
   over-less i a [] = omega arith
-  over-less i a (t ∷ ts) = omega (arith, over-less (suc i) (go i a t) ts, clear-less (period .0) (a .over) (t .t3))
+  over-less i a (t ∷ ts) = omega (arith, over-less (suc i) (go i a t) ts, clear-most (period .0) (a .over) (t .t3))
 
   count-kept : (i : ℕ) (a : Search) (ts : List Terminal) → foldFrom go i a ts .fits ≡ true → a .counts ≡ true → foldFrom go i a ts .solo .count ≡ a .solo .count
   unfolding foldFrom searchedOne

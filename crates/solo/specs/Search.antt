@@ -8,6 +8,7 @@ use lib.Dec.{eqb, ltb, leb}
 use Rattle.walks.specs.Over.{mapFrom, foldFrom}
 use Rattle.table_6_2.specs.Table62.{F7}
 use Rattle.table_6_3.specs.Table63.{G3}
+use Rattle.timing.specs.Timers.{clear}
 use Rattle.timing.specs.declared.counts.Periods.{Periods}
 use Rattle.terminal.specs.declared.Terminal.{Terminal}
 use Rattle.bus.specs.Quick.{shownBy}
@@ -15,10 +16,6 @@ use Rattle.listening.specs.Hears.{rests}
 use Rattle.solo.specs.Solo.{followed, soloSeats, senderIn}
 use Rattle.solo.specs.declared.solo.Solo.{Solo}
 use Rattle.solo.specs.declared.search.Search.{Search}
-
--- how many periods, of at most so many from period `now` on, can be run before a timer is due
-unfoldable pub clearOf : ℕ → ℕ → ℕ → ℕ
-clearOf now most timer = cond (ltb now timer) (cond (leb (timer - now) most) (timer - now - 1) most) most
 
 -- whether a terminal counts E, and whether it sends
 abbrev pub counting : Terminal → Bool
@@ -44,7 +41,7 @@ unfoldable pub searchedOne : Periods → ℕ → Search → Terminal → Search
 searchedOne period i a t =
     record {
       solo = senderAfter i (a .solo) t;
-      over = clearOf (period .0) (a .over) (t .t3);
+      over = clear (period .0) (a .over) (t .t3);
       counts = a .counts || counting t;
       sends = a .sends || sendingNow t;
       fits = a .fits && fitsIn a t;

@@ -1,12 +1,13 @@
 // Whether one terminal sends alone, and which.
 ghost use mathlib.Core.Path.{_≡_};
-ghost use Rattle.solo.specs.Search.{clearOf, senderAfter, searchedOne, noSearch, searched};
+ghost use Rattle.solo.specs.Search.{senderAfter, searchedOne, noSearch, searched};
 use super::solo::Solo;
 use hearing::heard::Downward;
 use listening::hears::rests;
 use table_6_2::F7;
 use terminal::Terminal;
 use timing::counts::Periods;
+use timing::timers::clear;
 
 // What is known of the terminals gone through.
 pub struct Search {
@@ -19,20 +20,6 @@ pub struct Search {
     pub sends: bool,
     // Whether all of them rest, those in F7 have one C, and no second one sends.
     pub fits: bool,
-}
-
-// How many periods, of at most so many from a period on, can be run before a timer is due.
-fn clear_of(period: Periods, most: u32, timer: u64) -> u32
-    ensures { λ r. ⌜ r ≡ clearOf (period .0) most timer ⌝ }
-{
-    let from = period.0 as u64;
-    if from < timer {
-        let left = timer - from;
-        if left <= most as u64 {
-            return (left - 1) as u32;
-        }
-    }
-    most
 }
 
 // Terminal i, where it sends, with its C; else the one found before it.
@@ -100,7 +87,7 @@ impl Search {
         let fits = rests(t, line) & same & !(self.sends & sends);
         Search {
             solo: sender_after(before, i, t),
-            over: clear_of(period, self.over, t.t3),
+            over: clear(period, self.over, t.t3),
             counts: self.counts | counts,
             sends: self.sends | sends,
             fits: self.fits & fits,

@@ -1,2 +1,3 @@
--- Counts and timers stay in their ranges.
+-- Counts and timers stay in their ranges (RangesKept); until when a timer is not due (TimerLaws).
 pub mod RangesKept
+pub mod TimerLaws

@@ -1,6 +1,6 @@
 // Timers: the period at whose start one is due, 0 for none.
 ghost use mathlib.Core.Path.{_≡_};
-ghost use Rattle.timing.specs.Timers.{due, startedBy, timerAfter};
+ghost use Rattle.timing.specs.Timers.{due, startedBy, timerAfter, clear};
 use super::counts::Periods;
 use cells::cell::START;
 use cells::cell::STOP;
@@ -40,4 +40,18 @@ pub fn timer_after(length: u32, action: u8, now: Periods, timer: u64) -> u64
         return 0;
     }
     started_by(START, length, action, now, timer)
+}
+
+// How many of the next periods' starts come before a timer is due, `most` at most; `now` is the coming period.
+pub fn clear(now: Periods, most: u32, timer: u64) -> u32
+    ensures { λ r. ⌜ r ≡ clear (now .0) most timer ⌝ }
+{
+    let from = now.0 as u64;
+    if from < timer {
+        let until = timer - from;
+        if until <= most as u64 {
+            return (until - 1) as u32;
+        }
+    }
+    most
 }

@@ -11,7 +11,7 @@ use Rattle.bus_record.proofs.record.BusRecord.Laws as B′
 use Rattle.exchange.proofs.Structs.{terminals}
 use Rattle.leaps.specs.Still.{firstAhead, alsoAhead, reached, reach}
 use Rattle.leaps.specs.declared.ahead.Ahead.{Ahead}
-use Rattle.leaps.proofs.Clear.{reach-none}
+use Rattle.leaps.proofs.NoReach.{reach-none}
 use Rattle.leaps.proofs.Structs.{networks, buses, aheads}
 use Rattle.leaps.proofs.ahead.Ahead as Ah
 use Rattle.leaps.proofs.ahead.Ahead.first as start

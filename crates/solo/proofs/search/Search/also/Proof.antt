@@ -12,13 +12,13 @@ rests-requires c κs = search needs
 sender-after-requires : tie.Need-sender-after-requires
 sender-after-requires c κs = search needs
 
-clear-of-requires : tie.Need-clear-of-requires
-clear-of-requires c κs = search needs
+clear-requires : tie.Need-clear-requires
+clear-requires c κs = search needs
 
 returns : tie.Need-returns
 unfolding searchedOne fitsIn shownBy infoIn
 returns c =
-    simp (c .before .before .before .before .before .before .rests .ensures, c .before .before .before .clear-of .ensures, c .before .before .before .before .sender-after .ensures)
+    simp (c .before .before .before .before .before .before .rests .ensures, c .before .before .before .clear .ensures, c .before .before .before .before .sender-after .ensures)
 
 pub also-spec : {M : Type 1} → statement M
-also-spec = tie.close (tie.spec rests-requires sender-after-requires clear-of-requires returns)
+also-spec = tie.close (tie.spec rests-requires sender-after-requires clear-requires returns)

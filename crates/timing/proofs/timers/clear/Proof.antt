@@ -1,9 +1,9 @@
--- `leaps::ahead::clear` meets its contract.
+-- `timing::timers::clear` meets its contract.
 use borrow.Author.Tests.{lt-ltb, le-ltb, le-leb, lt-leb}
-use Rattle.leaps.specs.Still.{clear}
+use Rattle.timing.specs.Timers.{clear}
 use borrow.Author.Needs.{needs}
-use Rattle.leaps.proofs.ahead.clear.Statement.{statement}
-use Rattle.leaps.proofs.ahead.clear.Tie as tie
+use Rattle.timing.proofs.timers.clear.Statement.{statement}
+use Rattle.timing.proofs.timers.clear.Tie as tie
 
 cast-from : tie.Need-cast-from
 cast-from c = search needs

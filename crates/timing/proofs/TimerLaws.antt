@@ -1,0 +1,45 @@
+-- How many period starts come before a timer is due.
+use mathlib.Core.Path.{_≡_}
+use mathlib.Core.Bool.{true, false}
+use mathlib.Core.Logic.{_⊎_, inl, inr, ⊎-elim}
+use Prim.Native.Nat.{ℕ, suc, _+_, _-_, _≤_, _<_}
+use native.Mathlib.Omega.{arith}
+use lib.Dec.{eqb, ltb, leb}
+use borrow.Author.Tests.{ltb-true, ltb-false, leb-true, leb-false, ne-eqb}
+use Rattle.cases.proofs.ByCases.{by-test}
+use Rattle.timing.specs.Timers.{due, clear}
+
+-- a timer that is due at none of the next j starts
+abbrev pub Clear : ℕ → ℕ → ℕ → Type 0
+Clear now j timer = (timer ≤ now) ⊎ (now + j < timer)
+
+pub clear-most : (now most timer : ℕ) → clear now most timer ≤ most
+unfolding clear
+clear-most now most timer =
+    by-test (ltb now timer)
+    (λ t. rw t (by-test (leb (timer - now) most) (λ u. rw u (omega (arith, leb-true (timer - now) most u))) (λ u. rw u (omega arith))))
+    (λ t. rw t (omega arith))
+
+pub clear-is : (now most timer j : ℕ) → j ≤ clear now most timer → Clear now j timer
+unfolding clear
+clear-is now most timer j h =
+    by-test (ltb now timer)
+    (λ t. let l = ltb-true now timer t in let h1 = rw t at h in
+    by-test (leb (timer - now) most)
+    (λ u. let h2 = rw u at h1 in inr (omega (arith, leb-true (timer - now) most u)))
+    (λ u. let h2 = rw u at h1 in inr (omega (arith, leb-false (timer - now) most u))))
+    (λ t. inl (ltb-false now timer t))
+
+pub clear-none : (now timer : ℕ) → clear now 0 timer ≡ 0
+clear-none now timer = omega (arith, clear-most now 0 timer)
+
+-- it is not due at the next one
+pub clear-due : (now j timer : ℕ) → Clear now (suc j) timer → due timer (now + 1) ≡ false
+unfolding due
+clear-due now j timer c =
+    by-test (eqb timer 0) (λ t. rw t) (λ t. rw t (ne-eqb timer (now + 1) (λ z. ⊎-elim (λ p. omega arith) (λ p. omega arith) c)))
+
+-- one period later
+pub clear-next : (now j timer : ℕ) → Clear now (suc j) timer → Clear (now + 1) j timer
+clear-next now j timer (inl p) = inl (omega arith)
+clear-next now j timer (inr p) = inr (omega arith)
