@@ -153,7 +153,7 @@ moments-append b [] ys = refl
 moments-append b (c ∷ more) ys =
     rw (moments-append (after b c) more ys) (sym (append-assoc (momentsOf b c) (moments (after b c) more) (moments (ran (after b c) more) ys)))
 
-notes-append : (b : Bus) (xs ys : List Call) → allNotes b (xs ++ ys) ≡ allNotes b xs ++ allNotes (ran b xs) ys
+pub notes-append : (b : Bus) (xs ys : List Call) → allNotes b (xs ++ ys) ≡ allNotes b xs ++ allNotes (ran b xs) ys
 unfolding ran allNotes
 notes-append b [] ys = refl
 notes-append b (c ∷ more) ys =

@@ -1,13 +1,13 @@
 -- What holds of the calls on a bus that is lent as octets: specs/Laws.antt.
-use mathlib.Core.Bool.{true}
+use mathlib.Core.Bool.{true, false}
 use mathlib.Core.List.{List, [], _∷_, _++_, append-nil}
 use mathlib.Core.Path.{_≡_, refl, sym, ap, _∙_}
 use Prim.Native.Nat.{ℕ, zero, suc, _-_, _≤_}
 use native.Mathlib.Omega.{arith}
-use lib.Dec.{eqb}
+use lib.Dec.{eqb, ltb}
 use lib.ListN.{length, take, replicate, length-append, length-replicate}
 use lib.Seq.{take-append-seam}
-use borrow.Author.Tests.{eqb-true, eq-eqb, le-ltb}
+use borrow.Author.Tests.{eqb-true, eq-eqb, ne-eqb, ltb-false}
 use Rattle.cases.proofs.ByCases.{by-test}
 use Rattle.cells.specs.Notes.{noted}
 use Rattle.bus_record.specs.NetworkSide.{refusedRun}
@@ -100,6 +100,12 @@ notes-fit s c h = told-fit (shown s) c (order s h) (exact s h .octets-fit)
 pub run-notes-fit : laws.RunNotesFit
 run-notes-fit s most h = ran-fit (shown s) most (order s h) (exact s h .octets-fit)
 
+-- a refused event or period has none
+none-told-refused : (k : Kept) (c : Call) → (replied k c ≡ 0 → ⊥) → notesTold k c ≡ []
+unfolding notesTold
+none-told-refused k (event unit number value) n = rw (ne-eqb _ _ n)
+none-told-refused k period n = rw (ne-eqb _ _ n)
+
 -- ---- What a call leaves.
 pub octets-called : (k : Kept) (c : Call) → InOrder k → length (called k c .octets) ≡ length (k .octets)
 unfolding called
@@ -117,7 +123,7 @@ unfolding callsIn OctetValues
 periods-values zero k = tt
 periods-values (suc n) k = (tt, by-test (goesOn (once 1 k) n) (λ t. rw t (periods-values n (keptAfter 1 k))) (λ t. rw t tt))
 
-ran-append : (b : Bus) (xs ys : List Call) → ran b (xs ++ ys) ≡ ran (ran b xs) ys
+pub ran-append : (b : Bus) (xs ys : List Call) → ran b (xs ++ ys) ≡ ran (ran b xs) ys
 unfolding ran
 ran-append b [] ys = refl
 ran-append b (x ∷ xs) ys = ran-append (after b x) xs ys
@@ -167,52 +173,137 @@ module _ (s : List ℕ) (b : Bus) (h : isBus s ≡ true) (fit : (later : List Ca
       }
 
 -- ---- Lists.
-module _ (room : List ℕ) (large : notesRoom ≤ length room) where
-  passed : (s : List ℕ) → isBus s ≡ true → reason s room ≡ 0
-  unfolding lentReason
-  passed s h = rw (h, le-ltb (length room) notesRoom large)
 
-  -- the notes of a call that fit stand in the room whole
-  whole : (text : List ℕ) → length text ≤ notesRoom → take (length text) (laid room 0 text) ≡ text
-  whole text fits = rw (laid-front text room (omega arith)) (take-append-seam text _)
+-- the parts of a call, whose notes fit, and what it leaves is a bus
+record Parts (s : List ℕ) (x : laws.HostCall) (reply : ℕ) (left : Kept) (told : List Note) : Type 0 where
+  reply-is : laws.replyTo s x ≡ replyWith s (laws.roomOf x) reply
+  bus-is : laws.busAfter s x ≡ busWith s (laws.roomOf x) left
+  notes-are : laws.notesAfter s x ≡ notesWith s (laws.roomOf x) reply told
+  refused : (laws.replyTo s x ≡ 0 → ⊥) → laws.Untouched s (laws.roomOf x) (laws.busAfter s x) (laws.notesAfter s x)
+  silent : (reply ≡ 0 → ⊥) → told ≡ []
+  fits : length (notesOctets told) ≤ notesRoom
+  stored : StoredAndShown left
 
-  -- a call whose parts are these
-  module _ (s : List ℕ) (b : Bus) (h : isBus s ≡ true) (x : laws.HostCall) (reply : ℕ) (left : Kept) (told : List Note) where
-    stepped-by : laws.replyTo s room x ≡ replyWith s room reply → laws.notesAfter s room x ≡ notesWith s room reply told
-        → Goes b (laws.callsOf s x) reply left told → length (notesOctets told) ≤ notesRoom → laws.SteppedBy b s room x
-    unfolding replyWith notesWith
-    stepped-by r n g fits =
-        let e = eq-eqb _ _ (passed s h) in
-        let r′ : laws.replyTo s room x ≡ reply = r ∙ rw e in
+-- the notes of a call that fit stand in the room whole
+whole : (room text : List ℕ) → length text ≤ notesRoom → notesRoom ≤ length room → take (length text) (laid room 0 text) ≡ text
+whole room text fits large = rw (laid-front text room (omega arith)) (take-append-seam text _)
+
+-- the call is as the rules have it, and the octets that it leaves stand for the bus after it
+abbrev Steps : Bus → List ℕ → laws.HostCall → Type 0
+Steps b s x = laws.SteppedBy b s x × laws.OctetsCarry (laws.busAfter s x) (ran b (laws.callsOf s x))
+
+module _ (s : List ℕ) (b : Bus) (o : laws.OctetsCarry s b) (x : laws.HostCall) (reply : ℕ) (left : Kept) (told : List Note)
+    (p : Parts s x reply left told) (g : Goes b (laws.asked s x) reply left told) where
+  -- with room
+  module _ (t : ltb (length (laws.roomOf x)) notesRoom ≡ false) where
+    passed : eqb (reason s (laws.roomOf x)) 0 ≡ true
+    unfolding lentReason
+    passed = rw (o .is-bus, t)
+
+    asked-for : laws.callsOf s x ≡ laws.asked s x
+    unfolding laws.callsOf
+    asked-for = rw t
+
+    reply-with : laws.replyTo s x ≡ reply
+    unfolding replyWith
+    reply-with = p .reply-is ∙ rw passed
+
+    enough-steps : laws.SteppedBy b s x
+    unfolding notesWith replyWith
+    enough-steps =
         record {
-          is-bus = h;
-          replies = r′ ∙ g .replies;
-          tells = λ y. rw (n, e, eq-eqb _ _ (sym r′ ∙ y), ← g .tells) (whole (notesOctets told) fits);
+          replies = rw (t, asked-for) (reply-with ∙ g .replies);
+          tells = rw (asked-for, ← g .tells)
+              (record {
+                written = λ y. rw (p .notes-are, passed, eq-eqb _ _ (sym reply-with ∙ y))
+                    (whole (laws.roomOf x) (notesOctets told) (p .fits) (ltb-false _ _ t));
+                none = λ n. p .silent (λ z. n (reply-with ∙ z));
+              });
+          refused = p .refused;
         }
 
-  next-bus : (s : List ℕ) (b : Bus) (left : Kept) → isBus s ≡ true → Carries left b → StoredAndShown left
-      → (isBus (busWith s room left) ≡ true) × Carries (shown (busWith s room left)) b
-  unfolding busWith settled
-  next-bus s b left h c stored =
-      rw (eq-eqb _ _ (passed s h)) ((stored .is-bus, rw (stored .shown-is) (settled-carries left b c)))
+    enough-left : laws.OctetsCarry (laws.busAfter s x) (ran b (laws.callsOf s x))
+    unfolding busWith settled
+    enough-left =
+        rw (asked-for, p .bus-is, passed)
+        (record { is-bus = p .stored .is-bus; carries = rw (p .stored .shown-is) (settled-carries left (ran b (laws.asked s x)) (g .carries)) })
 
-  from : (list : List laws.HostCall) (s : List ℕ) (b : Bus) → isBus s ≡ true → ((later : List Call) → Fit (ran b later)) → Carries (shown s) b
-      → laws.SteppedAll b s room list
-  unfolding laws.SteppedAll laws.replyTo laws.busAfter laws.notesAfter laws.callsOf hostReply hostBus hostNotes hostRunReply hostRunBus hostRunNotes OctetValues
-  from [] s b h fit c = h
-  from (step x ∷ more) s b h fit c = λ v.
-      let g = one-goes s b h fit c x (v, tt) in
-      let n = next-bus s (ran b (x ∷ [])) (called (shown s) x) h (g .carries) (left-stored s x h) in (
-        stepped-by s b h (step x) _ _ _ refl refl g (notes-fit s x h),
-        from more (busWith s room (called (shown s) x)) (ran b (x ∷ [])) (n .0) (fit-on b (x ∷ []) fit) (n .1),
-      )
-  from (runTo until ∷ more) s b h fit c = λ v.
-      let most : ℕ = mostTo until s in
-      let g = run-goes s b h fit c most in
-      let n = next-bus s (ran b (callsIn most (shown s))) (keptAfter most (shown s)) h (g .carries) (left-fits s h most) in (
-        stepped-by s b h (runTo until) _ _ _ refl refl g (run-notes-fit s most h),
-        from more (busWith s room (keptAfter most (shown s))) (ran b (callsIn most (shown s))) (n .0) (fit-on b (callsIn most (shown s)) fit) (n .1),
-      )
+  -- with too little
+  module _ (t : ltb (length (laws.roomOf x)) notesRoom ≡ true) where
+    too-short : reason s (laws.roomOf x) ≡ 2
+    unfolding lentReason
+    too-short = rw (o .is-bus, t)
+
+    none-made : laws.callsOf s x ≡ []
+    unfolding laws.callsOf
+    none-made = rw t
+
+    two : laws.replyTo s x ≡ 2
+    unfolding replyWith
+    two = p .reply-is ∙ rw too-short
+
+    short-steps : laws.SteppedBy b s x
+    unfolding allNotes
+    short-steps =
+        record {
+          replies = rw (t, two);
+          tells = rw none-made (record { written = λ y. absurd (omega (arith, two)); none = λ n. refl });
+          refused = p .refused;
+        }
+
+    short-left : laws.OctetsCarry (laws.busAfter s x) (ran b (laws.callsOf s x))
+    unfolding ran
+    short-left = rw (none-made, p .refused (λ y. omega (arith, two)) .bus-stays) o
+
+  steps : Steps b s x
+  steps =
+      by-test (ltb (length (laws.roomOf x)) notesRoom) (λ t. (short-steps t, short-left t)) (λ t. (enough-steps t, enough-left t))
+
+-- the parts of an event or a period, and of a run
+module _ (s room : List ℕ) (h : isBus s ≡ true) where
+  step-parts : (x : Call) → Parts s (step x room) (replied (shown s) x) (called (shown s) x) (notesTold (shown s) x)
+  unfolding laws.replyTo laws.busAfter laws.notesAfter laws.roomOf hostReply hostBus hostNotes
+  step-parts x =
+      record {
+        reply-is = refl;
+        bus-is = refl;
+        notes-are = refl;
+        refused = refused-keeps s room x;
+        silent = none-told-refused (shown s) x;
+        fits = notes-fit s x h;
+        stored = left-stored s x h;
+      }
+
+  run-parts : (until : ℕ)
+      → Parts s (runTo until room) (once (mostTo until s) (shown s) .reply) (keptAfter (mostTo until s) (shown s)) (runTold (mostTo until s) (shown s))
+  unfolding laws.replyTo laws.busAfter laws.notesAfter laws.roomOf hostRunReply hostRunBus hostRunNotes runTold
+  run-parts until =
+      record {
+        reply-is = refl;
+        bus-is = refl;
+        notes-are = refl;
+        refused = refused-run-keeps s room (mostTo until s);
+        silent = λ n. rw (ne-eqb _ _ n);
+        fits = run-notes-fit s (mostTo until s) h;
+        stored = left-fits s h (mostTo until s);
+      }
+
+from : (list : List laws.HostCall) (s : List ℕ) (b : Bus) → ((later : List Call) → Fit (ran b later)) → laws.OctetsCarry s b
+    → laws.SteppedAll b s list
+unfolding laws.SteppedAll laws.asked OctetValues
+from [] s b fit o = o
+from (step x room ∷ more) s b fit o = (
+  o,
+  λ v.
+      let n = steps s b o (step x room) _ _ _ (step-parts s room (o .is-bus) x) (one-goes s b (o .is-bus) fit (o .carries) x (v, tt)) in
+      (n .0, from more _ _ (fit-on b _ fit) (n .1)),
+)
+from (runTo until room ∷ more) s b fit o = (
+  o,
+  λ v.
+      let n = steps s b o (runTo until room) _ _ _ (run-parts s room (o .is-bus) until) (run-goes s b (o .is-bus) fit (o .carries) (mostTo until s)) in
+      (n .0, from more _ _ (fit-on b _ fit) (n .1)),
+)
 
 -- ---- The fresh bus.
 pub zeros-long : (n : ℕ) → length (replicate {A = ℕ} n 0) ≡ n
@@ -224,11 +315,11 @@ zeros-are-letters = refl
 
 pub lists-stepped : laws.ListsStepped
 unfolding freshOctets freshKept ran
-lists-stepped room list large =
+lists-stepped list =
     let e = zeros-long longestBody in
     let c : Carries freshKept freshBus =
     fresh-carries (replicate imagesRoom 0) (replicate longestBody 0) (replicate lineLength 0) (zeros-long imagesRoom) (omega arith) zeros-are-letters in
     let f : StoredAndShown freshKept =
     round-trip freshKept
     (fresh-ready (replicate imagesRoom 0) (replicate longestBody 0) (replicate lineLength 0) (zeros-long imagesRoom) (omega arith) zeros-are-letters) e in
-    from room large list freshOctets freshBus (f .is-bus) always-fit (rw (f .shown-is) c)
+    from list freshOctets freshBus always-fit (record { is-bus = f .is-bus; carries = rw (f .shown-is) c })

@@ -5,3 +5,4 @@ pub mod Numbered
 pub mod Answers
 pub mod Ends
 pub mod Laws
+pub mod Demand3

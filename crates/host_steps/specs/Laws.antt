@@ -1,12 +1,13 @@
 -- What holds of the calls on a bus that is lent as octets. The statements are types; proofs/Laws.antt proves each under the same name in small letters.
-use mathlib.Core.Bool.{true}
+use mathlib.Core.Bool.{true, cond}
 use mathlib.Core.List.{List, [], _∷_}
 use mathlib.Core.Path.{_≡_}
 use Prim.Native.Nat.{ℕ, _≤_}
+use lib.Dec.{ltb}
 use lib.ListN.{length, take}
-use Rattle.bus.specs.Bus.{Bus, freshBus}
+use Rattle.bus.specs.Bus.{Bus, Note, freshBus}
 use Rattle.bus.specs.Calls.{Call, reply, ran, allNotes}
-use Rattle.call_rules.specs.Lists.{OctetValue, notesTold, callsIn, runTold}
+use Rattle.call_rules.specs.Lists.{Carries, OctetValue, notesTold, callsIn, runTold}
 use Rattle.bus_octets.specs.Layout.{shown, isBus}
 use Rattle.host_bus.specs.Fresh.{freshOctets}
 use Rattle.host_steps.specs.Stepping.{notesOctets, notesRoom, hostReply, hostBus, hostNotes, mostTo, hostRunReply, hostRunBus, hostRunNotes}
@@ -29,51 +30,72 @@ NotesFit = (s : List ℕ) (c : Call) → isBus s ≡ true → length (notesOctet
 abbrev pub RunNotesFit : Type 0
 RunNotesFit = (s : List ℕ) (most : ℕ) → isBus s ≡ true → length (notesOctets (runTold most (shown s))) ≤ notesRoom
 
--- ---- Lists of a host's calls on a fresh bus, each with room for notes: an event or a period, or a run until so many periods have been run.
+-- ---- Lists of a host's calls on a fresh bus: an event or a period, or a run until so many periods have been run, each with what is lent for its
+-- notes, of any length and contents.
 pub data HostCall : Type 0 where
-  step : Call → HostCall
-  runTo : ℕ → HostCall
+  step : Call → List ℕ → HostCall
+  runTo : ℕ → List ℕ → HostCall
+
+unfoldable pub roomOf : HostCall → List ℕ
+roomOf (step c room) = room
+roomOf (runTo until room) = room
 
 -- what the call gives on octets s
-unfoldable pub replyTo : List ℕ → List ℕ → HostCall → ℕ
-replyTo s room (step c) = hostReply s room c
-replyTo s room (runTo until) = hostRunReply s room (mostTo until s)
+unfoldable pub replyTo : List ℕ → HostCall → ℕ
+replyTo s (step c room) = hostReply s room c
+replyTo s (runTo until room) = hostRunReply s room (mostTo until s)
 
-unfoldable pub busAfter : List ℕ → List ℕ → HostCall → List ℕ
-busAfter s room (step c) = hostBus s room c
-busAfter s room (runTo until) = hostRunBus s room (mostTo until s)
+unfoldable pub busAfter : List ℕ → HostCall → List ℕ
+busAfter s (step c room) = hostBus s room c
+busAfter s (runTo until room) = hostRunBus s room (mostTo until s)
 
-unfoldable pub notesAfter : List ℕ → List ℕ → HostCall → List ℕ
-notesAfter s room (step c) = hostNotes s room c
-notesAfter s room (runTo until) = hostRunNotes s room (mostTo until s)
+unfoldable pub notesAfter : List ℕ → HostCall → List ℕ
+notesAfter s (step c room) = hostNotes s room c
+notesAfter s (runTo until room) = hostRunNotes s room (mostTo until s)
 
--- The calls of document 01 that it stands for: a run for as many periods as it runs (crate `call_rules`, specs/Lists.antt).
+-- The calls of document 01 that it asks for: a run for as many periods as it runs (crate `call_rules`, specs/Lists.antt).
+unfoldable pub asked : List ℕ → HostCall → List Call
+asked s (step c room) = c ∷ []
+asked s (runTo until room) = callsIn (mostTo until s) (shown s)
+
+-- With too little room for notes it makes none of them.
+abbrev pub shortOf : {A : Type 0} → A → HostCall → A → A
+shortOf short x enough = cond (ltb (length (roomOf x)) notesRoom) short enough
+
 unfoldable pub callsOf : List ℕ → HostCall → List Call
-callsOf s (step c) = c ∷ []
-callsOf s (runTo until) = callsIn (mostTo until s) (shown s)
+callsOf s x = shortOf [] x (asked s x)
 
 -- of a run the first period is refused or none; a run of no periods is not refused
 unfoldable pub firstReply : Bus → List Call → ℕ
 firstReply b [] = 0
 firstReply b (c ∷ more) = reply b c
 
--- Every call gives the reply and the notes of document 01's rules for the calls that it stands for (crate `bus`, specs/Calls.antt), its notes whole,
--- and leaves a bus. So demand 3 (specs/Claims.antt there) speaks of these calls.
-pub record SteppedBy (b : Bus) (s room : List ℕ) (c : HostCall) : Type 0 where
+-- The notes that a call hands back: where it is not refused they stand at the front of what was lent, whole, with their end; else there are none.
+pub record HandsBack (s : List ℕ) (x : HostCall) (notes : List Note) : Type 0 where
+  pub written : replyTo s x ≡ 0 → take (length (notesOctets notes)) (notesAfter s x) ≡ notesOctets notes
+  pub none : (replyTo s x ≡ 0 → ⊥) → notes ≡ []
+
+-- Every call gives the reply and the notes of document 01's rules for the calls that it stands for (crate `bus`, specs/Calls.antt); with too little
+-- room for notes the reply is 2.
+pub record SteppedBy (b : Bus) (s : List ℕ) (x : HostCall) : Type 0 where
+  pub replies : replyTo s x ≡ shortOf 2 x (firstReply b (callsOf s x))
+  pub tells : HandsBack s x (allNotes b (callsOf s x))
+  pub refused : (replyTo s x ≡ 0 → ⊥) → Untouched s (roomOf x) (busAfter s x) (notesAfter s x)
+
+-- octets that are a bus, and stand for the bus b of the rules
+pub record OctetsCarry (s : List ℕ) (b : Bus) : Type 0 where
   pub is-bus : isBus s ≡ true
-  pub replies : replyTo s room c ≡ firstReply b (callsOf s c)
-  pub tells : replyTo s room c ≡ 0
-      → take (length (notesOctets (allNotes b (callsOf s c)))) (notesAfter s room c) ≡ notesOctets (allNotes b (callsOf s c))
+  pub carries : Carries (shown s) b
 
 -- values are octets
 abbrev pub OctetsGiven : HostCall → Type 0
-OctetsGiven (step c) = OctetValue c
-OctetsGiven (runTo until) = Unit
+OctetsGiven (step c room) = OctetValue c
+OctetsGiven (runTo until room) = Unit
 
-unfoldable pub SteppedAll : Bus → List ℕ → List ℕ → List HostCall → Type 0
-SteppedAll b s room [] = isBus s ≡ true
-SteppedAll b s room (c ∷ more) =
-    OctetsGiven c → SteppedBy b s room c × SteppedAll (ran b (callsOf s c)) (busAfter s room c) room more
+unfoldable pub SteppedAll : Bus → List ℕ → List HostCall → Type 0
+SteppedAll b s [] = OctetsCarry s b
+SteppedAll b s (x ∷ more) =
+    OctetsCarry s b × (OctetsGiven x → SteppedBy b s x × SteppedAll (ran b (callsOf s x)) (busAfter s x) more)
 
 abbrev pub ListsStepped : Type 0
-ListsStepped = (room : List ℕ) (calls : List HostCall) → notesRoom ≤ length room → SteppedAll freshBus freshOctets room calls
+ListsStepped = (calls : List HostCall) → SteppedAll freshBus freshOctets calls
