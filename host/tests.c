@@ -48,15 +48,16 @@ int main(int argc, char **argv)
     bool is_seeded = argc >= 3 && strcmp(argv[1], "-s") == 0;
     uint64_t seed = seed_of(is_seeded ? argv[2] : NULL);
     int first = is_seeded ? 3 : 1;
+    t.sides.state = seed;
     if (!slots_open(&t)) {
         (void)puts("failed: there are no pages for the octets that are lent\n0 passed, 1 failed");
         return 1;
     }
+    (void)printf("random numbers start from seed %llu\n", (unsigned long long)seed);
     test_frames(&t);
     test_bus(&t);
     test_scenes(&t);
     test_books(&t, argc - first, argv + first);
-    (void)printf("the random tests start from seed %llu\n", (unsigned long long)seed);
     test_random(&t, seed);
     if (!slots_close(&t)) {
         t.failed++;

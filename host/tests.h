@@ -1,4 +1,4 @@
-// What the tests of the library share: counting, calls on guarded octets, notes as text, random numbers.
+// What the tests of the library share: random numbers, counting, calls on guarded octets, notes as text.
 #ifndef SBUS_TESTS_H
 #define SBUS_TESTS_H
 
@@ -7,6 +7,16 @@
 #include <stdbool.h>
 #include <stddef.h>
 #include <stdint.h>
+
+// ---- Random numbers: the same ones from the same seed (tests_text.c)
+
+struct random {
+    uint64_t state; // not 0
+};
+uint64_t random_next(struct random *r);
+// A number below n.
+uint32_t random_below(struct random *r, uint32_t n);
+void random_fill(struct random *r, uint8_t *octets, size_t length);
 
 // ---- Counting (tests.c)
 
@@ -26,7 +36,7 @@ struct tests {
     char name[160];
     bool holds; // whether every check of the test under way has held
     struct slot slots[SLOTS];
-    bool at_end; // where the next octets lie: at the end of their pages, or at their start
+    struct random sides; // where octets that are lent lie: at the start of their pages, or at their end
 };
 
 // A test begins under a name, and ends: it is passed if every check in between has held. The first that does not hold is printed.
@@ -112,15 +122,5 @@ uint32_t periods_run(struct scene *s);
 uint8_t state_of(struct scene *s, uint32_t unit);
 // Powers so many terminals, and activates them from the first: everybody is in F7 then, and nothing is counted as told.
 void activate(struct scene *s, uint32_t terminals);
-
-// ---- Random numbers: the same ones from the same seed (tests_text.c)
-
-struct random {
-    uint64_t state; // not 0
-};
-uint64_t random_next(struct random *r);
-// A number below n.
-uint32_t random_below(struct random *r, uint32_t n);
-void random_fill(struct random *r, uint8_t *octets, size_t length);
 
 #endif

@@ -227,7 +227,6 @@ static void test_stored(struct tests *t, const char *name, size_t part, size_t r
     size_t written = 0;
     uint8_t why = SBUS_NEEDS_TEXT;
     begin(t, "%s, %zu octets at a time, room for %zu", name, part, room);
-    t->at_end = !t->at_end;
     CHECK(t, sbus_book_fresh(slot_lend(t, 0, SBUS_BOOK_LENGTH), SBUS_BOOK_LENGTH) == SBUS_OK);
     (void)slot_lend(t, 2, room);
     (void)slot_lend(t, 3, SBUS_WENT_LENGTH);

@@ -1,5 +1,5 @@
 // Calls on guarded octets. The library is not built with a sanitizer, so octets outside the lent ones are watched by the machine and by margins: the
-// lent octets lie flush with a page that nobody may touch, at its one side or the other from call to call, and beside them stand known octets.
+// lent octets lie flush with a page that nobody may touch, at its one side or the other by chance, and beside them stand known octets.
 #define _DEFAULT_SOURCE
 #include "tests.h"
 
@@ -56,7 +56,7 @@ uint8_t *slot_lend(struct tests *t, int slot, size_t length)
     size_t margin_length;
     CHECK(t, length <= s->room);
     s->length = length <= s->room ? length : s->room;
-    s->octets = t->at_end ? s->pages + s->room - s->length : s->pages;
+    s->octets = random_below(&t->sides, 2) == 0 ? s->pages : s->pages + s->room - s->length;
     uint8_t *margin = margin_of(s, &margin_length);
     memset(margin, MARGIN_OCTET, margin_length);
     return s->octets;
@@ -130,16 +130,10 @@ static void take_notes(struct tests *t, int slot, uint32_t reply, uint8_t *notes
     take_back(t, slot, reply, notes, length);
 }
 
-static void turn_round(struct tests *t)
-{
-    t->at_end = !t->at_end;
-}
-
 // ---- The calls
 
 uint32_t try_read_frame(struct tests *t, uint32_t up, const uint8_t *symbols, size_t symbols_length, uint8_t *fields, size_t fields_length)
 {
-    turn_round(t);
     const uint8_t *s = lend(t, 0, symbols, symbols_length);
     uint8_t *f = lend(t, 1, fields, fields_length);
     uint32_t reply = sbus_read_frame(up, s, symbols_length, f, fields_length);
@@ -150,7 +144,6 @@ uint32_t try_read_frame(struct tests *t, uint32_t up, const uint8_t *symbols, si
 
 uint32_t try_write_frame(struct tests *t, uint32_t up, const uint8_t *fields, size_t fields_length, uint8_t *symbols, size_t symbols_length)
 {
-    turn_round(t);
     const uint8_t *f = lend(t, 0, fields, fields_length);
     uint8_t *s = lend(t, 1, symbols, symbols_length);
     uint32_t reply = sbus_write_frame(up, f, fields_length, s, symbols_length);
@@ -161,7 +154,6 @@ uint32_t try_write_frame(struct tests *t, uint32_t up, const uint8_t *fields, si
 
 uint32_t try_fresh(struct tests *t, uint8_t *bus, size_t bus_length)
 {
-    turn_round(t);
     uint8_t *b = lend(t, 0, bus, bus_length);
     uint32_t reply = sbus_fresh(b, bus_length);
     take_back(t, 0, reply, bus, bus_length);
@@ -171,7 +163,6 @@ uint32_t try_fresh(struct tests *t, uint8_t *bus, size_t bus_length)
 uint32_t try_event(struct tests *t, uint8_t *bus, size_t bus_length, uint8_t *notes, size_t notes_length, uint32_t unit, uint32_t event,
                    const uint8_t *value, size_t value_length)
 {
-    turn_round(t);
     uint8_t *b = lend(t, 0, bus, bus_length);
     uint8_t *n = lend(t, 1, notes, notes_length);
     const uint8_t *v = lend(t, 2, value, value_length);
@@ -184,7 +175,6 @@ uint32_t try_event(struct tests *t, uint8_t *bus, size_t bus_length, uint8_t *no
 
 uint32_t try_period(struct tests *t, uint8_t *bus, size_t bus_length, uint8_t *notes, size_t notes_length)
 {
-    turn_round(t);
     uint8_t *b = lend(t, 0, bus, bus_length);
     uint8_t *n = lend(t, 1, notes, notes_length);
     uint32_t reply = sbus_period(b, bus_length, n, notes_length);
@@ -195,7 +185,6 @@ uint32_t try_period(struct tests *t, uint8_t *bus, size_t bus_length, uint8_t *n
 
 uint32_t try_run(struct tests *t, uint8_t *bus, size_t bus_length, uint8_t *notes, size_t notes_length, uint32_t until)
 {
-    turn_round(t);
     uint8_t *b = lend(t, 0, bus, bus_length);
     uint8_t *n = lend(t, 1, notes, notes_length);
     uint32_t reply = sbus_run(b, bus_length, n, notes_length, until);
@@ -206,7 +195,6 @@ uint32_t try_run(struct tests *t, uint8_t *bus, size_t bus_length, uint8_t *note
 
 uint32_t try_counts(struct tests *t, const uint8_t *bus, size_t bus_length, uint8_t *counts, size_t counts_length)
 {
-    turn_round(t);
     const uint8_t *b = lend(t, 0, bus, bus_length);
     uint8_t *c = lend(t, 1, counts, counts_length);
     uint32_t reply = sbus_counts(b, bus_length, c, counts_length);
@@ -217,7 +205,6 @@ uint32_t try_counts(struct tests *t, const uint8_t *bus, size_t bus_length, uint
 
 uint32_t try_unit(struct tests *t, const uint8_t *bus, size_t bus_length, uint32_t unit, uint8_t *seen, size_t seen_length)
 {
-    turn_round(t);
     const uint8_t *b = lend(t, 0, bus, bus_length);
     uint8_t *s = lend(t, 1, seen, seen_length);
     uint32_t reply = sbus_unit(b, bus_length, unit, s, seen_length);
@@ -228,7 +215,6 @@ uint32_t try_unit(struct tests *t, const uint8_t *bus, size_t bus_length, uint32
 
 uint32_t try_book_fresh(struct tests *t, uint8_t *book, size_t book_length)
 {
-    turn_round(t);
     uint8_t *b = lend(t, 0, book, book_length);
     uint32_t reply = sbus_book_fresh(b, book_length);
     take_back(t, 0, reply, book, book_length);
@@ -238,7 +224,6 @@ uint32_t try_book_fresh(struct tests *t, uint8_t *book, size_t book_length)
 uint32_t try_book_go_on(struct tests *t, uint8_t *book, size_t book_length, const uint8_t *text, size_t text_length, uint32_t whole, uint8_t *report,
                         size_t report_length, uint8_t *went, size_t went_length)
 {
-    turn_round(t);
     uint8_t *b = lend(t, 0, book, book_length);
     const uint8_t *x = lend(t, 1, text, text_length);
     uint8_t *r = lend(t, 2, report, report_length);

@@ -1,5 +1,5 @@
-// A million random octet strings, the same ones from the same seed: as symbols, fields, buses, events and books. Some are garbage; most are a few
-// octets away from something real, which is where a wrong check would show. What holds of every call is checked by the calls themselves
+// A million random octet strings as symbols, buses and events, the same ones from the same seed, and more as fields and books. Some are garbage; most
+// are a few octets away from something real, which is where a wrong check would show. What holds of every call is checked by the calls themselves
 // (tests_guard.c); here it is what each call replies, and what it leaves.
 #include "tests.h"
 
@@ -7,11 +7,11 @@
 #include <string.h>
 
 enum {
-    SYMBOL_STRINGS = 200000,
-    FIELD_STRINGS = 100000,
-    GARBAGE_BUSES = 100000,
+    SYMBOL_STRINGS = 250000,
+    GARBAGE_BUSES = 150000,
     MUTANT_BUSES = 350000,
-    EVENTS = 150000,
+    EVENTS = 250000,
+    FIELD_STRINGS = 50000,
     GARBAGE_BOOKS = 30000,
     MUTANT_BOOKS = 40000,
     TEXTS = 30000,
@@ -198,18 +198,19 @@ static void try_garbage(struct tests *t, struct random *r)
     refused_by_all(t, r, bus, length);
 }
 
+enum step { AN_EVENT, A_RUN, A_PERIOD };
+
 // A call that is not refused with 1 leaves a bus that is not refused with 1.
-static void step_on(struct tests *t, struct random *r, uint8_t *bus)
+static void step_on(struct tests *t, struct random *r, uint8_t *bus, enum step what)
 {
     uint8_t notes[SBUS_NOTES_LENGTH];
     uint8_t told[SBUS_COUNTS_LENGTH] = {0};
-    uint32_t what = random_below(r, 4);
     uint32_t periods = (uint32_t)number(bus + 5, 4);
     random_fill(r, notes, 16);
     memset(notes + 16, 0x33, sizeof notes - 16);
-    if (what == 0) {
+    if (what == AN_EVENT) {
         CHECK(t, some_event(t, r, bus, notes) <= SBUS_FRAME_HELD);
-    } else if (what == 1) {
+    } else if (what == A_RUN) {
         uint32_t reply = try_run(t, bus, SBUS_BUS_LENGTH, notes, sizeof notes, periods + random_below(r, 20));
         CHECK(t, reply == SBUS_OK || (reply == SBUS_ALL_RUN && periods == SBUS_PERIODS_MOST));
     } else {
@@ -235,11 +236,12 @@ static void try_mutant(struct tests *t, struct random *r, const uint8_t *real, u
     }
     ++*accepted;
     for (uint32_t n = 1 + random_below(r, 3); n > 0; n--) {
-        step_on(t, r, bus);
+        uint32_t what = random_below(r, 4);
+        step_on(t, r, bus, what == 0 ? AN_EVENT : what == 1 ? A_RUN : A_PERIOD);
     }
 }
 
-// Events and periods on real buses, one after the other.
+// Events on real buses, one after the other, with a period or a run behind every second one.
 static void try_steps(struct tests *t, struct random *r, uint8_t real[][SBUS_BUS_LENGTH])
 {
     uint8_t bus[SBUS_BUS_LENGTH];
@@ -247,7 +249,10 @@ static void try_steps(struct tests *t, struct random *r, uint8_t real[][SBUS_BUS
         if (n % 500 == 0) {
             memcpy(bus, real[random_below(r, REAL_BUSES)], sizeof bus);
         }
-        step_on(t, r, bus);
+        step_on(t, r, bus, AN_EVENT);
+        if (random_below(r, 2) == 0) {
+            step_on(t, r, bus, random_below(r, 3) == 0 ? A_RUN : A_PERIOD);
+        }
     }
 }
 
@@ -415,7 +420,7 @@ static void test_mutants(struct tests *t, struct random *r, uint8_t real[][SBUS_
         make_real(t, r, real[n]);
     }
     end(t);
-    begin(t, "%u events and periods on them", EVENTS);
+    begin(t, "%u events on them, with periods between", EVENTS);
     try_steps(t, r, real);
     end(t);
     begin(t, "%u buses with one to three octets changed", MUTANT_BUSES);
