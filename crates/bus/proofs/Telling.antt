@@ -41,18 +41,18 @@ other code k h n = ne-eqb code k (λ e. clash (isTerminalNote code) h (rw e n))
 from-indications : (codes : List ℕ) → everyNote isIndication codes ≡ true → plain codes
 from-indications codes h = every-of isIndication isTerminalNote (λ code i. rw i) codes h
 
-network-hears-plain : (up : List ℕ) (now : ℕ) (n : Network) → plain (noted (networkHears up now n .notes))
+pub network-hears-plain : (up : List ℕ) (now : ℕ) (n : Network) → plain (noted (networkHears up now n .notes))
 unfolding networkHears
 network-hears-plain up now n = from-indications _ (network-laws.hears-told (shownUp up) now n)
 
-network-timers-plain : (now : ℕ) (n : Network) → plain (noted (network.timers now n .notes))
+pub network-timers-plain : (now : ℕ) (n : Network) → plain (noted (network.timers now n .notes))
 network-timers-plain now n = from-indications _ (network-laws.timers-told now n)
 
 network-does-plain : (number now : ℕ) (n : Network) → plain (noted (networkDoes number now n .notes))
 unfolding networkDoes
 network-does-plain number now n = from-indications _ (network-laws.requests-told (cond (eqb number AR) table63.AR table63.DR) now n)
 
-terminal-hears-plain : (down : List ℕ) (now : ℕ) (t : Terminal) → plain (noted (terminalHears down now t .notes))
+pub terminal-hears-plain : (down : List ℕ) (now : ℕ) (t : Terminal) → plain (noted (terminalHears down now t .notes))
 unfolding terminalHears
 terminal-hears-plain down now t = terminal-laws.hears-told now t (shownDown down)
 

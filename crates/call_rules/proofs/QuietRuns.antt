@@ -112,7 +112,7 @@ module _ (k : Kept) where
   accepted-reply h =
       by-test (eqb (runReply 1 k) 0) (λ t. eqb-true (runReply 1 k) 0 t) (λ t. clash (eqb (runReply 1 k) 0) (rw (refused-one t) at h) t)
 
-  accepted-one : eqb (ran 1 k .reply) 0 ≡ true → SinglePeriod k
+  pub accepted-one : eqb (ran 1 k .reply) 0 ≡ true → SinglePeriod k
   accepted-one h = period-single k (accepted-reply h)
 
   accepted-zero : runReply 1 k ≡ 0 → ran 1 k .reply ≡ 0
@@ -153,7 +153,7 @@ module _ (k : Kept) where
       rw (replied-run, on .0, one .ran-is, one .kept-is) (quiet-run (k .bus .periods .0) none)
 
   -- .. and the next one is not refused
-  goes-again : (n : ℕ) → goesOn (ran 1 k) n ≡ true → runReply 1 (keptAfter 1 k) ≡ 0
+  pub goes-again : (n : ℕ) → goesOn (ran 1 k) n ≡ true → runReply 1 (keptAfter 1 k) ≡ 0
   unfolding keptRun
   goes-again n g =
       let on = goes-by (ran 1 k) n g in
@@ -172,11 +172,11 @@ module _ (n : ℕ) (k : Kept) where
   unfolding callsIn
   calls-end g = rw g
 
-  told-on : goesOn (ran 1 k) n ≡ true → runTold (suc n) k ≡ runTold n (keptAfter 1 k)
+  pub told-on : goesOn (ran 1 k) n ≡ true → runTold (suc n) k ≡ runTold n (keptAfter 1 k)
   unfolding runTold
   told-on g = let s = run-single n k in rw (s .ran-is, s .kept-is, g)
 
-  told-end : goesOn (ran 1 k) n ≡ false → runTold (suc n) k ≡ runTold 1 k
+  pub told-end : goesOn (ran 1 k) n ≡ false → runTold (suc n) k ≡ runTold 1 k
   unfolding runTold
   told-end g = let s = run-single n k in rw (s .ran-is, s .kept-is, g)
 
@@ -186,10 +186,10 @@ module _ (n : ℕ) (k : Kept) where
   ran-end : goesOn (ran 1 k) n ≡ false → ran (suc n) k ≡ ran 1 k
   ran-end g = run-single n k .ran-is ∙ rw g
 
-  kept-on : goesOn (ran 1 k) n ≡ true → keptAfter (suc n) k ≡ keptAfter n (keptAfter 1 k)
+  pub kept-on : goesOn (ran 1 k) n ≡ true → keptAfter (suc n) k ≡ keptAfter n (keptAfter 1 k)
   kept-on g = run-single n k .kept-is ∙ rw g
 
-  kept-end : goesOn (ran 1 k) n ≡ false → keptAfter (suc n) k ≡ keptAfter 1 k
+  pub kept-end : goesOn (ran 1 k) n ≡ false → keptAfter (suc n) k ≡ keptAfter 1 k
   kept-end g = run-single n k .kept-is ∙ rw g
 
   run-ends : goesOn (ran 1 k) n ≡ false → RunIsCalls n k

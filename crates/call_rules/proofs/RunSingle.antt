@@ -18,7 +18,7 @@ use Rattle.call_rules.proofs.InOrder.{one-left}
 use Rattle.call_rules.proofs.ReadyKept.{ready-kept}
 
 -- ---- The checks of a run are those of a single period.
-same-reply : (n : ℕ) (k : Kept) → runReply (suc n) k ≡ runReply 1 k
+pub same-reply : (n : ℕ) (k : Kept) → runReply (suc n) k ≡ runReply 1 k
 unfolding runReply runReason
 same-reply n k = rw (lt-ltb 0 (suc n) (omega arith))
 

@@ -1,14 +1,15 @@
 -- Lists of calls on the record and what is lent with it. Each list hands back the replies and the notes that crate `bus` has for the same
 -- calls (specs/Calls.antt there), so that demand 3 (specs/Claims.antt there) speaks of these calls: Demand3.antt.
-use mathlib.Core.Bool.{Bool, true, cond}
+use mathlib.Core.Bool.{Bool, true, false, cond}
 use mathlib.Core.List.{List, [], _∷_, _++_, map}
 use mathlib.Core.Path.{_≡_}
-use Prim.Native.Nat.{ℕ, zero, suc, _+_, _-_, _≤_, _<_}
-use lib.Dec.{eqb}
+use Prim.Native.Nat.{ℕ, zero, suc, _+_, _-_, _≤_, _<_, min}
+use lib.Dec.{eqb, ltb}
 use lib.ListN.{length, getD, take, replicate}
 use Rattle.cells.specs.Notes.{HEARD, DONE1, DONE2, noted}
 use Rattle.hdlc.specs.Bits.{bitOf}
 use Rattle.hdlc.specs.Image.{longestBody}
+use Rattle.timing.specs.Counts.{mostPeriods}
 use Rattle.terminal.specs.Terminal as terminal
 use Rattle.reader.specs.ReaderRange.{readerInRange}
 use Rattle.reader.specs.StandsFor.{StandsFor}
@@ -164,3 +165,20 @@ pub record RunIsCalls (n : ℕ) (k : Kept) : Type 0 where
 
 abbrev pub RunsAreCalls : Type 0
 RunsAreCalls = (n : ℕ) (k : Kept) → RunIsCalls n k
+
+-- The codes that notes have stand in an octet and are not 0, which as an octet ends the notes of a call (proofs/Codes.antt).
+abbrev pub isCode : ℕ → Bool
+isCode code = cond (eqb code 0) false (ltb code 256)
+
+unfoldable pub coded : List Note → Bool
+coded [] = true
+coded (n ∷ ns) = cond (isCode (n .code)) (coded ns) false
+
+abbrev pub RunNotesCoded : Type 0
+RunNotesCoded = (n : ℕ) (k : Kept) → coded (runTold (suc n) k) ≡ true
+
+-- A run that hands back no notes has run as many periods as were asked for, or has come to 4,000,000 (proofs/QuietEnds.antt).
+abbrev pub QuietRunEnds : Type 0
+QuietRunEnds =
+    (most : ℕ) (k : Kept) → ran most k .reply ≡ 0 → runTold most k ≡ []
+    → keptAfter most k .bus .periods .0 ≡ min (k .bus .periods .0 + most) mostPeriods

@@ -2,9 +2,10 @@
 use mathlib.Core.Bool.{true}
 use mathlib.Core.List.{List}
 use mathlib.Core.Path.{_≡_, sym, _∙_}
-use Prim.Native.Nat.{ℕ}
+use Prim.Native.Nat.{ℕ, _≤_}
 use native.Mathlib.Omega.{arith}
-use borrow.Author.Tests.{eq-eqb, ne-eqb}
+use lib.Dec.{ltb}
+use borrow.Author.Tests.{eq-eqb, ne-eqb, ltb-false}
 use Rattle.cases.proofs.ByCases.{by-test}
 use Rattle.bus.specs.Bus.{Note}
 use Rattle.call_rules.specs.Kept.{Kept}
@@ -35,3 +36,10 @@ pub lent-bus : (s : List ℕ) (room needed r : ℕ) → r ≡ lentReason s room 
 unfolding lentReason
 lent-bus s room needed r e z =
     by-test (isBus s) (λ t. t) (λ t. absurd (let y : _≡_ {A = ℕ} 1 0 = sym (e ∙ rw t) ∙ z in omega arith))
+
+-- ---- .. and the room is as large as it must be.
+pub lent-room : (s : List ℕ) (room needed r : ℕ) → r ≡ lentReason s room needed → r ≡ 0 → needed ≤ room
+unfolding lentReason
+lent-room s room needed r e z =
+    by-test (ltb room needed)
+    (λ t. absurd (let y : _≡_ {A = ℕ} 2 0 = sym (e ∙ rw (lent-bus s room needed r e z, t)) ∙ z in omega arith)) (λ t. ltb-false room needed t)

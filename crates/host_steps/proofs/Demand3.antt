@@ -3,7 +3,7 @@ use mathlib.Core.List.{List, [], _∷_, _++_, append-assoc}
 use mathlib.Core.Path.{_≡_, refl, sym, _∙_}
 use Prim.Native.Nat.{ℕ}
 use Rattle.bus.specs.Bus.{Bus, freshBus}
-use Rattle.bus.specs.Calls.{Call, ran, allNotes}
+use Rattle.bus.specs.Calls.{ran, allNotes}
 use Rattle.bus.proofs.Demand3.{demand3, notes-append}
 use Rattle.host_bus.specs.Fresh.{freshOctets}
 use Rattle.host_steps.specs.Laws.{HostCall, busAfter, callsOf, SteppedAll}

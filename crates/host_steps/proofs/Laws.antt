@@ -2,13 +2,13 @@
 use mathlib.Core.Bool.{true, false}
 use mathlib.Core.List.{List, [], _∷_, _++_, append-nil}
 use mathlib.Core.Path.{_≡_, refl, sym, ap, _∙_}
-use Prim.Native.Nat.{ℕ, zero, suc, _-_, _≤_}
+use Prim.Native.Nat.{ℕ, zero, suc, _-_, _%_, _≤_, _<_}
 use native.Mathlib.Omega.{arith}
 use lib.Dec.{eqb, ltb}
-use lib.ListN.{length, take, replicate, length-append, length-replicate}
+use lib.ListN.{length, getD, take, replicate, length-append, length-replicate}
 use lib.Seq.{take-append-seam}
-use borrow.Author.Tests.{eqb-true, eq-eqb, ne-eqb, ltb-false}
-use Rattle.cases.proofs.ByCases.{by-test}
+use borrow.Author.Tests.{eqb-true, eqb-false, eq-eqb, ne-eqb, ltb-true, ltb-false}
+use Rattle.cases.proofs.ByCases.{by-test, both, clash}
 use Rattle.cells.specs.Notes.{noted}
 use Rattle.bus_record.specs.NetworkSide.{refusedRun}
 use Rattle.symbols.specs.Symbols.{lineLength, within, fits}
@@ -20,16 +20,19 @@ use Rattle.bus.specs.Calls.Call.{event, period}
 use Rattle.bus_event.specs.Event.{imagesRoom, areLetters}
 use Rattle.call_rules.specs.Kept.{Kept}
 use Rattle.call_rules.specs.Ready.{goesOn}
-use Rattle.call_rules.specs.Lists.{Carries, told, called, replied, notesTold, runTold, OctetValues, callsIn, calledAll, allTold, periodTold, readerTold, terminalsTold, timersTold}
+use Rattle.call_rules.specs.Lists.{Carries, isCode, coded, told, called, replied, notesTold, runTold, OctetValues, callsIn, calledAll, allTold, periodTold, readerTold, terminalsTold, timersTold}
 use Rattle.call_rules.specs.Run.{ran as once, ranOn, keptOn, notYet, keptAfter}
 use Rattle.call_rules.proofs.InOrder.{InOrder, order-reply}
 use Rattle.call_rules.proofs.Fitting.{Fit, always-fit}
 use Rattle.call_rules.proofs.Lists.{call-carried, all-carried}
 use Rattle.call_rules.proofs.QuietRuns.{runs-are-calls}
+use Rattle.call_rules.proofs.QuietEnds as quiet-ends
+use Rattle.call_rules.proofs.Codes.{run-notes-coded}
 use Rattle.call_rules.proofs.Refused as turned-down
 use Rattle.call_rules.proofs.RunLeft.{run-left}
 use Rattle.note_text.specs.Room.{laid}
 use Rattle.note_text.specs.NoteText.{notesIn}
+use Rattle.note_text.specs.NoteOctets.{noteOctets}
 use Rattle.note_text.specs.declared.form.Form.the-variants.{Octets}
 use Rattle.period_text.proofs.Room.{period-octets-fit, event-octets-fit}
 use Rattle.report.specs.Told.{settled}
@@ -45,7 +48,7 @@ use Rattle.host_bus.specs.Lent.{lentReason}
 use Rattle.host_steps.specs.Stepping.{notesOctets, notesRoom, reason, replyWith, busWith, notesWith, mostTo, hostReply, hostBus, hostNotes, hostRunReply, hostRunBus, hostRunNotes}
 use Rattle.host_steps.specs.Laws as laws
 use Rattle.host_steps.specs.Laws.HostCall.{step, runTo}
-use Rattle.host_steps.proofs.Answers.{lent-bus}
+use Rattle.host_steps.proofs.Answers.{lent-bus, lent-room}
 use Rattle.host_steps.proofs.Stepped.{order}
 use Rattle.host_steps.proofs.Told.{left-fits, one-period}
 
@@ -131,6 +134,16 @@ ran-append b (x ∷ xs) ys = ran-append (after b x) xs ys
 fit-on : (b : Bus) (calls : List Call) → ((later : List Call) → Fit (ran b later)) → (later : List Call) → Fit (ran (ran b calls) later)
 fit-on b calls fit later = rw (← ran-append b calls later) (fit (calls ++ later))
 
+-- a run of no periods
+module _ (s : List ℕ) (h : isBus s ≡ true) where
+  none-refused : once 0 (shown s) .reply ≡ 0
+  unfolding once ranOn notYet refusedRun
+  none-refused = exact s h .ready
+
+  none-told : runTold 0 (shown s) ≡ []
+  unfolding runTold once ranOn notYet refusedRun keptAfter keptOn periodTold readerTold terminalsTold timersTold notesOf noted bitOf shown
+  none-told = rw (exact s h .ready) refl
+
 record Goes (b : Bus) (calls : List Call) (reply : ℕ) (left : Kept) (told : List Note) : Type 0 where
   carries : Carries left (ran b calls)
   replies : reply ≡ laws.firstReply b calls
@@ -147,22 +160,13 @@ module _ (s : List ℕ) (b : Bus) (h : isBus s ≡ true) (fit : (later : List Ca
         tells = sym (append-nil (notesTold (shown s) x)) ∙ a .1;
       }
 
-  -- a run of no periods
   none-left : Carries (keptAfter 0 (shown s)) (ran b [])
   unfolding keptAfter keptOn ran
   none-left = c
 
-  none-refused : once 0 (shown s) .reply ≡ 0
-  unfolding once ranOn notYet refusedRun
-  none-refused = exact s h .ready
-
-  none-told : runTold 0 (shown s) ≡ []
-  unfolding runTold once ranOn notYet refusedRun keptAfter keptOn periodTold readerTold terminalsTold timersTold notesOf noted bitOf shown
-  none-told = rw (exact s h .ready) refl
-
   run-goes : (most : ℕ) → Goes b (callsIn most (shown s)) (once most (shown s) .reply) (keptAfter most (shown s)) (runTold most (shown s))
   unfolding laws.firstReply callsIn ran allNotes
-  run-goes zero = record { carries = none-left; replies = none-refused; tells = none-told }
+  run-goes zero = record { carries = none-left; replies = none-refused s h; tells = none-told s h }
   run-goes (suc n) =
       let r = runs-are-calls n (shown s) in
       let a = all-carried (callsIn (suc n) (shown s)) (shown s) b c fit (periods-values (suc n) (shown s)) in
@@ -171,6 +175,45 @@ module _ (s : List ℕ) (b : Bus) (h : isBus s ≡ true) (fit : (later : List Ca
         replies = r .replies ∙ call-carried (shown s) b c (fit []) period tt .replies;
         tells = r .tells ∙ a .1;
       }
+
+-- ---- A run without notes.
+
+-- the notes of a call that fit stand in the room whole
+whole : (room text : List ℕ) → length text ≤ notesRoom → notesRoom ≤ length room → take (length text) (laid room 0 text) ≡ text
+whole room text fits large = rw (laid-front text room (omega arith)) (take-append-seam text _)
+
+-- notes that begin with their end are none
+no-notes : (room : List ℕ) (notes : List Note) → coded notes ≡ true → length (notesOctets notes) ≤ notesRoom → notesRoom ≤ length room
+    → getD (laid room 0 (notesOctets notes)) 0 0 ≡ 0 → notes ≡ []
+unfolding coded notesOctets notesIn noteOctets
+no-notes room [] c fits large z = refl
+no-notes room (n ∷ ns) c fits large z =
+    let code = both (isCode (n .code)) (coded ns) c .0 in
+    let first : n .code % 256 ≡ 0 = rw (laid-front (notesOctets (n ∷ ns)) room (omega arith)) at z in
+    by-test (eqb (n .code) 0)
+    (λ t. clash false (rw t at code) refl)
+    (λ t.
+    let small : n .code < 256 = ltb-true (n .code) 256 (rw t at code) in
+    absurd (eqb-false (n .code) 0 t (omega arith)))
+
+module _ (s : List ℕ) (h : isBus s ≡ true) where
+  run-coded : (most : ℕ) → coded (runTold most (shown s)) ≡ true
+  unfolding coded
+  run-coded zero = rw (none-told s h)
+  run-coded (suc n) = run-notes-coded n (shown s)
+
+pub quiet-run-ends : laws.QuietRunEnds
+unfolding hostRunReply hostRunBus hostRunNotes replyWith busWith notesWith settled
+quiet-run-ends s room until z first =
+    by-test (eqb (reason s room) 0)
+    (λ t.
+    let most : ℕ = mostTo until s in
+    let r = eqb-true _ _ t in
+    let h = lent-bus s _ _ (reason s room) refl r in
+    let y : once most (shown s) .reply ≡ 0 = rw t at z in
+    let e = no-notes room (runTold most (shown s)) (run-coded s h most) (run-notes-fit s most h) (lent-room s _ _ (reason s room) refl r) (rw (t, eq-eqb _ _ y) at first) in
+    rw (t, left-fits s h most .shown-is) (omega (arith, quiet-ends.quiet-run-ends most (shown s) y e)))
+    (λ t. absurd (eqb-false _ _ t (rw t at z)))
 
 -- ---- Lists.
 
@@ -183,10 +226,6 @@ record Parts (s : List ℕ) (x : laws.HostCall) (reply : ℕ) (left : Kept) (tol
   silent : (reply ≡ 0 → ⊥) → told ≡ []
   fits : length (notesOctets told) ≤ notesRoom
   stored : StoredAndShown left
-
--- the notes of a call that fit stand in the room whole
-whole : (room text : List ℕ) → length text ≤ notesRoom → notesRoom ≤ length room → take (length text) (laid room 0 text) ≡ text
-whole room text fits large = rw (laid-front text room (omega arith)) (take-append-seam text _)
 
 -- the call is as the rules have it, and the octets that it leaves stand for the bus after it
 abbrev Steps : Bus → List ℕ → laws.HostCall → Type 0

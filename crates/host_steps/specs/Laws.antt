@@ -2,9 +2,10 @@
 use mathlib.Core.Bool.{true, cond}
 use mathlib.Core.List.{List, [], _∷_}
 use mathlib.Core.Path.{_≡_}
-use Prim.Native.Nat.{ℕ, _≤_}
+use Prim.Native.Nat.{ℕ, _≤_, min, max}
 use lib.Dec.{ltb}
-use lib.ListN.{length, take}
+use lib.ListN.{length, getD, take}
+use Rattle.timing.specs.Counts.{mostPeriods}
 use Rattle.bus.specs.Bus.{Bus, Note, freshBus}
 use Rattle.bus.specs.Calls.{Call, reply, ran, allNotes}
 use Rattle.call_rules.specs.Lists.{Carries, OctetValue, notesTold, callsIn, runTold}
@@ -29,6 +30,13 @@ NotesFit = (s : List ℕ) (c : Call) → isBus s ≡ true → length (notesOctet
 
 abbrev pub RunNotesFit : Type 0
 RunNotesFit = (s : List ℕ) (most : ℕ) → isBus s ≡ true → length (notesOctets (runTold most (shown s))) ≤ notesRoom
+
+-- ---- A run after which the first octet of the notes is their end has come to as many periods as were asked for, where the bus was not past them, or
+-- to 4,000,000.
+abbrev pub QuietRunEnds : Type 0
+QuietRunEnds =
+    (s room : List ℕ) (until : ℕ) → hostRunReply s room (mostTo until s) ≡ 0 → getD (hostRunNotes s room (mostTo until s)) 0 0 ≡ 0
+    → shown (hostRunBus s room (mostTo until s)) .bus .periods .0 ≡ min (max until (shown s .bus .periods .0)) mostPeriods
 
 -- ---- Lists of a host's calls on a fresh bus: an event or a period, or a run until so many periods have been run, each with what is lent for its
 -- notes, of any length and contents.

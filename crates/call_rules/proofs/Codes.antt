@@ -1,0 +1,134 @@
+-- Every note of a period has a code: `specs/Lists.antt`.
+use mathlib.Core.Path.{_≡_, refl}
+use mathlib.Core.Bool.{Bool, true, false}
+use mathlib.Core.List.{List, [], _∷_, _++_, map}
+use Prim.Native.Nat.{ℕ, zero, suc, _+_}
+use native.Mathlib.Omega.{arith}
+use lib.Dec.{eqb, ltb}
+use borrow.Author.Tests.{eqb-true, ltb-false, le-ltb, lt-leb, ne-eqb}
+use Rattle.cases.proofs.ByCases.{by-test, both, clash}
+use Rattle.cells.specs.Notes.{noted}
+use Rattle.cells.proofs.NotesKept.{everyNote, every-append, every-of}
+use Rattle.terminal.proofs.Laws.{isTerminalNote, timer-told}
+use Rattle.bus.specs.Bus.{Note, notesOf}
+use Rattle.bus.specs.Exchange.{Sender, exchanged, wholeDown}
+use Rattle.bus.proofs.Telling.{network-hears-plain, network-timers-plain, terminal-hears-plain}
+use Rattle.reader.specs.declared.ReaderAnswer.{ReaderAnswer}
+use Rattle.reader.specs.declared.ReaderAnswer.the-variants.{Nothing, Heard, Torn, Refused}
+use Rattle.hdlc.specs.Bits.{bitOf}
+use Rattle.listening.specs.declared.hears.UnitNotes.{UnitNotes}
+use Rattle.bus_record.specs.declared.side.Ran.{Ran}
+use Rattle.call_rules.specs.Kept.{Kept}
+use Rattle.call_rules.specs.Shown.{busIn}
+use Rattle.call_rules.specs.Period.{noteOf, networkNotes, terminalNotes, terminalsNotes, answersIn, periodRan, keptRun}
+use Rattle.call_rules.specs.Ready.{goesOn}
+use Rattle.call_rules.specs.Run.{ran, keptAfter}
+use Rattle.call_rules.specs.Lists.{doneNotes, readerTold, terminalsTold, timersTold, periodTold, runTold, isCode, coded, RunNotesCoded}
+use Rattle.call_rules.proofs.QuietRuns.{accepted-one, told-on, told-end}
+
+-- ---- Lists of notes.
+coded-append : (xs ys : List Note) → coded xs ≡ true → coded ys ≡ true → coded (xs ++ ys) ≡ true
+unfolding coded
+coded-append [] ys p q = q
+coded-append (x ∷ xs) ys p q = let b = both (isCode (x .code)) (coded xs) p in rw (b .0) (coded-append xs ys (b .1) q)
+
+-- the codes of one unit's notes
+abbrev Codes : List ℕ → Type 0
+Codes codes = everyNote isCode codes ≡ true
+
+coded-of : (now unit : ℕ) (codes : List ℕ) → Codes codes → coded (notesOf now unit codes) ≡ true
+unfolding coded notesOf everyNote
+coded-of now unit [] h = refl
+coded-of now unit (c ∷ codes) h = let b = both (isCode c) (everyNote isCode codes) h in rw (b .0) (coded-of now unit codes (b .1))
+
+-- an indication has a code, and so has a dropped frame
+module _ (code : ℕ) (h : isTerminalNote code ≡ true) where
+  large : ltb code 256 ≡ false → isTerminalNote code ≡ false
+  large l =
+      let n = ltb-false code 256 l in
+      rw (le-ltb code 1 (omega arith), lt-leb code 9 (omega arith), ne-eqb code 14 (λ e. omega arith), ne-eqb code 15 (λ e. omega arith))
+
+  terminal-code : isCode code ≡ true
+  terminal-code =
+      by-test (eqb code 0)
+      (λ z. let e = eqb-true code 0 z in clash (isTerminalNote code) h (rw e))
+      (λ z. rw z (by-test (ltb code 256) (λ l. l) (λ l. clash (isTerminalNote code) h (large l))))
+
+of-tables : (codes : List ℕ) → everyNote isTerminalNote codes ≡ true → Codes codes
+of-tables codes h = every-of isTerminalNote isCode terminal-code codes h
+
+of-done : (one two : Bool) → Codes (doneNotes one two)
+unfolding everyNote
+of-done true true = refl
+of-done true false = refl
+of-done false true = refl
+of-done false false = refl
+
+-- ---- The parts of a period's notes.
+AllCodes : List UnitNotes → Type 0
+AllCodes [] = Unit
+AllCodes (n ∷ ns) = Codes (noted (n .heard)) × Codes (noted (n .timed)) × AllCodes ns
+
+coded-terminals : (now : ℕ) (r : Ran) (i : ℕ) (ns : List UnitNotes) → AllCodes ns → coded (terminalsTold now r i ns) ≡ true
+unfolding terminalsTold coded AllCodes
+coded-terminals now r i [] h = refl
+coded-terminals now r i (n ∷ ns) h =
+    coded-append (notesOf now (suc i) _) (terminalsTold now r (suc i) ns)
+    (coded-of now (suc i) _ (every-append isCode (doneNotes (bitOf (r .done1) i) (bitOf (r .done2) i)) (noted (n .heard)) (of-done (bitOf (r .done1) i) (bitOf (r .done2) i)) (h .0)))
+    (coded-terminals now r (suc i) ns (h .2))
+
+coded-timers : (now i : ℕ) (ns : List UnitNotes) → AllCodes ns → coded (timersTold now i ns) ≡ true
+unfolding timersTold coded AllCodes
+coded-timers now i [] h = refl
+coded-timers now i (n ∷ ns) h =
+    coded-append (notesOf now (suc i) (noted (n .timed))) (timersTold now (suc i) ns) (coded-of now (suc i) _ (h .1)) (coded-timers now (suc i) ns (h .2))
+
+said-code : (answers : List ReaderAnswer) → eqb (noteOf answers) 0 ≡ false → isCode (noteOf answers) ≡ true
+unfolding noteOf
+said-code [] h = clash true refl h
+said-code (Heard n ∷ more) h = refl
+said-code (Torn ∷ more) h = refl
+said-code (Nothing ∷ more) h = said-code more h
+said-code (Refused k ∷ more) h = said-code more h
+
+-- ---- A period.
+module _ (k : Kept) where
+  all-codes : (ss : List Sender)
+      → AllCodes (map (λ (s : Sender). terminalNotes (wholeDown (exchanged (busIn k))) (busIn k .periods) (s .seat .terminal)) ss)
+  unfolding AllCodes terminalNotes
+  all-codes [] = tt
+  all-codes (s ∷ ss) = (
+    of-tables _ (terminal-hears-plain (wholeDown (exchanged (busIn k))) (busIn k .periods) (s .seat .terminal)),
+    of-tables _ (timer-told _ _),
+    all-codes ss,
+  )
+
+  coded-reader : (now : ℕ) (octets : List ℕ) → coded (readerTold now (periodRan k) octets) ≡ true
+  unfolding readerTold coded periodRan
+  coded-reader now octets =
+      by-test (eqb (noteOf (answersIn k)) 0) (λ t. rw t) (λ t. rw t (rw (said-code (answersIn k) t)))
+
+  coded-period : (now : ℕ) (octets : List ℕ) → coded (periodTold now (periodRan k) (keptRun k .notes) octets) ≡ true
+  unfolding periodTold periodRan keptRun networkNotes terminalsNotes
+  coded-period now octets =
+      let b = busIn k in
+      let all = all-codes (exchanged b .senders) in
+      coded-append (readerTold now (periodRan k) octets ++ _) _
+      (coded-append (readerTold now (periodRan k) octets) _ (coded-reader now octets)
+      (coded-append (notesOf now 0 _) _ (coded-of now 0 _ (of-tables _ (network-hears-plain _ _ _))) (coded-terminals now (periodRan k) 0 _ all)))
+      (coded-append (notesOf (now + 1) 0 _) _ (coded-of (now + 1) 0 _ (of-tables _ (network-timers-plain _ _))) (coded-timers (now + 1) 0 _ all))
+
+  coded-one : coded (runTold 1 k) ≡ true
+  unfolding runTold coded
+  coded-one =
+      by-test (eqb (ran 1 k .reply) 0)
+      (λ t. let one = accepted-one k t in rw (t, one .kept-is, one .ran-is) (coded-period _ (keptRun k .octets)))
+      (λ t. rw t)
+
+-- ---- A run.
+pub run-notes-coded : RunNotesCoded
+run-notes-coded zero k = coded-one k
+run-notes-coded (suc n) k =
+    by-test (goesOn (ran 1 k) (suc n))
+    (λ g. rw (told-on (suc n) k g) (run-notes-coded n (keptAfter 1 k)))
+    (λ g. rw (told-end (suc n) k g) (coded-one k))
