@@ -5,4 +5,5 @@ pub mod Stays
 pub mod StillPeriod
 pub mod Leaping
 pub mod Turning
+pub mod AloneTurns
 pub mod Structs

@@ -65,7 +65,7 @@ module _ (left : ℕ) (k : Kept) (some : 0 < left) (h : runReply 1 k ≡ 0) wher
   unfolding goesOn refusedRun
   goes-first = rw (lt-ltb 0 left some, one-left 1 k (omega arith) h)
 
-  from-first : Going (k .images) (k .letters) (ranOn (left - 1) (periodRan k) (keptRun k)) (keptOn (left - 1) (periodRan k) (keptRun k)) first left (k .terminals) (k .octets) (k .notes)
+  pub from-first : Going (k .images) (k .letters) (ranOn (left - 1) (periodRan k) (keptRun k)) (keptOn (left - 1) (periodRan k) (keptRun k)) first left (k .terminals) (k .octets) (k .notes)
   unfolding refusedRun
   from-first = record { order = λ _. order-first; ran-to = ran-goes left first k goes-first; kept-to = kept-goes left first k goes-first }
 

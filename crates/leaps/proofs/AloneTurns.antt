@@ -1,0 +1,153 @@
+-- A run of periods in which one terminal sends alone (crate `solo`) is a turn of a run's loop: `specs/Turn.antt`.
+use mathlib.Core.Path.{_≡_, refl, sym, ap, _∙_}
+use mathlib.Core.Bool.{Bool, true, false, cond, not, _&&_}
+use mathlib.Core.List.{List, [], _∷_}
+use Prim.Native.Nat.{ℕ, zero, suc, _+_, _-_, _≤_, _<_}
+use native.Mathlib.Nat.{suc-inj}
+use native.Mathlib.Omega.{arith}
+use lib.Dec.{eqb, ltb}
+use lib.ListN.{length}
+use borrow.Author.Tests.{eqb-true, eqb-false, lt-ltb, leb-false}
+use Rattle.cases.proofs.ByCases.{by-test}
+use Rattle.cases.proofs.Operators.{and-both, not-true}
+use Rattle.walks.specs.Over.{mapFrom}
+use Rattle.hdlc.specs.Bits.{sameBit}
+use Rattle.table_6_3.specs.Table63.{G3}
+use Rattle.timing.specs.Counts.{mostPeriods, allRun, atPeriod, nextPeriod}
+use Rattle.terminal.specs.declared.Terminal.{Terminal}
+use Rattle.listening.specs.Hears.{silenced}
+use Rattle.listening.specs.declared.hears.UnitNotes.{UnitNotes}
+use Rattle.bus_record.specs.NetworkSide.{noNotes, ranWith, ranAfter, octetsAfter, refusedRun}
+use Rattle.bus_record.specs.declared.side.Ran.{Ran}
+use Rattle.solo.specs.Solo.{soloTurned, soloAfterFour, soloGoes, followed, soloSeats, senderIn}
+use Rattle.solo.specs.Alone.{staysAlone, goesAlone, aloneAfter, octetsThen, aloneOn, octetsOn, notYet, aloneRun, aloneRunOctets}
+use Rattle.solo.specs.Search.{allRest, allClear, searched, IsAlone}
+use Rattle.solo.specs.Period.{IsPeriod}
+use Rattle.solo.specs.declared.alone.Alone.{Alone}
+use Rattle.solo.specs.declared.solo.Solo.{Solo}
+use Rattle.solo.specs.declared.search.Search.{Search}
+use Rattle.solo.proofs.FoundAlone.{found-alone}
+use Rattle.solo.proofs.Period.{period-alone, clear-on}
+use Rattle.call_rules.specs.Kept.{Kept, kept}
+use Rattle.call_rules.specs.Ready.{runReply, goesOn}
+use Rattle.call_rules.specs.Period.{periodRan, keptRun}
+use Rattle.call_rules.specs.Run.{ranOn, keptOn}
+use Rattle.call_rules.specs.Step.{stepMoment, stepExchanged, stepLine, stepTold, stepRan, stepTerminals, stepOctets, stepNotes}
+use Rattle.call_rules.proofs.InOrder.{in-order}
+use Rattle.call_rules.proofs.RunLoop.{Going, going-on}
+use Rattle.leaps.specs.Turn.{Turns}
+use Rattle.leaps.proofs.Turning.{from-first, shown-turn}
+
+-- ---- The sender keeps its place and its image.
+same-place : (images : List ℕ) (s : Solo) → (soloAfterFour images s .at ≡ s .at) × (soloAfterFour images s .length ≡ s .length)
+unfolding soloAfterFour soloTurned
+same-place images s = (refl, refl)
+
+-- ---- What goes on alone goes on.
+module _ (images : List ℕ) (a : Alone) (g : goesAlone images a ≡ true) where
+  facts : (a .ran .reply ≡ 0) × (a .ran .told ≡ false) × (allRun (a .ran .bus .periods) ≡ false)
+  unfolding goesAlone staysAlone
+  facts =
+      let last = a .ran in
+      let bus = last .bus in
+      let told = eqb (last .reply) 0 && not (last .told) in
+      let still = (told && eqb (bus .network .state) G3) && not (bus .hit) in
+      let p = and-both ((still && sameBit (bus .heard) (a .solo .last)) && soloGoes images (a .solo)) (not (allRun (bus .periods))) g in
+      let q = and-both still (sameBit (bus .heard) (a .solo .last)) (and-both (still && sameBit (bus .heard) (a .solo .last)) (soloGoes images (a .solo)) (p .0) .0) in
+      let r = and-both told (eqb (bus .network .state) G3) (and-both (told && eqb (bus .network .state) G3) (not (bus .hit)) (q .0) .0) in
+      let t = and-both (eqb (last .reply) 0) (not (last .told)) (r .0) in
+      (eqb-true (last .reply) 0 (t .0), not-true (last .told) (t .1), not-true (allRun (bus .periods)) (p .1))
+
+  goes-so : (left : ℕ) → 0 < left → goesOn (a .ran) left ≡ true
+  unfolding goesOn
+  goes-so left some = rw (facts .0, facts .1, facts .2, lt-ltb 0 left some)
+
+  next-period : (os : List ℕ) → aloneAfter images a os .ran .bus .periods .0 ≡ a .ran .bus .periods .0 + 1
+  unfolding aloneAfter ranAfter ranWith nextPeriod
+  next-period os = rw (facts .2)
+
+-- ---- The run, from what was found.
+module _ (images letters : List ℕ) (ended : Ran) (end : Kept) (ts : List Terminal) (total : ℕ) (rest : allRest ts ≡ true) where
+  abbrev none-noted : List UnitNotes
+  none-noted = mapFrom (λ (_ : ℕ) (_ : Terminal). noNotes) 0 ts
+
+  -- with so many periods run
+  abbrev GoesAt : Alone → List ℕ → List UnitNotes → Type 0
+  GoesAt a os ns = Going images letters ended end (a .ran) (total - a .over) (mapFrom (followed (a .solo)) 0 ts) os ns
+
+  record Stands (a : Alone) : Type 0 where
+    seats : soloSeats (a .solo .at) (a .solo .length) 0 ts ≡ true
+    sender : senderIn (a .solo .at) 0 ts ≡ true
+
+  one-period : (a : Alone) (os : List ℕ) (ns : List UnitNotes) → GoesAt a os ns → Stands a → goesAlone images a ≡ true → allClear (a .ran .bus .periods .0) 1 ts ≡ true → a .over < total
+      → GoesAt (aloneAfter images a os) (octetsThen images a os) none-noted
+  unfolding aloneAfter octetsThen stepRan stepTerminals stepOctets stepNotes stepTold stepMoment stepExchanged stepLine
+  one-period a os ns i s g c l =
+      let p = period-alone images letters a ts g (s .seats) (s .sender) rest c in
+      let fewer : total - a .over - 1 ≡ total - (a .over + 1) = omega arith in
+      let on = going-on images letters ended end (a .ran) (total - a .over) (mapFrom (followed (a .solo)) 0 ts) os ns i (goes-so images a g (total - a .over) (omega arith)) in
+      rw (p .told-is, p .terminals-are, p .notes-are, p .moment-is, fewer) at on
+
+  -- and so many; n0 periods from period now0 on no timer is due, and k of them have been run
+  module _ (now0 n0 : ℕ) (c : allClear now0 n0 ts ≡ true) where
+    on-alone : (n k : ℕ) (a : Alone) (os : List ℕ) → GoesAt a os none-noted → Stands a → a .ran .reply ≡ 0 → a .ran .bus .periods .0 ≡ now0 + k → k + n ≤ n0 → a .over + n ≤ total
+        → GoesAt (aloneOn images n a os) (octetsOn images n a os) none-noted × (aloneOn images n a os .ran .reply ≡ 0) × (aloneOn images n a os .over ≤ total)
+    unfolding aloneOn octetsOn aloneAfter ranAfter ranWith
+    on-alone zero k a os i s z p l m = (i, z, omega arith)
+    on-alone (suc n) k a os i s z p l m =
+        by-test (goesAlone images a)
+        (λ g.
+        let clear-here : allClear (a .ran .bus .periods .0) 1 ts ≡ true = rw p (clear-on now0 n0 k ts (omega arith) c) in
+        let j = one-period a os none-noted i s g clear-here (omega arith) in
+        let q : aloneAfter images a os .ran .bus .periods .0 ≡ now0 + suc k = next-period images a g os ∙ rw p (omega arith) in
+        let place = same-place images (a .solo) in
+        let t : Stands (aloneAfter images a os) = record { seats = rw (place .0, place .1) (s .seats); sender = rw (place .0) (s .sender) } in
+        rw g (on-alone n (suc k) (aloneAfter images a os) (octetsThen images a os) j t refl q (omega arith) (omega arith)))
+        (λ g. rw g (i, z, omega arith))
+
+  -- from the first, where one is run at least
+  module _ (now0 n0 : ℕ) (c : allClear now0 n0 ts ≡ true) (few : n0 ≤ total) where
+    first-alone : (n : ℕ) → n ≤ n0 → (a : Alone) (os : List ℕ) (ns : List UnitNotes) → GoesAt a os ns → Stands a → a .over ≡ 0 → a .ran .bus .periods .0 ≡ now0 → 0 < aloneOn images n a os .over
+        → GoesAt (aloneOn images n a os) (octetsOn images n a os) none-noted × (aloneOn images n a os .ran .reply ≡ 0) × (aloneOn images n a os .over ≤ total)
+    unfolding aloneOn octetsOn aloneAfter ranAfter ranWith
+    first-alone zero m a os ns i s z p some = absurd (omega (arith, z))
+    first-alone (suc n) m a os ns i s z p some =
+        by-test (goesAlone images a)
+        (λ g.
+        let here : now0 ≡ now0 + 0 = omega arith in
+        let clear-here : allClear (a .ran .bus .periods .0) 1 ts ≡ true = rw (p, here) (clear-on now0 n0 0 ts (omega arith) c) in
+        let j = one-period a os ns i s g clear-here (omega (arith, z)) in
+        let q : aloneAfter images a os .ran .bus .periods .0 ≡ now0 + 1 = next-period images a g os ∙ rw p in
+        let place = same-place images (a .solo) in
+        let t : Stands (aloneAfter images a os) = record { seats = rw (place .0, place .1) (s .seats); sender = rw (place .0) (s .sender) } in
+        rw g (on-alone now0 n0 c n 1 (aloneAfter images a os) (octetsThen images a os) j t refl q (omega arith) (omega (arith, z))))
+        (λ g. let none : 0 < a .over = rw g at some in absurd (omega (arith, z)))
+
+-- ---- The turn.
+all-alike : {S B : Type 0} (x : UnitNotes) (i : ℕ) (ss : List S) (bs : List B) → length ss ≡ length bs → mapFrom (λ (_ : ℕ) (_ : S). x) i ss ≡ mapFrom (λ (_ : ℕ) (_ : B). x) i bs
+unfolding mapFrom
+all-alike x i [] [] e = refl
+all-alike x i [] (b ∷ bs) e = absurd (omega arith)
+all-alike x i (y ∷ ys) [] e = absurd (omega arith)
+all-alike x i (y ∷ ys) (b ∷ bs) e = ap (λ (ns : List UnitNotes). x ∷ ns) (all-alike x (suc i) ys bs (suc-inj e))
+
+module _ (left : ℕ) (k : Kept) where
+  abbrev found : Search
+  found = searched (k .bus .periods) left (k .terminals)
+
+  abbrev run : Alone
+  run = aloneRun (k .images) (found .over) (k .bus) (found .solo) (k .octets)
+
+  pub alone-turns : found .fits ≡ true → found .sends ≡ true → 0 < run .over →
+      Turns left k (run .ran) (run .over - 1)
+      (kept (run .ran .bus) (mapFrom (followed (run .solo)) 0 (k .terminals)) (k .images) (aloneRunOctets (k .images) (found .over) (k .bus) (found .solo) (k .octets)) (k .letters) (mapFrom silenced 0 (k .notes)))
+  unfolding aloneRun aloneRunOctets refusedRun
+  alone-turns fits sends ran some h =
+      let o = in-order 1 k h in
+      let alone = found-alone (k .bus .periods) left (k .terminals) fits sends in
+      let none : left - 0 ≡ left = omega arith in
+      let i : Going (k .images) (k .letters) (ranOn (left - 1) (periodRan k) (keptRun k)) (keptOn (left - 1) (periodRan k) (keptRun k)) (refusedRun 0 (k .bus)) (left - 0) (mapFrom (followed (found .solo)) 0 (k .terminals)) (k .octets) (k .notes) = rw (alone .followed-is, none) (from-first left k some h) in
+      let r = first-alone (k .images) (k .letters) (ranOn (left - 1) (periodRan k) (keptRun k)) (keptOn (left - 1) (periodRan k) (keptRun k)) (k .terminals) left (alone .rest) (k .bus .periods .0) (found .over) (alone .clear) (alone .few) (found .over) (omega arith) (notYet (k .bus) (found .solo)) (k .octets) (k .notes) i (record { seats = alone .seats; sender = alone .sender }) refl refl ran in
+      let one : 1 + (run .over - 1) ≡ run .over = omega (arith, ran) in
+      let silent = all-alike noNotes 0 (k .notes) (k .terminals) (o .notes-fit ∙ sym (o .eight)) in
+      rw silent (shown-turn left k some h (run .ran) (run .over - 1) _ _ _ (r .1) (rw one (r .2)) (rw one (r .0)))
