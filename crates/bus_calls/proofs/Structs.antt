@@ -18,6 +18,8 @@ use Rattle.bus_record.proofs.side.Ran as Ran
 use Rattle.bus_record.proofs.side.Ran.Laws as Ran′
 use Rattle.bus_calls.proofs.turn.Turn as Turn
 use Rattle.bus_calls.proofs.turn.Turn.Laws as Turn′
+use Rattle.solo.proofs.alone.Alone as Alone
+use Rattle.solo.proofs.alone.Alone.Laws as Alone′
 use Rattle.bus_event.proofs.event.Told as Told
 use Rattle.bus_event.proofs.event.Told.Laws as Told′
 
@@ -47,3 +49,6 @@ tolds = struct-kind Told.the-type Told′.the-laws Told′.the-plain Told′.the
 
 abbrev pub turns : Kind Turn.the-row
 turns = struct-kind Turn.the-type Turn′.the-laws Turn′.the-plain Turn′.the-copy Turn′.mir refl
+
+abbrev pub alones : Kind Alone.the-row
+alones = struct-kind Alone.the-type Alone′.the-laws Alone′.the-plain Alone′.the-copy Alone′.mir refl

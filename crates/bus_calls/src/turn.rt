@@ -9,6 +9,11 @@ use bus_record::side::Ran;
 use leaps::leap::leapt;
 use leaps::reach::reach;
 use listening::hears::UnitNotes;
+use listening::silence::silence;
+use solo::alone::run_alone;
+use solo::follow::follow;
+use solo::search::find;
+use solo::search::in_vain;
 use terminal::Terminal;
 
 // What the last period of a turn gives, and how many were run before it.
@@ -24,7 +29,7 @@ fn turned(ran: Ran, over: u32) -> Turn
 }
 
 // With so many periods left to run: a step over those of a still bus, and one more.
-pub(crate) fn advance(
+fn leap_on(
     bus: BusRecord,
     terminals: &mut [Terminal],
     images: &[u8],
@@ -39,4 +44,34 @@ pub(crate) fn advance(
     let over = reach(bus, terminals, left);
     let ran = step(leapt(bus, over), terminals, images, octets, letters, notes);
     turned(ran, over)
+}
+
+// With so many periods left to run: where one terminal sends alone, the periods in which it does; else a leap.
+pub(crate) fn advance(
+    bus: BusRecord,
+    terminals: &mut [Terminal],
+    images: &[u8],
+    octets: &mut [u8],
+    letters: &[u8],
+    notes: &mut [UnitNotes],
+    left: u32,
+) -> Turn
+    requires { ⌜ length (now notes) ≡ length (now terminals) ⌝ }
+    ensures { λ r. ⌜ Turns left (kept bus (now (terminals .entry)) (now (images .entry)) (now (octets .entry)) (now (letters .entry)) (now (notes .entry))) (r .ran) (r .over) (kept (r .ran .bus) (now (terminals .exit)) (now (images .entry)) (now (octets .exit)) (now (letters .entry)) (now (notes .exit))) ⌝ }
+{
+    if in_vain(bus) {
+        return leap_on(bus, terminals, images, octets, letters, notes, left);
+    }
+    let found = find(terminals, bus.periods, left);
+    let most = found.alone_for();
+    if most == 0 {
+        return leap_on(bus, terminals, images, octets, letters, notes, left);
+    }
+    let alone = run_alone(bus, images, octets, found.solo, most);
+    if alone.over == 0 {
+        return leap_on(bus, terminals, images, octets, letters, notes, left);
+    }
+    follow(terminals, alone.solo);
+    silence(notes);
+    turned(alone.ran, alone.over - 1)
 }

@@ -18,10 +18,11 @@ use Rattle.terminal.specs.declared.Terminal.{Terminal}
 use Rattle.listening.specs.Hears.{silenced}
 use Rattle.listening.specs.declared.hears.UnitNotes.{UnitNotes}
 use Rattle.bus_record.specs.NetworkSide.{noNotes, ranWith, ranAfter, octetsAfter, refusedRun}
+use Rattle.bus_record.specs.declared.record.BusRecord.{BusRecord}
 use Rattle.bus_record.specs.declared.side.Ran.{Ran}
 use Rattle.solo.specs.Solo.{soloTurned, soloAfterFour, soloGoes, followed, soloSeats, senderIn}
 use Rattle.solo.specs.Alone.{staysAlone, goesAlone, aloneAfter, octetsThen, aloneOn, octetsOn, notYet, aloneRun, aloneRunOctets}
-use Rattle.solo.specs.Search.{allRest, allClear, searched, IsAlone}
+use Rattle.solo.specs.Search.{allRest, allClear, searched, aloneFor, IsAlone}
 use Rattle.solo.specs.Period.{IsPeriod}
 use Rattle.solo.specs.declared.alone.Alone.{Alone}
 use Rattle.solo.specs.declared.solo.Solo.{Solo}
@@ -123,6 +124,23 @@ module _ (images letters : List ℕ) (ended : Ran) (end : Kept) (ts : List Termi
         rw g (on-alone now0 n0 c n 1 (aloneAfter images a os) (octetsThen images a os) j t refl q (omega arith) (omega (arith, z))))
         (λ g. let none : 0 < a .over = rw g at some in absurd (omega (arith, z)))
 
+-- ---- Nothing run leaves the octets as they were.
+no-fewer : (images : List ℕ) (n : ℕ) (a : Alone) (os : List ℕ) → a .over ≤ aloneOn images n a os .over
+unfolding aloneOn aloneAfter
+no-fewer images zero a os = omega arith
+no-fewer images (suc n) a os =
+    by-test (goesAlone images a)
+    (λ g. rw g (let more = no-fewer images n (aloneAfter images a os) (octetsThen images a os) in omega arith))
+    (λ g. rw g (omega arith))
+
+pub none-run : (images : List ℕ) (n : ℕ) (bus : BusRecord) (s : Solo) (os : List ℕ) → aloneRun images n bus s os .over ≡ 0 → aloneRunOctets images n bus s os ≡ os
+unfolding aloneRun aloneRunOctets aloneOn octetsOn aloneAfter
+none-run images zero bus s os z = refl
+none-run images (suc n) bus s os z =
+    by-test (goesAlone images (notYet bus s))
+    (λ g. let z1 = rw g at z in absurd (omega (arith, no-fewer images n (aloneAfter images (notYet bus s) os) (octetsThen images (notYet bus s) os))))
+    (λ g. rw g)
+
 -- ---- The turn.
 all-alike : {S B : Type 0} (x : UnitNotes) (i : ℕ) (ss : List S) (bs : List B) → length ss ≡ length bs → mapFrom (λ (_ : ℕ) (_ : S). x) i ss ≡ mapFrom (λ (_ : ℕ) (_ : B). x) i bs
 unfolding mapFrom
@@ -136,18 +154,26 @@ module _ (left : ℕ) (k : Kept) where
   found = searched (k .bus .periods) left (k .terminals)
 
   abbrev run : Alone
-  run = aloneRun (k .images) (found .over) (k .bus) (found .solo) (k .octets)
+  run = aloneRun (k .images) (aloneFor found) (k .bus) (found .solo) (k .octets)
 
-  pub alone-turns : found .fits ≡ true → found .sends ≡ true → 0 < run .over →
+  from-search : 0 < aloneFor found → (found .fits ≡ true) × (found .sends ≡ true) × (aloneFor found ≡ found .over)
+  unfolding aloneFor
+  from-search some =
+      by-test (found .fits && found .sends)
+      (λ t. let p = and-both (found .fits) (found .sends) t in (p .0, p .1, rw t))
+      (λ t. let none : 0 < 0 = rw t at some in absurd (omega arith))
+
+  pub alone-turns : 0 < aloneFor found → 0 < run .over →
       Turns left k (run .ran) (run .over - 1)
-      (kept (run .ran .bus) (mapFrom (followed (run .solo)) 0 (k .terminals)) (k .images) (aloneRunOctets (k .images) (found .over) (k .bus) (found .solo) (k .octets)) (k .letters) (mapFrom silenced 0 (k .notes)))
+      (kept (run .ran .bus) (mapFrom (followed (run .solo)) 0 (k .terminals)) (k .images) (aloneRunOctets (k .images) (aloneFor found) (k .bus) (found .solo) (k .octets)) (k .letters) (mapFrom silenced 0 (k .notes)))
   unfolding aloneRun aloneRunOctets refusedRun
-  alone-turns fits sends ran some h =
+  alone-turns search ran some h =
+      let q = from-search search in
       let o = in-order 1 k h in
-      let alone = found-alone (k .bus .periods) left (k .terminals) fits sends in
+      let alone = found-alone (k .bus .periods) left (k .terminals) (q .0) (q .1) in
       let none : left - 0 ≡ left = omega arith in
       let i : Going (k .images) (k .letters) (ranOn (left - 1) (periodRan k) (keptRun k)) (keptOn (left - 1) (periodRan k) (keptRun k)) (refusedRun 0 (k .bus)) (left - 0) (mapFrom (followed (found .solo)) 0 (k .terminals)) (k .octets) (k .notes) = rw (alone .followed-is, none) (from-first left k some h) in
-      let r = first-alone (k .images) (k .letters) (ranOn (left - 1) (periodRan k) (keptRun k)) (keptOn (left - 1) (periodRan k) (keptRun k)) (k .terminals) left (alone .rest) (k .bus .periods .0) (found .over) (alone .clear) (alone .few) (found .over) (omega arith) (notYet (k .bus) (found .solo)) (k .octets) (k .notes) i (record { seats = alone .seats; sender = alone .sender }) refl refl ran in
+      let r = first-alone (k .images) (k .letters) (ranOn (left - 1) (periodRan k) (keptRun k)) (keptOn (left - 1) (periodRan k) (keptRun k)) (k .terminals) left (alone .rest) (k .bus .periods .0) (found .over) (alone .clear) (alone .few) (aloneFor found) (omega (arith, q .2)) (notYet (k .bus) (found .solo)) (k .octets) (k .notes) i (record { seats = alone .seats; sender = alone .sender }) refl refl ran in
       let one : 1 + (run .over - 1) ≡ run .over = omega (arith, ran) in
       let silent = all-alike noNotes 0 (k .notes) (k .terminals) (o .notes-fit ∙ sym (o .eight)) in
       rw silent (shown-turn left k some h (run .ran) (run .over - 1) _ _ _ (r .1) (rw one (r .2)) (rw one (r .0)))

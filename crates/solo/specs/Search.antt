@@ -12,6 +12,7 @@ use Rattle.timing.specs.Timers.{clear}
 use Rattle.timing.specs.declared.counts.Periods.{Periods}
 use Rattle.terminal.specs.declared.Terminal.{Terminal}
 use Rattle.bus.specs.Quick.{shownBy}
+use Rattle.bus_record.specs.declared.record.BusRecord.{BusRecord}
 use Rattle.listening.specs.Hears.{rests}
 use Rattle.solo.specs.Solo.{followed, soloSeats, senderIn}
 use Rattle.solo.specs.declared.solo.Solo.{Solo}
@@ -53,6 +54,14 @@ noSearch most =
 
 unfoldable pub searched : Periods → ℕ → List Terminal → Search
 searched period most ts = foldFrom (searchedOne period) 0 (noSearch most) ts
+
+-- how many periods can be run alone, as far as is known: 0 where no one terminal sends alone
+unfoldable pub aloneFor : Search → ℕ
+aloneFor a = cond (a .fits && a .sends) (a .over) 0
+
+-- where a search is in vain: the network end is not in G3, a hit is pending, or seven 1s have been read
+unfoldable pub inVain : BusRecord → Bool
+inVain b = (not (eqb (b .network .state) G3) || b .hit) || eqb (b .reader .ones) 7
 
 -- ---- What a search that finds one has shown (proofs/FoundAlone.antt).
 unfoldable pub allRest : List Terminal → Bool

@@ -1,10 +1,12 @@
 // Whether one terminal sends alone, and which.
 ghost use mathlib.Core.Path.{_≡_};
-ghost use Rattle.solo.specs.Search.{senderAfter, searchedOne, noSearch, searched};
+ghost use Rattle.solo.specs.Search.{senderAfter, searchedOne, noSearch, aloneFor, inVain, searched};
 use super::solo::Solo;
+use bus_record::record::BusRecord;
 use hearing::heard::Downward;
 use listening::hears::rests;
 use table_6_2::F7;
+use table_6_3::G3;
 use terminal::Terminal;
 use timing::counts::Periods;
 use timing::timers::clear;
@@ -93,6 +95,26 @@ impl Search {
             fits: self.fits & fits,
         }
     }
+}
+
+impl Search {
+    // How many periods can be run alone, as far as is known: 0 where no one terminal sends alone.
+    pub fn alone_for(self) -> u32
+        ensures { λ r. ⌜ r ≡ aloneFor self ⌝ }
+    {
+        if self.fits & self.sends {
+            self.over
+        } else {
+            0
+        }
+    }
+}
+
+// Whether a search is in vain: the network end is not in G3, a hit is pending, or seven 1s have been read.
+pub fn in_vain(bus: BusRecord) -> bool
+    ensures { λ r. ⌜ r ≡ inVain bus ⌝ }
+{
+    (bus.network.state != G3) | bus.hit | (bus.reader.ones == 7)
 }
 
 // All terminals, from a period on.

@@ -1,38 +1,71 @@
 -- `bus_calls::turn::advance` meets its contract: a walk of its MIR with the lemmas of crate `walks`. All that it knows of the functions it calls are their contracts;
--- that a leap and a period run on is the law `leap-turns`. Assumes nothing.
-use Rattle.walks.proofs.Walk.{_≡_, refl, sym, _∙_, ap, ℕ, _<_, _^_, List, [], _∷_, length, URA, w32, Val, vint, SProp, ent, emp, via, id⊢, fst∗, Memory, Routine, Heap, Tables, WpFn, Atoms, Fun, factI, givenOf, tables, tablesOf, Given, ⋆, _$_, !, no-more, and-then, Is, u8, u32, Room, onEntry, Meets, tripleOf, Contract, Triple, entered, cited, walkOf, loc, leaves, typed, uint-kind, Spot, spot, word, lends-at, shows-at, hands-at, Param, plain-of, lfts-at, shares-at, args-at, vals-of, lfts-of, shares-of, args-of, itemsOf, reborrows, Call, calls-giving, enters-with, returns-with, mut-way, shr-way, plain-way, Ways-of, stays-of, meets-by, needs}
+-- that a run alone is a turn is the law `alone-turns`. Assumes nothing.
+use Rattle.walks.proofs.Walk.{_≡_, refl, sym, _∙_, ap, subst, ℕ, _<_, _^_, arith, Bool, true, false, List, [], _∷_, eqb, length, URA, w32, Val, vint, SProp, ent, emp, via, id⊢, fst∗, Memory, Routine, Heap, Tables, WpFn, Atoms, Fun, factI, givenOf, tables, tablesOf, Given, ⋆, _$_, !, lit, no-more, and-then, bin, Is, u8, u32, Room, onEntry, Meets, tripleOf, Contract, Triple, entered, cited, walkOf, loc, part, sets, leaves, returns-if, typed, uint-kind, bool-kind, unit-kind, Spot, spot, word, lends-at, shows-at, hands-at, Param, plain-of, lfts-at, shares-at, args-at, vals-of, lfts-of, shares-of, args-of, itemsOf, reborrows, Call, calls-giving, enters-with, returns-with, mut-way, shr-way, plain-way, Ways-of, stays-of, meets-by, needs}
+use Prim.Native.Nat.{_-_, _≤_}
+use borrow.Author.Tests.{eqb-true, eqb-false}
+use denote.Struct.Laws as LL
+use Rattle.walks.specs.Over.{mapFrom}
+use Rattle.timing.proofs.counts.Periods as P
 use Rattle.terminal.specs.declared.Terminal.{Terminal}
 use Rattle.terminal.proofs.Terminal as T
+use Rattle.listening.specs.Hears.{silenced}
 use Rattle.listening.specs.declared.hears.UnitNotes.{UnitNotes}
 use Rattle.listening.proofs.hears.UnitNotes as N
 use Rattle.bus_record.specs.declared.record.BusRecord.{BusRecord}
 use Rattle.bus_record.specs.declared.side.Ran.{Ran}
 use Rattle.bus_record.proofs.record.BusRecord as B
+use Rattle.bus_record.proofs.record.BusRecord.Laws as B′
 use Rattle.bus_record.proofs.side.Ran as R
+use Rattle.solo.specs.Solo.{followed}
+use Rattle.solo.specs.Alone.{aloneRun, aloneRunOctets}
+use Rattle.solo.specs.Search.{searched, aloneFor, inVain}
+use Rattle.solo.specs.declared.alone.Alone.{Alone}
+use Rattle.solo.specs.declared.search.Search.{Search}
+use Rattle.solo.specs.declared.solo.Solo.{Solo}
+use Rattle.solo.proofs.solo.Solo as So
+use Rattle.solo.proofs.search.Search as Se
+use Rattle.solo.proofs.search.Search.Laws as Se′
+use Rattle.solo.proofs.alone.Alone as Al
+use Rattle.solo.proofs.alone.Alone.Laws as Al′
+use Rattle.solo.proofs.Structs.{periods, solos, searches}
 use Rattle.call_rules.specs.Kept.{Kept, kept}
-use Rattle.call_rules.specs.Step.{stepRan, stepTerminals, stepOctets, stepNotes}
-use Rattle.leaps.specs.Still as still
 use Rattle.leaps.specs.Turn.{Turns}
-use Rattle.leaps.proofs.Turning.{leap-turns}
+use Rattle.leaps.proofs.AloneTurns.{none-run, alone-turns}
 use Rattle.bus_calls.specs.declared.turn.Turn.{Turn}
-use Rattle.bus_calls.proofs.Structs.{buses, runs, turns}
+use Rattle.bus_calls.proofs.Structs.{buses, runs, turns, alones}
 use Rattle.bus_calls.proofs.turn.Turn as Tu
-use Rattle.leaps.proofs.reach.reach as reach
-use Rattle.leaps.proofs.reach.reach.Symbol as reach-def
-use Rattle.leaps.proofs.reach.reach.Symbol.{name as #reach}
-use Rattle.leaps.proofs.reach.reach.Met as reach-thm
-use Rattle.leaps.proofs.leap.leapt as leap
-use Rattle.leaps.proofs.leap.leapt.Symbol as leap-def
-use Rattle.leaps.proofs.leap.leapt.Symbol.{name as #leap}
-use Rattle.leaps.proofs.leap.leapt.Met as leap-thm
-use Rattle.bus_calls.proofs.step.step as step
-use Rattle.bus_calls.proofs.step.step.Symbol as step-def
-use Rattle.bus_calls.proofs.step.step.Symbol.{name as #step}
-use Rattle.bus_calls.proofs.step.step.Met as step-thm
+use Rattle.solo.proofs.search.in_vain as vain
+use Rattle.solo.proofs.search.in_vain.Symbol as vain-def
+use Rattle.solo.proofs.search.in_vain.Symbol.{name as #vain}
+use Rattle.solo.proofs.search.in_vain.Met as vain-thm
+use Rattle.solo.proofs.search.find as find
+use Rattle.solo.proofs.search.find.Symbol as find-def
+use Rattle.solo.proofs.search.find.Symbol.{name as #find}
+use Rattle.solo.proofs.search.find.Met as find-thm
+use Rattle.solo.proofs.search.Search.alone_for as most
+use Rattle.solo.proofs.search.Search.alone_for.Symbol as most-def
+use Rattle.solo.proofs.search.Search.alone_for.Symbol.{name as #most}
+use Rattle.solo.proofs.search.Search.alone_for.Met as most-thm
+use Rattle.solo.proofs.alone.run_alone as alone
+use Rattle.solo.proofs.alone.run_alone.Symbol as alone-def
+use Rattle.solo.proofs.alone.run_alone.Symbol.{name as #alone}
+use Rattle.solo.proofs.alone.run_alone.Met as alone-thm
+use Rattle.solo.proofs.follow.follow as follow
+use Rattle.solo.proofs.follow.follow.Symbol as follow-def
+use Rattle.solo.proofs.follow.follow.Symbol.{name as #follow}
+use Rattle.solo.proofs.follow.follow.Met as follow-thm
+use Rattle.listening.proofs.silence.silence as silence
+use Rattle.listening.proofs.silence.silence.Symbol as silence-def
+use Rattle.listening.proofs.silence.silence.Symbol.{name as #silence}
+use Rattle.listening.proofs.silence.silence.Met as silence-thm
 use Rattle.bus_calls.proofs.turn.turned as made
 use Rattle.bus_calls.proofs.turn.turned.Symbol as made-def
 use Rattle.bus_calls.proofs.turn.turned.Symbol.{name as #made}
 use Rattle.bus_calls.proofs.turn.turned.Met as made-thm
+use Rattle.bus_calls.proofs.turn.leap_on as leap
+use Rattle.bus_calls.proofs.turn.leap_on.Symbol as leap-def
+use Rattle.bus_calls.proofs.turn.leap_on.Symbol.{name as #leap}
+use Rattle.bus_calls.proofs.turn.leap_on.Met as leap-thm
 use Rattle.bus_calls.proofs.turn.advance.Key.{name as #walk}
 use Rattle.bus_calls.proofs.turn.advance as all
 use Rattle.bus_calls.proofs.turn.advance.Statement as stated
@@ -42,36 +75,75 @@ abbrev ways : Ways-of all.ended
 ways = (plain-way B.the-row buses (λ x f. refl), (mut-way 0 tt T.the-row, (shr-way 1 tt u8, (mut-way 2 tt u8, (shr-way 3 tt u8, (mut-way 4 tt N.the-row, (plain-way u32 (uint-kind w32) (λ x f. refl), tt)))))))
 
 module _ {M : Type 1} (𝓤 : URA M) (H : Heap 𝓤) (A : Atoms 𝓤) (mem : Memory → SProp 𝓤) (run : Routine → Fun 𝓤) where
-  abbrev Reaches : Contract 𝓤
-  Reaches = tripleOf 𝓤 H A reach.signature (reach.spec 𝓤 H A mem run)
+  abbrev Vain : Contract 𝓤
+  Vain = tripleOf 𝓤 H A vain.signature (vain.spec 𝓤 H A mem run)
 
-  abbrev Leaps : Contract 𝓤
-  Leaps = tripleOf 𝓤 H A leap.signature (leap.spec 𝓤 H A mem run)
+  abbrev Finds : Contract 𝓤
+  Finds = tripleOf 𝓤 H A find.signature (find.spec 𝓤 H A mem run)
 
-  abbrev Steps : Contract 𝓤
-  Steps = tripleOf 𝓤 H A step.signature (step.spec 𝓤 H A mem run)
+  abbrev Most : Contract 𝓤
+  Most = tripleOf 𝓤 H A most.signature (most.spec 𝓤 H A mem run)
+
+  abbrev Alones : Contract 𝓤
+  Alones = tripleOf 𝓤 H A alone.signature (alone.spec 𝓤 H A mem run)
+
+  abbrev Follows : Contract 𝓤
+  Follows = tripleOf 𝓤 H A follow.signature (follow.spec 𝓤 H A mem run)
+
+  abbrev Silences : Contract 𝓤
+  Silences = tripleOf 𝓤 H A silence.signature (silence.spec 𝓤 H A mem run)
 
   abbrev Makes : Contract 𝓤
   Makes = tripleOf 𝓤 H A made.signature (made.spec 𝓤 H A mem run)
 
+  abbrev Leaps : Contract 𝓤
+  Leaps = tripleOf 𝓤 H A leap.signature (leap.spec 𝓤 H A mem run)
+
+record Known {M : Type 1} (𝓤 : URA M) (H : Heap 𝓤) (A : Atoms 𝓤) (mem : Memory → SProp 𝓤) (run : Routine → Fun 𝓤) (𝓣 : Tables 𝓤 H) : Type 1 where
+  knows-vain : Triple 𝓤 (𝓣 .C #vain) (Vain 𝓤 H A mem run)
+  knows-find : Triple 𝓤 (𝓣 .C #find) (Finds 𝓤 H A mem run)
+  knows-most : Triple 𝓤 (𝓣 .C #most) (Most 𝓤 H A mem run)
+  knows-alone : Triple 𝓤 (𝓣 .C #alone) (Alones 𝓤 H A mem run)
+  knows-follow : Triple 𝓤 (𝓣 .C #follow) (Follows 𝓤 H A mem run)
+  knows-silence : Triple 𝓤 (𝓣 .C #silence) (Silences 𝓤 H A mem run)
+  knows-made : Triple 𝓤 (𝓣 .C #made) (Makes 𝓤 H A mem run)
+  knows-leap : Triple 𝓤 (𝓣 .C #leap) (Leaps 𝓤 H A mem run)
+
+less : (n : ℕ) → n < 2 ^ 32 → n - 1 < 2 ^ 32
+less n l = omega arith
+
 -- ---- What the calls say, over the lists that are lent.
 module _ (bus : BusRecord) (ys : List Terminal) (es os ls : List ℕ) (us : List UnitNotes) (left : ℕ) where
-  abbrev at : Kept
-  at = kept bus ys es os ls us
+  -- from the lists, with these octets
+  abbrev Promised : List ℕ → Turn → List Terminal → List ℕ → List UnitNotes → Type 0
+  Promised octets r ts octs ns = Turns left (kept bus ys es octets ls us) (r .ran) (r .over) (kept (r .ran .bus) ts es octs ls ns)
 
-  abbrev Promised : Turn → List Terminal → List ℕ → List UnitNotes → Type 0
-  Promised r ts octs ns = Turns left at (r .ran) (r .over) (kept (r .ran .bus) ts es octs ls ns)
+  abbrev RunsAlone : Search → ℕ → Alone → List ℕ → Type 0
+  RunsAlone found most a octets = (a ≡ aloneRun es most bus (found .solo) os) × (octets ≡ aloneRunOctets es most bus (found .solo) os)
 
-  abbrev Stepped : BusRecord → Ran → List Terminal → List ℕ → List UnitNotes → Type 0
-  Stepped b r ts octs ns = (r ≡ stepRan b ys es os ls) × (ts ≡ stepTerminals b ys es ls) × (octs ≡ stepOctets b ys es os ls) × (ns ≡ stepNotes b ys es ls)
+  module _ (found : Search) (most : ℕ) (a : Alone) (octets : List ℕ) (ran : RunsAlone found most a octets) where
+    -- no period has been run alone
+    none-alone : eqb (a .over) 0 ≡ true → octets ≡ os
+    none-alone z = ran .1 ∙ none-run es most bus (found .solo) os (ap (λ (x : Alone). x .over) (sym (ran .0)) ∙ eqb-true (a .over) 0 z)
 
-  promised : (far : ℕ) → far ≡ still.reach bus ys left → (b : BusRecord) → b ≡ still.leapt far bus → (r : Ran) (ts : List Terminal) (octs : List ℕ) (ns : List UnitNotes) → Stepped b r ts octs ns
-      → (t : Turn) → (t .ran ≡ r) × (t .over ≡ far) → Promised t ts octs ns
-  promised far is-far b is-b r ts octs ns so t is-t = rw (is-t .0, is-t .1, so .0, so .1, so .2, so .3, is-b, is-far) (leap-turns left at)
+    some-alone : eqb (a .over) 0 ≡ false → 1 ≤ a .over
+    some-alone z = omega (arith, eqb-false (a .over) 0 z)
+
+    alone-promised : found ≡ searched (bus .periods) left ys → most ≡ aloneFor found → eqb most 0 ≡ false → eqb (a .over) 0 ≡ false → (t : Turn) → (t .ran ≡ a .ran) × (t .over ≡ a .over - 1)
+        → (ts : List Terminal) → ts ≡ mapFrom (followed (a .solo)) 0 ys → (ns : List UnitNotes) → ns ≡ mapFrom silenced 0 us → Promised os t ts octets ns
+    alone-promised is-found is-most some over t is-t ts is-ts ns is-ns =
+        let k = kept bus ys es os ls us in
+        let m : most ≡ aloneFor (searched (bus .periods) left ys) = is-most ∙ ap aloneFor is-found in
+        let s : found .solo ≡ searched (bus .periods) left ys .solo = ap (λ (x : Search). x .solo) is-found in
+        let r : a ≡ aloneRun es (aloneFor (searched (bus .periods) left ys)) bus (searched (bus .periods) left ys .solo) os = rw (m, s) at (ran .0) in
+        let o : octets ≡ aloneRunOctets es (aloneFor (searched (bus .periods) left ys)) bus (searched (bus .periods) left ys .solo) os = rw (m, s) at (ran .1) in
+        let search : 0 < aloneFor (searched (bus .periods) left ys) = omega (arith, m, eqb-false most 0 some) in
+        let run : 0 < aloneRun es (aloneFor (searched (bus .periods) left ys)) bus (searched (bus .periods) left ys .solo) os .over = rw r at (some-alone over) in
+        rw (is-t .0, is-t .1, is-ts, is-ns, o, r) (alone-turns left k search run)
 
 module _ {M : Type 1} (𝓤 : URA M) (H : Heap 𝓤) (A : Atoms 𝓤) (W : Given 𝓤 H A) (mem : Memory → SProp 𝓤) (run : Routine → Fun 𝓤) (s₁ s₂ s₃ s₄ s₅ : Spot) (bus : BusRecord) (ys : List Terminal) (es os ls : List ℕ) (us : List UnitNotes) (left : ℕ)
     (gb : Is B.the-row bus (buses .val bus ∷ [])) (g₁ : Room T.the-row (length ys)) (g₂ : Room u8 (length es)) (g₃ : Room u8 (length os)) (g₄ : Room u8 (length ls)) (g₅ : Room N.the-row (length us)) (gl : left < 2 ^ 32) (even : length us ≡ length ys) where
-  -- the parameters, the slices at these lists
+  -- the parameters, of the function and of `leap_on`, the slices at these lists
   abbrev params : List Terminal → List ℕ → List UnitNotes → List Param
   params ts octs ns =
       plain-of B.the-row buses bus gb ∷ lends-at 0 T.the-row s₁ (length ys) ts ∷ hands-at 1 u8 s₂ (length es) es ∷ lends-at 2 u8 s₃ (length os) octs ∷ hands-at 3 u8 s₄ (length ls) ls ∷ lends-at 4 N.the-row s₅ (length us) ns ∷ plain-of u32 (uint-kind w32) left (refl, gl) ∷ []
@@ -85,99 +157,183 @@ module _ {M : Type 1} (𝓤 : URA M) (H : Heap 𝓤) (A : Atoms 𝓤) (W : Given
   abbrev Post : Val → SProp 𝓤
   Post = walkOf 𝓤 H A all.ended (stays-of all.ended ways) (all.clauses 𝓤 H A mem run) .post bound
 
-  exits : (r : Turn) (ts : List Terminal) (octs : List ℕ) (ns : List UnitNotes) → length ts ≡ length ys → length octs ≡ length os → length ns ≡ length us → Promised bus ys es os ls us left r ts octs ns → Is Tu.the-row r (turns .val r ∷ []) → ent 𝓤 (⋆ 𝓤 H A (itemsOf W (params ts octs ns))) (Post (turns .val r))
+  exits : (r : Turn) (ts : List Terminal) (octs : List ℕ) (ns : List UnitNotes) → length ts ≡ length ys → length octs ≡ length os → length ns ≡ length us → Promised bus ys es os ls us left os r ts octs ns → Is Tu.the-row r (turns .val r ∷ []) → ent 𝓤 (⋆ 𝓤 H A (itemsOf W (params ts octs ns))) (Post (turns .val r))
   exits r ts octs ns l₁ l₃ l₅ so gr =
       returns-with W (params ts octs ns) all.ended (stays-of all.ended ways) (all.clauses 𝓤 H A mem run) bound turns r (tt, (ts, (tt, (octs, (tt, (ns, (tt, tt))))))) (tt, (l₁, (tt, (l₃, (tt, (l₅, (tt, tt))))))) gr (id⊢ 𝓤 _) (factI 𝓤 _ (emp 𝓤) so)
 
   -- ---- The calls: what each is given, and what it says.
-  abbrev to-reach : List Param
-  to-reach = plain-of B.the-row buses bus gb ∷ shows-at 0 T.the-row s₁ (length ys) ys ∷ plain-of u32 (uint-kind w32) left (refl, gl) ∷ []
+  abbrev to-vain : List Param
+  to-vain = plain-of B.the-row buses bus gb ∷ []
 
-  abbrev the-reach : Call W to-reach reach.ended (reach.clauses 𝓤 H A mem run)
-  the-reach = record {
-    bound = λ ns. ((lfts-of to-reach ns, shares-of to-reach, tt, args-of to-reach ns, vals-of to-reach), tt);
+  abbrev the-vain : Call W to-vain vain.ended (vain.clauses 𝓤 H A mem run)
+  the-vain = record {
+    bound = λ ns. ((lfts-of to-vain ns, shares-of to-vain, tt, args-of to-vain ns, vals-of to-vain), tt);
+    asks = λ ns. id⊢ 𝓤 _;
+    needed = λ ns. id⊢ 𝓤 _;
+    tokens = λ ns. id⊢ 𝓤 _;
+    last = λ ns ws. ws;
+    finals = λ ns ws. id⊢ 𝓤 _;
+    result = λ ns. bool-kind;
+    Said = λ ns r ws. r ≡ inVain bus;
+    ensured = λ ns r ws. id⊢ 𝓤 _;
+  }
+
+  abbrev to-find : List Param
+  to-find = shows-at 0 T.the-row s₁ (length ys) ys ∷ plain-of P.the-row periods (bus .periods) (LL.owed B.the-type B′.the-laws bus _ gb .1 .0) ∷ plain-of u32 (uint-kind w32) left (refl, gl) ∷ []
+
+  abbrev the-find : Call W to-find find.ended (find.clauses 𝓤 H A mem run)
+  the-find = record {
+    bound = λ ns. ((lfts-of to-find ns, shares-of to-find, tt, args-of to-find ns, vals-of to-find), tt);
+    asks = λ ns. id⊢ 𝓤 _;
+    needed = λ ns. id⊢ 𝓤 _;
+    tokens = λ ns. id⊢ 𝓤 _;
+    last = λ ns ws. ws;
+    finals = λ ns ws. id⊢ 𝓤 _;
+    result = λ ns. searches;
+    Said = λ ns r ws. r ≡ searched (bus .periods) left ys;
+    ensured = λ ns r ws. id⊢ 𝓤 _;
+  }
+
+  abbrev to-most : (f : Search) (gf : Is Se.the-row f (searches .val f ∷ [])) → List Param
+  to-most f gf = plain-of Se.the-row searches f gf ∷ []
+
+  abbrev the-most : (f : Search) (gf : Is Se.the-row f (searches .val f ∷ [])) → Call W (to-most f gf) most.ended (most.clauses 𝓤 H A mem run)
+  the-most f gf = record {
+    bound = λ ns. ((lfts-of (to-most f gf) ns, shares-of (to-most f gf), tt, args-of (to-most f gf) ns, vals-of (to-most f gf)), tt);
     asks = λ ns. id⊢ 𝓤 _;
     needed = λ ns. id⊢ 𝓤 _;
     tokens = λ ns. id⊢ 𝓤 _;
     last = λ ns ws. ws;
     finals = λ ns ws. id⊢ 𝓤 _;
     result = λ ns. uint-kind w32;
-    Said = λ ns far ws. far ≡ still.reach bus ys left;
-    ensured = λ ns far ws. id⊢ 𝓤 _;
+    Said = λ ns r ws. r ≡ aloneFor f;
+    ensured = λ ns r ws. id⊢ 𝓤 _;
   }
 
-  abbrev to-leap : (far : ℕ) → far < 2 ^ 32 → List Param
-  to-leap far gf = plain-of B.the-row buses bus gb ∷ plain-of u32 (uint-kind w32) far (refl, gf) ∷ []
+  abbrev to-alone : (f : Search) (gf : Is Se.the-row f (searches .val f ∷ [])) → (m : ℕ) (gm : m < 2 ^ 32) → List Param
+  to-alone f gf m gm = plain-of B.the-row buses bus gb ∷ hands-at 1 u8 s₂ (length es) es ∷ lends-at 2 u8 s₃ (length os) os ∷ plain-of So.the-row solos (f .solo) (LL.owed Se.the-type Se′.the-laws f _ gf .0) ∷ plain-of u32 (uint-kind w32) m (refl, gm) ∷ []
 
-  abbrev the-leap : (far : ℕ) (gf : far < 2 ^ 32) → Call W (to-leap far gf) leap.ended (leap.clauses 𝓤 H A mem run)
-  the-leap far gf = record {
-    bound = λ ns. ((lfts-of (to-leap far gf) ns, shares-of (to-leap far gf), tt, args-of (to-leap far gf) ns, vals-of (to-leap far gf)), tt);
+  abbrev the-alone : (f : Search) (gf : Is Se.the-row f (searches .val f ∷ [])) → (m : ℕ) (gm : m < 2 ^ 32) → Call W (to-alone f gf m gm) alone.ended (alone.clauses 𝓤 H A mem run)
+  the-alone f gf m gm = record {
+    bound = λ ns. ((lfts-of (to-alone f gf m gm) ns, shares-of (to-alone f gf m gm), tt, args-of (to-alone f gf m gm) ns, vals-of (to-alone f gf m gm)), tt);
     asks = λ ns. id⊢ 𝓤 _;
     needed = λ ns. id⊢ 𝓤 _;
     tokens = λ ns. id⊢ 𝓤 _;
     last = λ ns ws. ws;
     finals = λ ns ws. id⊢ 𝓤 _;
-    result = λ ns. buses;
-    Said = λ ns b ws. b ≡ still.leapt far bus;
-    ensured = λ ns b ws. id⊢ 𝓤 _;
-  }
-
-  abbrev to-step : (b : BusRecord) → Is B.the-row b (buses .val b ∷ []) → List Param
-  to-step b gb′ =
-      plain-of B.the-row buses b gb′ ∷ lends-at 0 T.the-row s₁ (length ys) ys ∷ hands-at 1 u8 s₂ (length es) es ∷ lends-at 2 u8 s₃ (length os) os ∷ hands-at 3 u8 s₄ (length ls) ls ∷ lends-at 4 N.the-row s₅ (length us) us ∷ []
-
-  abbrev the-step : (b : BusRecord) (gb′ : Is B.the-row b (buses .val b ∷ [])) → Call W (to-step b gb′) step.ended (step.clauses 𝓤 H A mem run)
-  the-step b gb′ = record {
-    bound = λ ns. ((lfts-of (to-step b gb′) ns, shares-of (to-step b gb′), tt, args-of (to-step b gb′) ns, vals-of (to-step b gb′)), tt);
-    asks = λ ns. id⊢ 𝓤 _;
-    needed = λ ns. factI 𝓤 _ (emp 𝓤) even;
-    tokens = λ ns. id⊢ 𝓤 _;
-    last = λ ns ws. ws;
-    finals = λ ns ws. id⊢ 𝓤 _;
-    result = λ ns. runs;
-    Said = λ ns r ws. Stepped bus ys es os ls us left b r (ws .1 .0) (ws .1 .1 .1 .0) (ws .1 .1 .1 .1 .1 .0);
+    result = λ ns. alones;
+    Said = λ ns r ws. RunsAlone bus ys es os ls us left f m r (ws .1 .1 .0);
     ensured = λ ns r ws. id⊢ 𝓤 _;
   }
 
-  abbrev to-made : (r : Ran) → Is R.the-row r (runs .val r ∷ []) → (far : ℕ) → far < 2 ^ 32 → List Param
-  to-made r gr far gf = plain-of R.the-row runs r gr ∷ plain-of u32 (uint-kind w32) far (refl, gf) ∷ []
+  abbrev to-follow : (a : Alone) (ga : Is Al.the-row a (alones .val a ∷ [])) → List Param
+  to-follow a ga = lends-at 0 T.the-row s₁ (length ys) ys ∷ plain-of So.the-row solos (a .solo) (LL.owed Al.the-type Al′.the-laws a _ ga .1 .0) ∷ []
 
-  abbrev the-made : (r : Ran) (gr : Is R.the-row r (runs .val r ∷ [])) (far : ℕ) (gf : far < 2 ^ 32) → Call W (to-made r gr far gf) made.ended (made.clauses 𝓤 H A mem run)
-  the-made r gr far gf = record {
-    bound = λ ns. ((lfts-of (to-made r gr far gf) ns, shares-of (to-made r gr far gf), tt, args-of (to-made r gr far gf) ns, vals-of (to-made r gr far gf)), tt);
+  abbrev the-follow : (a : Alone) (ga : Is Al.the-row a (alones .val a ∷ [])) → Call W (to-follow a ga) follow.ended (follow.clauses 𝓤 H A mem run)
+  the-follow a ga = record {
+    bound = λ ns. ((lfts-of (to-follow a ga) ns, shares-of (to-follow a ga), tt, args-of (to-follow a ga) ns, vals-of (to-follow a ga)), tt);
+    asks = λ ns. id⊢ 𝓤 _;
+    needed = λ ns. id⊢ 𝓤 _;
+    tokens = λ ns. id⊢ 𝓤 _;
+    last = λ ns ws. ws;
+    finals = λ ns ws. id⊢ 𝓤 _;
+    result = λ ns. unit-kind;
+    Said = λ ns r ws. ws .0 ≡ mapFrom (followed (a .solo)) 0 ys;
+    ensured = λ ns r ws. id⊢ 𝓤 _;
+  }
+
+  abbrev to-silence : List Param
+  to-silence = lends-at 4 N.the-row s₅ (length us) us ∷ []
+
+  abbrev the-silence : Call W to-silence silence.ended (silence.clauses 𝓤 H A mem run)
+  the-silence = record {
+    bound = λ ns. ((lfts-of to-silence ns, shares-of to-silence, tt, args-of to-silence ns, vals-of to-silence), tt);
+    asks = λ ns. id⊢ 𝓤 _;
+    needed = λ ns. id⊢ 𝓤 _;
+    tokens = λ ns. id⊢ 𝓤 _;
+    last = λ ns ws. ws;
+    finals = λ ns ws. id⊢ 𝓤 _;
+    result = λ ns. unit-kind;
+    Said = λ ns r ws. ws .0 ≡ mapFrom silenced 0 us;
+    ensured = λ ns r ws. id⊢ 𝓤 _;
+  }
+
+  abbrev to-made : (a : Alone) (ga : Is Al.the-row a (alones .val a ∷ [])) → (n : ℕ) (gn : n < 2 ^ 32) → List Param
+  to-made a ga n gn = plain-of R.the-row runs (a .ran) (LL.owed Al.the-type Al′.the-laws a _ ga .0) ∷ plain-of u32 (uint-kind w32) n (refl, gn) ∷ []
+
+  abbrev the-made : (a : Alone) (ga : Is Al.the-row a (alones .val a ∷ [])) → (n : ℕ) (gn : n < 2 ^ 32) → Call W (to-made a ga n gn) made.ended (made.clauses 𝓤 H A mem run)
+  the-made a ga n gn = record {
+    bound = λ ns. ((lfts-of (to-made a ga n gn) ns, shares-of (to-made a ga n gn), tt, args-of (to-made a ga n gn) ns, vals-of (to-made a ga n gn)), tt);
     asks = λ ns. id⊢ 𝓤 _;
     needed = λ ns. id⊢ 𝓤 _;
     tokens = λ ns. id⊢ 𝓤 _;
     last = λ ns ws. ws;
     finals = λ ns ws. id⊢ 𝓤 _;
     result = λ ns. turns;
-    Said = λ ns t ws. (t .ran ≡ r) × (t .over ≡ far);
-    ensured = λ ns t ws. id⊢ 𝓤 _;
+    Said = λ ns r ws. (r .ran ≡ a .ran) × (r .over ≡ n);
+    ensured = λ ns r ws. id⊢ 𝓤 _;
   }
 
-  walk : (𝓣 : Tables 𝓤 H) → Triple 𝓤 (𝓣 .C #reach) (Reaches 𝓤 H A mem run) → Triple 𝓤 (𝓣 .C #leap) (Leaps 𝓤 H A mem run) → Triple 𝓤 (𝓣 .C #step) (Steps 𝓤 H A mem run) → Triple 𝓤 (𝓣 .C #made) (Makes 𝓤 H A mem run)
-      → ent 𝓤 (onEntry 𝓤 H A all.signature (bound .0 .0) (bound .0 .1) (bound .0 .3) (bound .0 .4)) (WpFn 𝓤 H (𝓣 .C) (𝓣 .Λ) code.function words Post)
-  walk 𝓣 k₁ k₂ k₃ k₄ = enters-with W (params ys os us) (𝓣 .C) (𝓣 .Λ) code.function words Post _ (id⊢ 𝓤 _)
-      (typed buses 𝓤 H A W bus _ gb, ((tt, (tt, (record { fits = g₁ .0 }, tt))), ((tt, (tt, (record { fits = g₂ .0 }, tt))), ((tt, (tt, (record { fits = g₃ .0 }, tt))), ((tt, (tt, (record { fits = g₄ .0 }, tt))), ((tt, (tt, (record { fits = g₅ .0 }, tt))), ((tt, record { fits = gl }), tt))))))) (λ bs.
-      -- reach(bus, terminals, left)
-      reborrows ! (g₁ .0) (tt, refl, refl, tt, (tt, tt), tt, refl, tt, refl, tt, tt) $
-      calls-giving the-reach (1 ∷ []) ! refl 𝓣 k₁ (λ ns Θ. and-then ! (loc ! tt refl) (and-then ! (loc ! tt refl) (and-then ! (loc ! tt refl) (no-more !)))) tt (λ ns. refl) (λ ns far _ _ is-far gf.
-      -- leapt(bus, over)
-      calls-giving (the-leap far (gf .1)) [] ! refl 𝓣 k₂ (λ ns Θ. and-then ! (loc ! tt refl) (and-then ! (loc ! tt refl) (no-more !))) tt (λ ns. refl) (λ ns b _ _ is-b gb′.
-      -- step(.., terminals, images, octets, letters, notes)
-      reborrows ! (g₁ .0) (tt, refl, refl, tt, (tt, tt), tt, refl, tt, refl, tt, tt) $ reborrows ! (g₃ .0) (tt, refl, refl, tt, (tt, tt), tt, refl, tt, refl, tt, tt) $ reborrows ! (g₅ .0) (tt, refl, refl, tt, (tt, tt), tt, refl, tt, refl, tt, tt) $
-      calls-giving (the-step b gb′) (1 ∷ 2 ∷ 3 ∷ 4 ∷ 5 ∷ []) ! refl 𝓣 k₃ (λ ns Θ. and-then ! (loc ! tt refl) (and-then ! (loc ! tt refl) (and-then ! (loc ! tt refl) (and-then ! (loc ! tt refl) (and-then ! (loc ! tt refl) (and-then ! (loc ! tt refl) (no-more !))))))) tt (λ ns. refl) (λ ns r w l so gr.
-      -- turned(ran, over)
-      calls-giving (the-made r gr far (gf .1)) [] ! refl 𝓣 k₄ (λ ns Θ. and-then ! (loc ! tt refl) (and-then ! (loc ! tt refl) (no-more !))) tt (λ ns. refl) (λ ns t _ _ is-t gt.
-      leaves ! Post refl tt refl (exits t (w .1 .0) (w .1 .1 .1 .0) (w .1 .1 .1 .1 .1 .0) (l .0) (l .1 .0) (l .1 .1 .0) (promised bus ys es os ls us left far is-far b is-b r (w .1 .0) (w .1 .1 .1 .0) (w .1 .1 .1 .1 .1 .0) so t is-t) gt))))))
+  abbrev to-leap : (octets : List ℕ) → List Param
+  to-leap octets = params ys octets us
 
-meets : {M : Type 1} (𝓤 : URA M) (H : Heap 𝓤) (A : Atoms 𝓤) → Given 𝓤 H A → (mem : Memory → SProp 𝓤) (run : Routine → Fun 𝓤) (𝓣 : Tables 𝓤 H) → Triple 𝓤 (𝓣 .C #reach) (Reaches 𝓤 H A mem run) → Triple 𝓤 (𝓣 .C #leap) (Leaps 𝓤 H A mem run) → Triple 𝓤 (𝓣 .C #step) (Steps 𝓤 H A mem run) → Triple 𝓤 (𝓣 .C #made) (Makes 𝓤 H A mem run)
-    → Meets 𝓤 H A all.signature (WpFn 𝓤 H (𝓣 .C) (𝓣 .Λ) code.function) (all.spec 𝓤 H A mem run)
-meets 𝓤 H A W mem run 𝓣 k₁ k₂ k₃ k₄ =
+  abbrev the-leap : (octets : List ℕ) → Call W (to-leap octets) leap.ended (leap.clauses 𝓤 H A mem run)
+  the-leap octets = record {
+    bound = λ ns. ((lfts-of (to-leap octets) ns, shares-of (to-leap octets), tt, args-of (to-leap octets) ns, vals-of (to-leap octets)), tt);
+    asks = λ ns. id⊢ 𝓤 _;
+    needed = λ ns. factI 𝓤 _ (emp 𝓤) even;
+    tokens = λ ns. id⊢ 𝓤 _;
+    last = λ ns ws. ws;
+    finals = λ ns ws. id⊢ 𝓤 _;
+    result = λ ns. turns;
+    Said = λ ns r ws. Promised bus ys es os ls us left octets r (ws .1 .0) (ws .1 .1 .1 .0) (ws .1 .1 .1 .1 .1 .0);
+    ensured = λ ns r ws. id⊢ 𝓤 _;
+  }
+
+  walk : (𝓣 : Tables 𝓤 H) → Known 𝓤 H A mem run 𝓣 → ent 𝓤 (onEntry 𝓤 H A all.signature (bound .0 .0) (bound .0 .1) (bound .0 .3) (bound .0 .4)) (WpFn 𝓤 H (𝓣 .C) (𝓣 .Λ) code.function words Post)
+  walk 𝓣 known = enters-with W (params ys os us) (𝓣 .C) (𝓣 .Λ) code.function words Post _ (id⊢ 𝓤 _)
+      (typed buses 𝓤 H A W bus _ gb, ((tt, (tt, (record { fits = g₁ .0 }, tt))), ((tt, (tt, (record { fits = g₂ .0 }, tt))), ((tt, (tt, (record { fits = g₃ .0 }, tt))), ((tt, (tt, (record { fits = g₄ .0 }, tt))), ((tt, (tt, (record { fits = g₅ .0 }, tt))), ((tt, record { fits = gl }), tt))))))) (λ bs.
+      -- in_vain(bus)
+      calls-giving the-vain [] ! refl 𝓣 (known .knows-vain) (λ ns Θ. and-then ! (loc ! tt refl) (no-more !)) tt (λ ns. refl) (λ ns v _ _ is-v gv.
+      returns-if ! tt refl
+      (λ _ X ret. reborrows ! (g₁ .0) (tt, refl, refl, tt, (tt, tt), tt, refl, tt, refl, tt, tt) $ reborrows ! (g₃ .0) (tt, refl, refl, tt, (tt, tt), tt, refl, tt, refl, tt, tt) $ reborrows ! (g₅ .0) (tt, refl, refl, tt, (tt, tt), tt, refl, tt, refl, tt, tt) $
+      calls-giving (the-leap os) (1 ∷ 2 ∷ 3 ∷ 4 ∷ 5 ∷ []) ! refl 𝓣 (known .knows-leap) (λ ns Θ. and-then ! (loc ! tt refl) (and-then ! (loc ! tt refl) (and-then ! (loc ! tt refl) (and-then ! (loc ! tt refl) (and-then ! (loc ! tt refl) (and-then ! (loc ! tt refl) (and-then ! (loc ! tt refl) (no-more !)))))))) tt (λ ns. refl) (λ ns t w l so gt.
+      leaves ! Post ret tt refl (exits t (w .1 .0) (w .1 .1 .1 .0) (w .1 .1 .1 .1 .1 .0) (l .0) (l .1 .0) (l .1 .1 .0) so gt)))
+      -- find(terminals, bus.periods, left)
+      (λ _. reborrows ! (g₁ .0) (tt, refl, refl, tt, (tt, tt), tt, refl, tt, refl, tt, tt) $
+      calls-giving the-find (1 ∷ []) ! refl 𝓣 (known .knows-find) (λ ns Θ. and-then ! (loc ! tt refl) (and-then ! (part ! tt refl refl refl) (and-then ! (loc ! tt refl) (no-more !)))) tt (λ ns. refl) (λ ns f _ _ is-f gf.
+      -- found.alone_for()
+      calls-giving (the-most f gf) [] ! refl 𝓣 (known .knows-most) (λ ns Θ. and-then ! (loc ! tt refl) (no-more !)) tt (λ ns. refl) (λ ns m _ _ is-m gm.
+      sets ! (bin ! (loc ! tt refl) (lit ! tt) tt) tt (tt, tt) $
+      returns-if ! tt refl
+      (λ _ X ret. reborrows ! (g₁ .0) (tt, refl, refl, tt, (tt, tt), tt, refl, tt, refl, tt, tt) $ reborrows ! (g₃ .0) (tt, refl, refl, tt, (tt, tt), tt, refl, tt, refl, tt, tt) $ reborrows ! (g₅ .0) (tt, refl, refl, tt, (tt, tt), tt, refl, tt, refl, tt, tt) $
+      calls-giving (the-leap os) (1 ∷ 2 ∷ 3 ∷ 4 ∷ 5 ∷ []) ! refl 𝓣 (known .knows-leap) (λ ns Θ. and-then ! (loc ! tt refl) (and-then ! (loc ! tt refl) (and-then ! (loc ! tt refl) (and-then ! (loc ! tt refl) (and-then ! (loc ! tt refl) (and-then ! (loc ! tt refl) (and-then ! (loc ! tt refl) (no-more !)))))))) tt (λ ns. refl) (λ ns t w l so gt.
+      leaves ! Post ret tt refl (exits t (w .1 .0) (w .1 .1 .1 .0) (w .1 .1 .1 .1 .1 .0) (l .0) (l .1 .0) (l .1 .1 .0) so gt)))
+      -- run_alone(bus, images, octets, found.solo, most)
+      (λ some. reborrows ! (g₃ .0) (tt, refl, refl, tt, (tt, tt), tt, refl, tt, refl, tt, tt) $
+      calls-giving (the-alone f gf m (gm .1)) (2 ∷ 3 ∷ []) ! refl 𝓣 (known .knows-alone) (λ ns Θ. and-then ! (loc ! tt refl) (and-then ! (loc ! tt refl) (and-then ! (loc ! tt refl) (and-then ! (part ! tt refl refl refl) (and-then ! (loc ! tt refl) (no-more !)))))) tt (λ ns. refl) (λ ns a wa la ran ga.
+      sets ! (bin ! (part ! tt refl refl refl) (lit ! tt) tt) tt (tt, tt) $
+      returns-if ! tt refl
+      (λ none X ret. reborrows ! (g₁ .0) (tt, refl, refl, tt, (tt, tt), tt, refl, tt, refl, tt, tt) $ reborrows ! (g₃ .0) (tt, refl, refl, tt, (tt, tt), tt, refl, tt, refl, tt, tt) $ reborrows ! (g₅ .0) (tt, refl, refl, tt, (tt, tt), tt, refl, tt, refl, tt, tt) $
+      calls-giving (the-leap (wa .1 .1 .0)) (1 ∷ 2 ∷ 3 ∷ 4 ∷ 5 ∷ []) ! refl 𝓣 (known .knows-leap) (λ ns Θ. and-then ! (loc ! tt refl) (and-then ! (loc ! tt refl) (and-then ! (loc ! tt refl) (and-then ! (loc ! tt refl) (and-then ! (loc ! tt refl) (and-then ! (loc ! tt refl) (and-then ! (loc ! tt refl) (no-more !)))))))) tt (λ ns. refl) (λ ns t w l so gt.
+      leaves ! Post ret tt refl (exits t (w .1 .0) (w .1 .1 .1 .0) (w .1 .1 .1 .1 .1 .0) (l .0) (l .1 .0 ∙ la .0) (l .1 .1 .0) (subst (λ (octets : List ℕ). Promised bus ys es os ls us left octets t (w .1 .0) (w .1 .1 .1 .0) (w .1 .1 .1 .1 .1 .0)) (none-alone bus ys es os ls us left f m a (wa .1 .1 .0) ran none) so) gt)))
+      -- follow(terminals, alone.solo)
+      (λ over. reborrows ! (g₁ .0) (tt, refl, refl, tt, (tt, tt), tt, refl, tt, refl, tt, tt) $
+      calls-giving (the-follow a ga) (1 ∷ []) ! refl 𝓣 (known .knows-follow) (λ ns Θ. and-then ! (loc ! tt refl) (and-then ! (part ! tt refl refl refl) (no-more !))) tt (λ ns. refl) (λ ns _ wf lf is-f′ _.
+      -- silence(notes)
+      reborrows ! (g₅ .0) (tt, refl, refl, tt, (tt, tt), tt, refl, tt, refl, tt, tt) $
+      calls-giving the-silence (5 ∷ []) ! refl 𝓣 (known .knows-silence) (λ ns Θ. and-then ! (loc ! tt refl) (no-more !)) tt (λ ns. refl) (λ ns _ wn ln is-n _.
+      -- turned(alone.ran, alone.over - 1)
+      sets ! (bin ! (part ! tt refl refl refl) (lit ! tt) (some-alone bus ys es os ls us left f m a (wa .1 .1 .0) ran over)) tt (tt, record { fits = less (a .over) (LL.owed Al.the-type Al′.the-laws a _ ga .1 .1 .0 .1) }) $
+      calls-giving (the-made a ga (a .over - 1) (less (a .over) (LL.owed Al.the-type Al′.the-laws a _ ga .1 .1 .0 .1))) [] ! refl 𝓣 (known .knows-made) (λ ns Θ. and-then ! (part ! tt refl refl refl) (and-then ! (loc ! tt refl) (no-more !))) tt (λ ns. refl) (λ ns t _ _ is-t gt.
+      leaves ! Post refl tt refl (exits t (wf .0) (wa .1 .1 .0) (wn .0) (lf .0) (la .0) (ln .0) (alone-promised bus ys es os ls us left f m a (wa .1 .1 .0) ran is-f is-m some over t is-t (wf .0) is-f′ (wn .0) is-n) gt))))))))))))
+
+meets : {M : Type 1} (𝓤 : URA M) (H : Heap 𝓤) (A : Atoms 𝓤) → Given 𝓤 H A → (mem : Memory → SProp 𝓤) (run : Routine → Fun 𝓤) (𝓣 : Tables 𝓤 H) → Known 𝓤 H A mem run 𝓣 → Meets 𝓤 H A all.signature (WpFn 𝓤 H (𝓣 .C) (𝓣 .Λ) code.function) (all.spec 𝓤 H A mem run)
+meets 𝓤 H A W mem run 𝓣 known =
     meets-by 𝓤 H A W all.ended ways (all.clauses 𝓤 H A mem run) 𝓣 code.function (λ κs qs bounds a g are. needs 𝓤 (length (a .1 .1 .1 .1 .1 .0 .now) ≡ length (a .1 .0 .now)) _ (λ even.
     walk 𝓤 H A W mem run (spot (κs .0) (qs .0) (a .1 .0)) (spot (κs .1 .0) (qs .1 .0) (a .1 .1 .0)) (spot (κs .1 .1 .0) (qs .1 .1 .0) (a .1 .1 .1 .0)) (spot (κs .1 .1 .1 .0) (qs .1 .1 .1 .0) (a .1 .1 .1 .1 .0)) (spot (κs .1 .1 .1 .1 .0) (qs .1 .1 .1 .1 .0) (a .1 .1 .1 .1 .1 .0))
     (a .0) (a .1 .0 .now) (a .1 .1 .0 .now) (a .1 .1 .1 .0 .now) (a .1 .1 .1 .1 .0 .now) (a .1 .1 .1 .1 .1 .0 .now) (a .1 .1 .1 .1 .1 .1 .0)
-    (are .0) (are .1 .0 .0 .1) (are .1 .1 .0 .0 .1) (are .1 .1 .1 .0 .0 .1) (are .1 .1 .1 .1 .0 .0 .1) (are .1 .1 .1 .1 .1 .0 .0 .1) (are .1 .1 .1 .1 .1 .1 .0 .1) even 𝓣 k₁ k₂ k₃ k₄))
+    (are .0) (are .1 .0 .0 .1) (are .1 .1 .0 .0 .1) (are .1 .1 .1 .0 .0 .1) (are .1 .1 .1 .1 .0 .0 .1) (are .1 .1 .1 .1 .1 .0 .0 .1) (are .1 .1 .1 .1 .1 .1 .0 .1) even 𝓣 known))
 
 pub advance-spec : {M : Type 1} → stated.statement M
 unfolding code.routine tablesOf
@@ -185,7 +341,13 @@ advance-spec 𝓤 H 𝓜 𝓖 𝓡 =
     entered 𝓤 H (tripleOf 𝓤 H (𝓖 .A) all.signature (all.spec 𝓤 H (𝓖 .A) (𝓜 .mem) (𝓡 .run)))
     (tables 𝓤 H 𝓜 𝓡 code.env .C) (tables 𝓤 H 𝓜 𝓡 code.env .Λ) #walk code.function (code.unfolded 𝓤 H 𝓜 𝓡)
     (meets 𝓤 H (𝓖 .A) (givenOf 𝓤 H 𝓜 𝓖) (𝓜 .mem) (𝓡 .run) (tablesOf 𝓤 H 𝓜 (tables 𝓤 H 𝓜 𝓡 code.env))
-    (cited 𝓤 H (Reaches 𝓤 H (𝓖 .A) (𝓜 .mem) (𝓡 .run)) 𝓜 𝓡 code.env #reach reach-def.routine code.calls-leaps·reach·reach (reach-thm.met 𝓤 H 𝓜 𝓖 𝓡))
-    (cited 𝓤 H (Leaps 𝓤 H (𝓖 .A) (𝓜 .mem) (𝓡 .run)) 𝓜 𝓡 code.env #leap leap-def.routine code.calls-leaps·leap·leapt (leap-thm.met 𝓤 H 𝓜 𝓖 𝓡))
-    (cited 𝓤 H (Steps 𝓤 H (𝓖 .A) (𝓜 .mem) (𝓡 .run)) 𝓜 𝓡 code.env #step step-def.routine code.calls-bus-calls·step·step (step-thm.met 𝓤 H 𝓜 𝓖 𝓡))
-    (cited 𝓤 H (Makes 𝓤 H (𝓖 .A) (𝓜 .mem) (𝓡 .run)) 𝓜 𝓡 code.env #made made-def.routine code.calls-bus-calls·turn·turned (made-thm.met 𝓤 H 𝓜 𝓖 𝓡)))
+    (record {
+      knows-vain = cited 𝓤 H (Vain 𝓤 H (𝓖 .A) (𝓜 .mem) (𝓡 .run)) 𝓜 𝓡 code.env #vain vain-def.routine code.calls-solo·search·in-vain (vain-thm.met 𝓤 H 𝓜 𝓖 𝓡);
+      knows-find = cited 𝓤 H (Finds 𝓤 H (𝓖 .A) (𝓜 .mem) (𝓡 .run)) 𝓜 𝓡 code.env #find find-def.routine code.calls-solo·search·find (find-thm.met 𝓤 H 𝓜 𝓖 𝓡);
+      knows-most = cited 𝓤 H (Most 𝓤 H (𝓖 .A) (𝓜 .mem) (𝓡 .run)) 𝓜 𝓡 code.env #most most-def.routine code.calls-solo·search·Search·alone-for (most-thm.met 𝓤 H 𝓜 𝓖 𝓡);
+      knows-alone = cited 𝓤 H (Alones 𝓤 H (𝓖 .A) (𝓜 .mem) (𝓡 .run)) 𝓜 𝓡 code.env #alone alone-def.routine code.calls-solo·alone·run-alone (alone-thm.met 𝓤 H 𝓜 𝓖 𝓡);
+      knows-follow = cited 𝓤 H (Follows 𝓤 H (𝓖 .A) (𝓜 .mem) (𝓡 .run)) 𝓜 𝓡 code.env #follow follow-def.routine code.calls-solo·follow·follow (follow-thm.met 𝓤 H 𝓜 𝓖 𝓡);
+      knows-silence = cited 𝓤 H (Silences 𝓤 H (𝓖 .A) (𝓜 .mem) (𝓡 .run)) 𝓜 𝓡 code.env #silence silence-def.routine code.calls-listening·silence·silence (silence-thm.met 𝓤 H 𝓜 𝓖 𝓡);
+      knows-made = cited 𝓤 H (Makes 𝓤 H (𝓖 .A) (𝓜 .mem) (𝓡 .run)) 𝓜 𝓡 code.env #made made-def.routine code.calls-bus-calls·turn·turned (made-thm.met 𝓤 H 𝓜 𝓖 𝓡);
+      knows-leap = cited 𝓤 H (Leaps 𝓤 H (𝓖 .A) (𝓜 .mem) (𝓡 .run)) 𝓜 𝓡 code.env #leap leap-def.routine code.calls-bus-calls·turn·leap-on (leap-thm.met 𝓤 H 𝓜 𝓖 𝓡);
+    }))
