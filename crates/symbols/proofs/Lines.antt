@@ -1,6 +1,6 @@
 -- Lists that are compared, lines, and the answer of a test of a line.
 use mathlib.Core.Path.{_≡_, refl, sym, _∙_}
-use mathlib.Core.Bool.{Bool, true, false, true≢false}
+use mathlib.Core.Bool.{Bool, true, false, _&&_, true≢false}
 use mathlib.Core.List.{List, [], _∷_}
 use Prim.Native.Nat.{ℕ, zero, suc, _≤_}
 use native.Mathlib.Omega.{arith}
@@ -35,6 +35,10 @@ fits-length n top l e = by-test (eqb (length l) n) (λ t. eqb-true (length l) n 
 pub fits-within : (n top : ℕ) (l : List ℕ) → fits n top l ≡ true → within top l ≡ true
 unfolding fits
 fits-within n top l e = by-test (eqb (length l) n) (λ t. rw t at e) (λ t. absurd (true≢false (sym e ∙ rw t)))
+
+pub within-cons : (top x : ℕ) (l : List ℕ) → within top (x ∷ l) ≡ (leb x top && within top l)
+unfolding within
+within-cons top x l = by-test (leb x top) (λ t. rw t) (λ t. rw t)
 
 pub fits-is : {n : ℕ} (top : ℕ) (l : List ℕ) {b : Bool} → length l ≡ n → b ≡ within top l → b ≡ fits n top l
 unfolding fits

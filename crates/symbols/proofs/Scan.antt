@@ -1,6 +1,6 @@
 -- A loop that goes through a slice: what a function says of the whole list it says of the rest from i on.
 use mathlib.Core.Path.{_≡_, refl, ap, _∙_}
-use mathlib.Core.Bool.{true, false, cond}
+use mathlib.Core.Bool.{Bool, true, false, cond, _&&_, and-true, and-assoc}
 use mathlib.Core.List.{List, [], _∷_}
 use Prim.Native.Nat.{ℕ, suc, _+_, _<_, _≤_}
 use native.Mathlib.Numerals.{add-one}
@@ -29,6 +29,22 @@ module _ {X : Type 0} {F : List ℕ → X} {s : List ℕ} {i : ℕ} (r : Rest F 
 
   pub rest-done : length s ≤ i → F s ≡ F []
   rest-done h = rw (r .rest, drop-of-length-le s h)
+
+-- The same for a test of every element, where ok is what the elements before i say.
+pub record Tested (F : List ℕ → Bool) (s : List ℕ) (i : ℕ) (ok : Bool) : Type 0 where
+  pub low : i ≤ length s
+  pub rest : F s ≡ (ok && F (drop i s))
+
+pub tested-start : {F : List ℕ → Bool} {s : List ℕ} → Tested F s 0 true
+tested-start = record { low = omega arith; rest = refl }
+
+module _ {F : List ℕ → Bool} {s : List ℕ} {i : ℕ} {ok : Bool} (r : Tested F s i ok) where
+  pub tested-next : (b : Bool) → i < length s → F (getD s i 0 ∷ drop (suc i) s) ≡ (b && F (drop (suc i) s)) → Tested F s (i + 1) (ok && b)
+  tested-next b h e =
+      record { low = omega arith; rest = rw (add-one, and-assoc) (r .rest ∙ ap (λ (x : Bool). ok && x) (rw (drop-cons s i 0 h) e)) }
+
+  pub tested-done : F [] ≡ true → length s ≤ i → F s ≡ ok
+  tested-done e h = rw (r .rest, drop-of-length-le s h, e) (and-true ok)
 
 -- The same for two lists that are compared.
 pub record SameRest (xs ys : List ℕ) (i : ℕ) : Type 0 where

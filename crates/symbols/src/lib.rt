@@ -27,14 +27,13 @@ pub fn fits(s: &[u8], n: usize, top: u8) -> bool
     if s.len() != n {
         return false;
     }
+    let mut ok = true;
     let mut i = 0;
     while i < s.len() {
-        if top < s[i] {
-            return false;
-        }
+        ok = ok & (s[i] <= top);
         i += 1;
     }
-    true
+    ok
 }
 
 // Whether a and b are the same, code for code.

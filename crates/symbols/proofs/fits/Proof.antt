@@ -1,36 +1,30 @@
--- `symbols::fits` meets its contract: the answer is that of the codes from i on.
-use mathlib.Core.Path.{sym, _∙_}
+-- `symbols::fits` meets its contract: the answer is that of the codes passed and that of the codes from i on.
+use mathlib.Core.Path.{refl, sym}
 use Prim.Native.Nat.{_-_}
 use native.Mathlib.Omega.{arith}
-use borrow.Author.Tests.{ne-eqb, le-leb, lt-leb}
+use borrow.Author.Tests.{ne-eqb}
 use lib.ListN.{length}
 use Rattle.symbols.specs.Symbols.{within, fits}
-use Rattle.symbols.proofs.Scan.{Rest, rest-start, rest-here, rest-next, rest-done}
-use Rattle.symbols.proofs.Lines.{fits-is}
+use Rattle.symbols.proofs.Scan.{Tested, tested-start, tested-next, tested-done}
+use Rattle.symbols.proofs.Lines.{within-cons, fits-is}
 use Rattle.symbols.proofs.fits.Statement.{statement}
 use Rattle.symbols.proofs.fits.Tie as tie
 
 abbrev Inv-loop : tie.InvT-loop
-Inv-loop s n top i₀ i = Rest (within top) s i
+Inv-loop s n top ok₀ i₀ ok i = Tested (within top) s i ok
 
 abbrev μ-loop : tie.MeasureT-loop
-μ-loop s n top i₀ i = length s - i
+μ-loop s n top ok₀ i₀ ok i = length s - i
 
 returns : tie.Need-returns Inv-loop μ-loop
 unfolding fits
 returns c = rw (ne-eqb _ _ (c .if1 .taken))
 
 loop-holds : tie.Need-loop-holds Inv-loop μ-loop
-loop-holds c = rest-start
+loop-holds c = tested-start
 
-shared-slice-read-if2 : tie.Need-shared-slice-read-if2 Inv-loop μ-loop
-shared-slice-read-if2 c = omega arith
-
-returns-2 : tie.Need-returns-2 Inv-loop μ-loop
-unfolding within
-returns-2 c =
-    let loop = c .before .before .before in
-    fits-is _ _ (loop .before .if1 .left) (sym (rest-here (loop .loop .inv) (omega arith) ∙ rw (lt-leb _ _ (c .if2 .taken))))
+shared-slice-read-ok : tie.Need-shared-slice-read-ok Inv-loop μ-loop
+shared-slice-read-ok c = omega arith
 
 add-i : tie.Need-add-i Inv-loop μ-loop
 add-i c = omega arith
@@ -39,12 +33,11 @@ loop-less : tie.Need-loop-less Inv-loop μ-loop
 loop-less c = omega arith
 
 loop-again : tie.Need-loop-again Inv-loop μ-loop
-unfolding within
-loop-again c = rest-next (c .before .before .before .loop .inv) (omega arith) (rw (le-leb _ _ (c .if2 .left)))
+loop-again c = tested-next (c .before .before .loop .inv) _ (omega arith) (within-cons _ _ _)
 
-returns-3 : tie.Need-returns-3 Inv-loop μ-loop
+returns-2 : tie.Need-returns-2 Inv-loop μ-loop
 unfolding within
-returns-3 c = fits-is _ _ (c .before .before .if1 .left) (sym (rest-done (c .before .loop .inv) (c .loop-test .left)))
+returns-2 c = fits-is _ _ (c .before .before .if1 .left) (sym (tested-done (c .before .loop .inv) refl (c .loop-test .left)))
 
 pub fits-spec : {M : Type 1} → statement M
 fits-spec =
@@ -54,9 +47,8 @@ fits-spec =
     μ-loop
     returns
     loop-holds
-    shared-slice-read-if2
-    returns-2
+    shared-slice-read-ok
     add-i
     loop-less
     loop-again
-    returns-3)
+    returns-2)
