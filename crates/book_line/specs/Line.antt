@@ -122,6 +122,13 @@ numberOf f = cond (isNumber f) (Number.Is (number f)) Number.Wrong
 unfoldable pub judged : List ℕ → Judged
 judged line = cond (formed line) (Judged.Entry (periodOf line) (unitOf line) (eventOf line)) Judged.Wrong
 
+-- What four fields say: so it is with a line's, as the code cuts it.
+unfoldable pub judgedFields : List ℕ → List ℕ → List ℕ → List ℕ → Judged
+judgedFields period unit name value =
+    cond (isNumber period && isNumber unit && (not (eqb (eventNamed name) 0) && valueFits (eventNamed name) value))
+    (Judged.Entry (number period) (number unit) (eventNamed name))
+    Judged.Wrong
+
 -- The number of the fault that an answer stands for, or 0.
 unfoldable pub faultOf : Judged → ℕ
 faultOf (Judged.Entry period unit event) = 0

@@ -3,8 +3,8 @@ use crate::event::event_named;
 use crate::form::value_fits;
 use crate::number::Number;
 use crate::number::digits;
-use text::field::field;
-use text::field::field_count;
+use text::field::SPACE;
+use text::piece::piece_end;
 ghost use mathlib.Core.Path.{_≡_};
 ghost use Rattle.book_line.specs.Line as spec;
 
@@ -19,21 +19,18 @@ pub enum Judged {
     Wrong,
 }
 
-// What a line says, its LF left off.
-pub fn judge(line: &[u8]) -> Judged
-    ensures { λ r. ⌜ r ≡ spec.judged (now (line .entry)) ⌝ }
+// What four fields say.
+fn judge_fields(period: &[u8], unit: &[u8], name: &[u8], value: &[u8]) -> Judged
+    ensures { λ r. ⌜ r ≡ spec.judgedFields (now (period .entry)) (now (unit .entry)) (now (name .entry)) (now (value .entry)) ⌝ }
 {
-    if !((line.len() < LONGEST_LINE) & (field_count(line) == 4)) {
-        return Judged::Wrong;
-    }
-    let Number::Is(period) = digits(field(line, 0)) else {
+    let Number::Is(period) = digits(period) else {
         return Judged::Wrong;
     };
-    let Number::Is(unit) = digits(field(line, 1)) else {
+    let Number::Is(unit) = digits(unit) else {
         return Judged::Wrong;
     };
-    let event = event_named(field(line, 2));
-    if !((event != 0) & value_fits(event, field(line, 3))) {
+    let event = event_named(name);
+    if !((event != 0) & value_fits(event, value)) {
         return Judged::Wrong;
     }
     Judged::Entry {
@@ -41,4 +38,25 @@ pub fn judge(line: &[u8]) -> Judged
         unit,
         event,
     }
+}
+
+// What a line says, its LF left off. It is cut at its first three spaces: no value of right form has a space.
+pub fn judge(line: &[u8]) -> Judged
+    ensures { λ r. ⌜ r ≡ spec.judged (now (line .entry)) ⌝ }
+{
+    if line.len() >= LONGEST_LINE {
+        return Judged::Wrong;
+    }
+    let first = piece_end(line, 0, SPACE);
+    let second = piece_end(line, first + 1, SPACE);
+    let third = piece_end(line, second + 1, SPACE);
+    if third >= line.len() {
+        return Judged::Wrong;
+    }
+    judge_fields(
+        &line[..first],
+        &line[first + 1..second],
+        &line[second + 1..third],
+        &line[third + 1..],
+    )
 }

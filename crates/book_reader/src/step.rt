@@ -10,7 +10,7 @@ use book_line::line::judge;
 use text::field::field;
 use text::length::least;
 use text::piece::LF;
-use text::piece::piece_end;
+use text::piece::long_piece_end;
 use text::same::same;
 use timing::counts::MOST_PERIODS;
 
@@ -116,7 +116,7 @@ fn line_step(t: &[u8], at: usize, last: u32, whole: bool) -> Step
     ensures { λ r. ⌜ r ≡ spec.lineStep (now (t .entry)) at last whole ⌝ }
 {
     let n = least(LONGEST_LINE, t.len());
-    let end = piece_end(&t[..n], 0, LF);
+    let end = long_piece_end(&t[..n], 0, LF);
     if end < n {
         return rule(&t[..end], at + end, last);
     }

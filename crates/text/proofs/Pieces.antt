@@ -1,17 +1,17 @@
 -- Laws of pieces, and how a loop over a text comes on by an octet.
 use mathlib.Core.Path.{_≡_, refl, sym, ap, _∙_}
-use mathlib.Core.Bool.{Bool, true, false, cond}
+use mathlib.Core.Bool.{Bool, true, false, cond, _&&_}
 use mathlib.Core.List.{List, [], _∷_}
 use Prim.Native.Nat.{ℕ, zero, suc, _+_, _-_, _≤_, _<_}
 use native.Mathlib.Numerals.{add-one}
 use native.Mathlib.Omega.{arith}
 use lib.Dec.{eqb, ltb, leb·suc-suc}
 use lib.ListN.{length, getD, take, drop, length-drop, drop-of-length-le}
-use lib.Seq.{drop-cons, drop-drop}
-use borrow.Author.Tests.{eq-eqb, ne-eqb, lt-ltb, le-ltb}
-use Rattle.cases.proofs.ByCases.{by-test}
-use Rattle.symbols.proofs.Scan.{Rest, rest-here, rest-next, rest-done, same-symbols-short}
-use Rattle.text.specs.Text.{onto, split, upto, same, all}
+use lib.Seq.{drop-cons, drop-drop, take-length}
+use borrow.Author.Tests.{eqb-true, eq-eqb, ne-eqb, lt-ltb, le-ltb}
+use Rattle.cases.proofs.ByCases.{by-test, clash, and-left, and-right}
+use Rattle.symbols.proofs.Scan.{Rest, rest-here, rest-next, rest-done, Tested, tested-next, tested-done, same-symbols-short}
+use Rattle.text.specs.Text.{onto, split, upto, same, all, isOther}
 
 -- ---- Where a piece ends.
 pub upto-le : (sep : ℕ) (t : List ℕ) → upto sep t ≤ length t
@@ -113,29 +113,33 @@ module _ (sep : ℕ) (line : List ℕ) (from left end : ℕ) (ends : end ≡ fro
   field-found z =
       let w : end - from ≡ upto sep (drop from line) = omega arith in rw (z, w) (sym (piece-here sep (drop from line)))
 
--- ---- How many pieces.
-length-onto : (c : ℕ) (ps : List (List ℕ)) → 0 < length ps → length (onto c ps) ≡ length ps
-unfolding onto
-length-onto c [] h = absurd (omega arith)
-length-onto c (p ∷ ps) h = refl
+-- ---- A text cut at its separators, the piece at `from` ending at `end`.
+module _ (sep : ℕ) (t : List ℕ) (from end : ℕ) (ends : end ≡ from + upto sep (drop from t)) where
+  pub cut-here : end < length t → split sep (drop from t) ≡ take (end - from) (drop from t) ∷ split sep (drop (end + 1) t)
+  cut-here h =
+      let w : end - from ≡ upto sep (drop from t) = omega arith in
+      let v : end + 1 ≡ from + suc (upto sep (drop from t)) = omega arith in
+      let l : upto sep (drop from t) < length (drop from t) = omega (arith, length-drop from t) in
+      split-upto sep (drop from t) ∙ simp (lt-ltb _ _ l) (rw (w, v, drop-drop (suc (upto sep (drop from t))) from t))
 
-module _ (sep : ℕ) (t : List ℕ) (i : ℕ) where
-  pub count-sep : i < length t → getD t i 0 ≡ sep → length (split sep (drop i t)) ≡ suc (length (split sep (drop (i + 1) t)))
-  unfolding split
-  count-sep h e = rw (drop-cons t i 0 h, add-one i) (simp (eq-eqb (getD t i 0) sep e))
+  pub cut-last : length t ≤ end → length (split sep (drop from t)) ≡ 1
+  cut-last h =
+      let l : length (drop from t) ≤ upto sep (drop from t) = omega (arith, length-drop from t) in
+      ap length (split-upto sep (drop from t)) ∙ simp (le-ltb _ _ l)
 
-  pub count-other : i < length t → (getD t i 0 ≡ sep → ⊥) → length (split sep (drop i t)) ≡ length (split sep (drop (i + 1) t))
-  unfolding split
-  count-other h e =
-      rw (drop-cons t i 0 h, add-one i)
-      (simp (ne-eqb (getD t i 0) sep e)
-      (length-onto (getD t i 0) (split sep (drop (suc i) t)) (split-some sep (drop (suc i) t))))
+-- a text without a separator is one piece, any other has more
+pub split-one : (sep : ℕ) (t : List ℕ) → length t ≤ upto sep t → split sep t ≡ t ∷ []
+split-one sep t h =
+    let w : upto sep t ≡ length t = omega (arith, upto-le sep t) in
+    split-upto sep t ∙ rw (w, take-length t, le-ltb (length t) (length t) (omega arith))
 
-  pub count-end : length t ≤ i → length (split sep (drop i t)) ≡ 1
-  unfolding split
-  count-end h = rw (drop-of-length-le t h)
+pub split-more : (sep : ℕ) (t : List ℕ) → upto sep t < length t → 1 < length (split sep t)
+split-more sep t h =
+    let rest = split sep (drop (suc (upto sep t)) t) in
+    let l : length (split sep t) ≡ suc (length rest) = ap length (split-upto sep t) ∙ simp (lt-ltb (upto sep t) (length t) h) in
+    omega (arith, split-some sep (drop (suc (upto sep t)) t))
 
--- ---- A loop that tests every octet.
+-- ---- A loop that tests every octet: it stops at the first that fails, or goes through to the end.
 module _ (p : ℕ → Bool) {t : List ℕ} {i : ℕ} (rest : Rest (all p) t i) where
   pub all-go : i < length t → p (getD t i 0) ≡ true → Rest (all p) t (i + 1)
   unfolding all
@@ -148,6 +152,45 @@ module _ (p : ℕ → Bool) {t : List ℕ} {i : ℕ} (rest : Rest (all p) t i) w
   pub all-end : length t ≤ i → all p t ≡ true
   unfolding all
   all-end h = rest-done rest h
+
+module _ (p : ℕ → Bool) {t : List ℕ} {i : ℕ} {ok : Bool} (passed : Tested (all p) t i ok) where
+  pub all-next : (b : Bool) → i < length t → b ≡ p (getD t i 0) → Tested (all p) t (i + 1) (ok && b)
+  unfolding all
+  all-next b h e = tested-next passed b h (rw e)
+
+  pub all-done : length t ≤ i → ok ≡ all p t
+  unfolding all
+  all-done h = sym (tested-done passed refl h)
+
+-- octets none of which can be a separator
+pub all-one : (sep : ℕ) (p : ℕ → Bool) (t : List ℕ) → p sep ≡ false → all p t ≡ true → length t ≤ upto sep t
+unfolding all upto
+all-one sep p [] n e = omega arith
+all-one sep p (c ∷ t) n e =
+    by-test (eqb c sep) (λ d. clash (p c) (and-left (p c) (all p t) e) (rw (eqb-true c sep d) n))
+    (λ d. simp d (omega (arith, all-one sep p t n (and-right (p c) (all p t) e))))
+
+-- ---- Pieces that are passed block by block.
+-- no separator among the first n octets
+pub upto-past : (sep n : ℕ) (t : List ℕ) → n ≤ length t → all (isOther sep) (take n t) ≡ true → n ≤ upto sep t
+unfolding all upto
+upto-past sep zero t h e = omega arith
+upto-past sep (suc n) [] h e = absurd (omega arith)
+upto-past sep (suc n) (c ∷ t) h e =
+    by-test (eqb c sep) (λ d. clash true refl (sym (simp d at e)))
+    (λ d. simp d (omega (arith, upto-past sep n t (omega arith) (simp d at e))))
+
+-- n octets on, the piece ends where it did
+upto-on : (sep n : ℕ) (t : List ℕ) → n ≤ upto sep t → upto sep t ≡ n + upto sep (drop n t)
+unfolding upto
+upto-on sep zero t h = omega arith
+upto-on sep (suc n) [] h = absurd (omega arith)
+upto-on sep (suc n) (c ∷ t) h =
+    by-test (eqb c sep) (λ d. absurd (omega (arith, simp d at h)))
+    (λ d. simp d (omega (arith, upto-on sep n t (omega (arith, simp d at h)))))
+
+pub upto-skip : (sep n i : ℕ) (t : List ℕ) → n ≤ upto sep (drop i t) → i + n + upto sep (drop (i + n) t) ≡ i + upto sep (drop i t)
+upto-skip sep n i t h = omega (arith, upto-on sep n (drop i t) h, ap (λ (l : List ℕ). upto sep l) (drop-drop n i t))
 
 -- ---- Two texts.
 pub same-length : (a b : List ℕ) → (length a ≡ length b → ⊥) → same a b ≡ false

@@ -1,5 +1,5 @@
 -- Text as octets: pieces between separators, fields, digits and letters (document 01, "Bench book and report": "ASCII, single spaces, LF").
-use mathlib.Core.Bool.{Bool, true, cond, _&&_, _||_}
+use mathlib.Core.Bool.{Bool, true, cond, not, _&&_, _||_}
 use mathlib.Core.List.{List, [] as []ᴸ, _∷_ as _∷ᴸ_}
 use Prim.Native.Nat.{ℕ, suc, _+_, _-_, _*_}
 use Prim.Native.Char.{code}
@@ -53,6 +53,10 @@ all p (c ∷ᴸ cs) = p c && all p cs
 -- lo to hi, both included
 abbrev pub between : ℕ → ℕ → ℕ → Bool
 between lo hi c = leb lo c && leb c hi
+
+-- any octet but the separator
+abbrev pub isOther : ℕ → ℕ → Bool
+isOther sep c = not (eqb c sep)
 
 -- "decimal"
 abbrev pub isDigit : ℕ → Bool

@@ -27,26 +27,24 @@ pub fn is_letter(c: u8) -> bool
 pub fn all_hex(text: &[u8]) -> bool
     ensures { λ r. ⌜ r ≡ spec.all spec.isHex (now (text .entry)) ⌝ }
 {
+    let mut ok = true;
     let mut i: usize = 0;
     while i < text.len() {
-        if !is_hex(text[i]) {
-            return false;
-        }
+        ok = ok & is_hex(text[i]);
         i += 1;
     }
-    true
+    ok
 }
 
 // Whether a text is letters of a hit alone.
 pub fn all_letters(text: &[u8]) -> bool
     ensures { λ r. ⌜ r ≡ spec.all spec.isLetter (now (text .entry)) ⌝ }
 {
+    let mut ok = true;
     let mut i: usize = 0;
     while i < text.len() {
-        if !is_letter(text[i]) {
-            return false;
-        }
+        ok = ok & is_letter(text[i]);
         i += 1;
     }
-    true
+    ok
 }

@@ -1,8 +1,9 @@
 // Pieces of a text: they stand between separators.
+ghost use mathlib.Core.Bool.{true};
 ghost use mathlib.Core.Path.{_≡_};
-ghost use Prim.Native.Nat.{_+_};
-ghost use lib.ListN.{drop};
-ghost use Rattle.text.specs.Text.{upto};
+ghost use Prim.Native.Nat.{_+_, _≤_};
+ghost use lib.ListN.{length, drop};
+ghost use Rattle.text.specs.Text.{upto, all, isOther};
 
 // What ends a line.
 pub const LF: u8 = b'\n';
@@ -19,4 +20,44 @@ pub fn piece_end(text: &[u8], from: usize, sep: u8) -> usize
         i += 1;
     }
     i
+}
+
+// The octets that are looked at together.
+const BLOCK: usize = 16;
+
+// Whether no octet of a text is the separator.
+fn is_one_piece(text: &[u8], sep: u8) -> bool
+    ensures { λ r. ⌜ r ≡ all (isOther sep) (now (text .entry)) ⌝ }
+{
+    let mut ok = true;
+    let mut i: usize = 0;
+    while i < text.len() {
+        ok = ok & (text[i] != sep);
+        i += 1;
+    }
+    ok
+}
+
+// Whether a whole block stands at a place, and no separator in it.
+fn passes(text: &[u8], at: usize, sep: u8) -> bool
+    ensures { λ r. ⌜ (r ≡ true → (at + 16 ≤ length (now (text .entry))) × (16 ≤ upto sep (drop at (now (text .entry))))) ⌝ }
+{
+    if text.len() < BLOCK {
+        return false;
+    }
+    if text.len() - BLOCK < at {
+        return false;
+    }
+    is_one_piece(&text[at..at + BLOCK], sep)
+}
+
+// Where a piece ends, as piece_end has it, block by block: for pieces that are long as a rule.
+pub fn long_piece_end(text: &[u8], from: usize, sep: u8) -> usize
+    ensures { λ r. ⌜ r ≡ from + upto sep (drop from (now (text .entry))) ⌝ }
+{
+    let mut i = from;
+    while passes(text, i, sep) {
+        i += BLOCK;
+    }
+    piece_end(text, i, sep)
 }

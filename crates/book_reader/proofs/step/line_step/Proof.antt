@@ -9,16 +9,16 @@ use Rattle.book_reader.proofs.step.line_step.Tie as tie
 least-requires : tie.Need-least-requires
 least-requires c κs = search needs
 
-slice-aggregate-piece-end : tie.Need-slice-aggregate-piece-end
-slice-aggregate-piece-end c = sym (length-take-le (c .before .least .result) (c .before .before .before .args .t .now) (omega arith))
+slice-aggregate-long-piece-end : tie.Need-slice-aggregate-long-piece-end
+slice-aggregate-long-piece-end c = sym (length-take-le (c .before .least .result) (c .before .before .before .args .t .now) (omega arith))
 
-piece-end-requires : tie.Need-piece-end-requires
-piece-end-requires c κs = search needs
+long-piece-end-requires : tie.Need-long-piece-end-requires
+long-piece-end-requires c κs = search needs
 
 slice-aggregate-rule : tie.Need-slice-aggregate-rule
 slice-aggregate-rule c =
     let t = c .before .before .before .before .before .before .args .t .now in
-    sym (length-take-le (c .before .before .piece-end .result) t (omega arith))
+    sym (length-take-le (c .before .before .long-piece-end .result) t (omega arith))
 
 add-rule : tie.Need-add-rule
 add-rule c = search needs
@@ -29,7 +29,7 @@ rule-requires c κs = search needs
 returns : tie.Need-returns
 returns c =
     let a = c .before .before .before .before .before .before .before .args in
-    let n = c .before .before .before .before .before .least in let end = c .before .before .before .piece-end in
+    let n = c .before .before .before .before .before .least in let end = c .before .before .before .long-piece-end in
     c .rule .ensures
     ∙ step-line (a .t .now) (a .at) (a .last) (a .whole) (n .result) (end .result) (n .ensures) (end .ensures) (omega arith)
 
@@ -39,7 +39,7 @@ unended-requires c κs = search needs
 returns-2 : tie.Need-returns-2
 returns-2 c =
     let a = c .before .before .before .before .before .before .args in
-    let n = c .before .before .before .before .least in let end = c .before .before .piece-end in
+    let n = c .before .before .before .before .least in let end = c .before .before .long-piece-end in
     c .unended .ensures
     ∙ step-unended (a .t .now) (a .at) (a .last) (a .whole) (n .result) (end .result) (n .ensures) (end .ensures) (omega arith)
 
@@ -48,8 +48,8 @@ line-step-spec =
     tie.close
     (tie.spec
     least-requires
-    slice-aggregate-piece-end
-    piece-end-requires
+    slice-aggregate-long-piece-end
+    long-piece-end-requires
     slice-aggregate-rule
     add-rule
     rule-requires

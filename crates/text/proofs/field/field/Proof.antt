@@ -63,8 +63,8 @@ loop-again c =
           ∙ loop .loop .inv .1,
     )
 
-piece-end-requires-2 : tie.Need-piece-end-requires-2 Inv-loop μ-loop
-piece-end-requires-2 c κs = search needs
+long-piece-end-requires : tie.Need-long-piece-end-requires Inv-loop μ-loop
+long-piece-end-requires c κs = search needs
 
 sub-result-2 : tie.Need-sub-result-2 Inv-loop μ-loop
 sub-result-2 c = search needs
@@ -80,7 +80,7 @@ part-result-end-2 c =
 returns-2 : tie.Need-returns-2 Inv-loop μ-loop
 returns-2 c =
     let loop = c .before .before .before in
-    field-found space (loop .before .before .args .line .now) (loop .loop .from) (loop .loop .left) _ (c .before .piece-end2 .ensures) (omega arith)
+    field-found space (loop .before .before .args .line .now) (loop .loop .from) (loop .loop .left) _ (c .before .long-piece-end .ensures) (omega arith)
     ∙ loop .loop .inv .1
 
 pub field-spec : {M : Type 1} → statement M
@@ -99,7 +99,7 @@ field-spec =
     sub-left
     loop-less
     loop-again
-    piece-end-requires-2
+    long-piece-end-requires
     sub-result-2
     part-result-start-2
     part-result-end-2
