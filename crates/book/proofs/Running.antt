@@ -1,7 +1,7 @@
 -- Periods run up to a line's: one run, and one after another.
 use mathlib.Core.Path.{_≡_, refl, sym, ap, _∙_}
 use mathlib.Core.Bool.{Bool, true, false, _&&_}
-use mathlib.Core.List.{List, _++_}
+use mathlib.Core.List.{List, [], _++_}
 use Prim.Native.Nat.{ℕ, zero, suc, _+_, _-_, _≤_, _<_}
 use native.Mathlib.Omega.{arith}
 use lib.Dec.{ltb, leb}
@@ -19,6 +19,7 @@ use Rattle.call_rules.specs.Ready.{goesOn}
 use Rattle.call_rules.specs.Period.{periodRan, keptRun}
 use Rattle.call_rules.specs.Run.{ran, keptAfter, keptOn, notYet}
 use Rattle.call_rules.specs.Lists.{periodTold}
+use Rattle.call_rules.proofs.QuietRuns.{quiet-told}
 use Rattle.call_rules.specs.Kept.{found}
 use Rattle.bus_held.specs.declared.HeldRun.{HeldRun}
 use Rattle.note_text.specs.Room.{Put}
@@ -90,6 +91,23 @@ module _ (bus : BusRecord) (ts : List Terminal) (images octets letters : List �
         → RunsTo k to room wrote (found (g .ran .bus) (g .terminals) images octets′ letters) w room′ × (bus .periods .0 < g .ran .bus .periods .0)
     advanced fits g octets′ e₁ e₂ e₃ e₄ w room′ put =
         rw (e₁, e₂, e₄) (ran-once fits w room′ (rw (e₁, e₃, e₄) at put), ran-some)
+
+    -- a run that tells of no note puts nothing
+    quiet : (octets′ : List ℕ) → octets′ ≡ keptAfter n k .octets → ran n k .told ≡ false
+        → periodTold (ran n k .bus .periods .0 - 1) (ran n k) (keptAfter n k .notes) octets′ ≡ []
+    quiet octets′ e h =
+        let one : n ≡ suc (n - 1) = omega arith in
+        let all : (m : ℕ) → m ≡ suc (n - 1) → ran m k .reply ≡ 0 → ran m k .told ≡ false
+        → periodTold (ran m k .bus .periods .0 - 1) (ran m k) (keptAfter m k .notes) (keptAfter m k .octets) ≡ []
+        = λ m f. rw f (quiet-told (n - 1) k (ran (suc (n - 1)) k .bus .periods .0 - 1)) in
+        rw e (all n one (runs .accepted) h)
+
+    pub advanced-quiet : wrote + periodRoom ≤ length room → (g : HeldRun) (octets′ : List ℕ) → g .ran ≡ ran n k → g .terminals ≡ keptAfter n k .terminals
+        → g .notes ≡ keptAfter n k .notes → octets′ ≡ keptAfter n k .octets → g .ran .told ≡ false
+        → RunsTo k to room wrote (found (g .ran .bus) (g .terminals) images octets′ letters) wrote room × (bus .periods .0 < g .ran .bus .periods .0)
+    unfolding notesIn
+    advanced-quiet fits g octets′ e₁ e₂ e₃ e₄ h =
+        advanced fits g octets′ e₁ e₂ e₃ e₄ wrote room (rw (e₁, e₃, quiet octets′ e₄ (rw e₁ at h)) (put-none room wrote (omega arith)))
 
 -- ---- None yet, and runs one after another.
 pub ran-none : (k : Kept) (to : ℕ) (room : List ℕ) (wrote : ℕ) → k .bus .periods .0 ≤ to → wrote ≤ length room → RunsTo k to room wrote k wrote room

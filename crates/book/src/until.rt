@@ -53,6 +53,13 @@ fn advance(
     let ran = g.ran;
     let bus = ran.bus;
     let terminals = g.terminals;
+    if !ran.told {
+        return Until {
+            bus,
+            terminals,
+            wrote: u.wrote,
+        };
+    }
     let notes = g.notes;
     let wrote = put_period(
         Form::Line,

@@ -5,7 +5,7 @@ use mathlib.Core.List.{List, [], _∷_, _++_, append-nil}
 use Prim.Native.Nat.{ℕ, zero, suc, _+_, _-_}
 use native.Mathlib.Omega.{arith}
 use lib.Dec.{eqb, ltb}
-use borrow.Author.Tests.{eqb-true, ltb-false}
+use borrow.Author.Tests.{eqb-true, eq-eqb, ltb-false}
 use Rattle.cases.proofs.ByCases.{by-test, clash, and-left-false, and-right-false}
 use Rattle.cases.proofs.Operators.{and-both}
 use Rattle.cells.specs.Notes.{noted}
@@ -25,11 +25,11 @@ use Rattle.call_rules.specs.Kept.{Kept}
 use Rattle.call_rules.specs.Shown.{busIn}
 use Rattle.call_rules.specs.Period.{terminalsNotes, anyNote, hasNotes, periodRan, keptRun}
 use Rattle.call_rules.specs.Ready.{runReply, goesOn}
-use Rattle.call_rules.specs.Run.{notYet, ran, keptAfter, ranOn, SinglePeriod}
+use Rattle.call_rules.specs.Run.{notYet, ran, keptAfter, ranOn, keptOn, SinglePeriod}
 use Rattle.call_rules.specs.Lists.{called, replied, readerTold, terminalsTold, timersTold, periodTold, notesTold, allTold, callsIn, calledAll, runTold, RunIsCalls, RunsAreCalls}
 use Rattle.call_rules.proofs.InOrder.{one-left}
 use Rattle.call_rules.proofs.ReadyKept.{ready-kept}
-use Rattle.call_rules.proofs.RunSingle.{period-single, run-single}
+use Rattle.call_rules.proofs.RunSingle.{stays, first-ran, first-kept, ran-ends, period-single, run-single}
 
 -- ---- no note
 neither : (a b : Bool) → (a || b) ≡ false → (a ≡ false) × (b ≡ false)
@@ -224,3 +224,24 @@ pub runs-are-calls : RunsAreCalls
 runs-are-calls zero k = run-ends zero k (no-more (ran 1 k))
 runs-are-calls (suc m) k =
     by-test (goesOn (ran 1 k) (suc m)) (λ g. run-on m k g (runs-are-calls m (keptAfter 1 k))) (λ g. run-ends (suc m) k g)
+
+-- ---- A run that tells of no note has none, whatever it ran.
+quiet-on : (n : ℕ) (k : Kept) (now : ℕ) → ranOn n (periodRan k) (keptRun k) .told ≡ false
+    → periodTold now (ranOn n (periodRan k) (keptRun k)) (keptOn n (periodRan k) (keptRun k) .notes) (keptOn n (periodRan k) (keptRun k) .octets) ≡ []
+unfolding ranOn keptOn
+quiet-on zero k now h = quiet-run k now h
+quiet-on (suc n) k now h =
+    by-test (goesOn (periodRan k) (suc n)) (λ g. rw g (quiet-on n (keptRun k) now (rw g at h))) (λ g. rw g (quiet-run k now (rw g at h)))
+
+refused-reply : (n : ℕ) (k : Kept) → eqb (runReply n k) 0 ≡ false → ran n k .reply ≡ runReply n k
+unfolding ran notYet refusedRun
+refused-reply n k t = ap (λ (r : Ran). r .reply) (ran-ends n (refusedRun (runReply n k) (k .bus)) k (stays n n k t))
+
+pub quiet-told : (n : ℕ) (k : Kept) (now : ℕ) → ran (suc n) k .reply ≡ 0 → ran (suc n) k .told ≡ false
+    → periodTold now (ran (suc n) k) (keptAfter (suc n) k .notes) (keptAfter (suc n) k .octets) ≡ []
+quiet-told n k now a h =
+    by-test (eqb (runReply (suc n) k) 0)
+    (λ t.
+    let z = eqb-true (runReply (suc n) k) 0 t in
+    rw (first-ran n k z, first-kept n k z) (quiet-on n k now (rw (first-ran n k z) at h)))
+    (λ t. clash (eqb (runReply (suc n) k) 0) (eq-eqb (runReply (suc n) k) 0 (sym (refused-reply (suc n) k t) ∙ a)) t)
