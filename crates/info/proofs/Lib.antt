@@ -1,2 +1,3 @@
 -- What is shown of the INFO signals.
 pub mod Laws
+pub mod Pulses

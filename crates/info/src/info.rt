@@ -7,6 +7,8 @@ ghost use Rattle.info.specs.Info as spec;
 use frame::fields::DownFields;
 use frame::fields::Four;
 use frame::fields::UpFields;
+use frame::write::symbol;
+use frame::write::turned;
 use frame::write::write_down;
 use frame::write::write_up;
 use symbols::LINE_LENGTH;
@@ -106,30 +108,39 @@ pub fn info3(d: Four, out: &mut [u8]) -> u8
     write_up(f, out)
 }
 
+// Puts the pulses of INFO 4 into a line of nones: at F, at the L behind it, at each E that is 0, at FA, at M, at S, and at the last L where
+// the pulses between are odd in number.
+fn put_pulses(e: Four, out: &mut [u8])
+    requires { ⌜ now out ≡ spec.info0 ⌝ }
+    ensures { λ _. ⌜ now (out .exit) ≡ spec.info4 e ⌝ }
+{
+    let fa = turned(e.first, MINUS);
+    let m = turned(e.second, 3 - fa);
+    let s = turned(e.third, 3 - m);
+    let l = turned(e.fourth, 3 - s);
+    out[0] = PLUS;
+    out[1] = MINUS;
+    out[10] = symbol(e.first, MINUS);
+    out[13] = fa;
+    out[23] = symbol(e.second, 3 - fa);
+    out[25] = m;
+    out[34] = symbol(e.third, 3 - m);
+    out[36] = s;
+    out[45] = symbol(e.fourth, 3 - s);
+    out[47] = symbol(l == MINUS, PLUS);
+}
+
 // INFO 4 with the echo bits e.
 pub fn info4(e: Four, out: &mut [u8]) -> u8
     ensures reply { λ r. ⌜ r ≡ reply (hasLineLength (now (out .entry))) ⌝ }
     ensures octets { λ _. ⌜ now (out .exit) ≡ leaves (hasLineLength (now (out .entry))) (spec.info4 e) (now (out .entry)) ⌝ }
 {
-    let ones = Four {
-        first: true,
-        second: true,
-        third: true,
-        fourth: true,
-    };
-    let f = DownFields {
-        b1first: 255,
-        b2first: 255,
-        b1second: 255,
-        b2second: 255,
-        e: e,
-        d: ones,
-        a: true,
-        fa: false,
-        m: false,
-        s: false,
-    };
-    write_down(f, out)
+    let reply = info0(out);
+    if reply != 0 {
+        return reply;
+    }
+    put_pulses(e, out);
+    0
 }
 
 // Whether a line is exactly INFO 1.
