@@ -2,7 +2,7 @@
 use mathlib.Core.Bool.{Bool, true, false, cond}
 use mathlib.Core.List.{List, [], _∷_, _++_}
 use mathlib.Core.Path.{_≡_, refl, ap, sym, _∙_}
-use Prim.Native.Nat.{ℕ, zero, suc, _+_, _-_, _*_, _%_, _^_, _≤_, _<_}
+use Prim.Native.Nat.{ℕ, zero, suc, _+_, _-_, _*_, _%_, _≤_, _<_}
 use native.Mathlib.Numerals.{add-one}
 use native.Mathlib.Omega.{arith}
 use lib.Dec.{eqb}
@@ -18,18 +18,6 @@ use Rattle.packing.specs.Packer.{freshPacker, putBit, storeOctet, putBit
 use Rattle.packing.specs.Octets.{shifted}
 use Rattle.packing.proofs.PackerLaws.{put-append, octets-append, put-parts, octets-parts, stuff-parts, body-bit, put-step, octets-step, put-at, put-ones, length-putBits, filled-bits}
 use Rattle.packing.specs.declared.image.Packer.{Packer}
-
--- the weights of an octet's bits
-pub weight-is : (k : ℕ) → k < 8 → getD (1 ∷ 2 ∷ 4 ∷ 8 ∷ 16 ∷ 32 ∷ 64 ∷ 128 ∷ []) k 0 ≡ 2 ^ k
-weight-is zero h = refl
-weight-is (suc zero) h = refl
-weight-is (suc (suc zero)) h = refl
-weight-is (suc (suc (suc zero))) h = refl
-weight-is (suc (suc (suc (suc zero)))) h = refl
-weight-is (suc (suc (suc (suc (suc zero))))) h = refl
-weight-is (suc (suc (suc (suc (suc (suc zero)))))) h = refl
-weight-is (suc (suc (suc (suc (suc (suc (suc zero))))))) h = refl
-weight-is (suc (suc (suc (suc (suc (suc (suc (suc k)))))))) h = absurd (omega arith)
 
 -- the buffer keeps its length
 pub room-kept : (bs : List Bool) (p : Packer) (buf b₁ : List ℕ) → b₁ ≡ putBitsOctets bs p buf → imageRoom ≤ length buf

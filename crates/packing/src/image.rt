@@ -16,8 +16,6 @@ const BODY_BITS: usize = 8 * LONGEST_BODY;
 pub const IMAGE_ROOM: usize = (16 + BODY_BITS + BODY_BITS / 5 + 7) / 8;
 // A flag's bits as an octet.
 const FLAG: u8 = 126;
-// The weights of an octet's bits, low-order bit first.
-const WEIGHTS: [u8; 8] = [1, 2, 4, 8, 16, 32, 64, 128];
 
 // What the image call answers.
 pub enum Imaged {
@@ -59,9 +57,9 @@ pub fn packed_bit(octets: &[u8], i: u16) -> bool
     ensures { λ r. ⌜ r ≡ packedBit (now (octets .entry)) i ⌝ }
 {
     let at = (i / 8) as usize;
-    let k = (i % 8) as usize;
+    let k = (i % 8) as u8;
     if at < octets.len() {
-        octets[at] / WEIGHTS[k] % 2 == 1
+        (octets[at] >> k) % 2 == 1
     } else {
         false
     }

@@ -1,10 +1,6 @@
-use native.Mathlib.Omega.{arith}
-use Prim.Native.Nat.{_%_}
-use lib.Pow.{pow-pos}
 use borrow.Author.Tests.{lt-ltb, le-ltb}
 use Rattle.hdlc.specs.Bits.{bitOf}
 use Rattle.packing.specs.Packing.{packedBit}
-use Rattle.packing.proofs.ImageParts.{weight-is}
 use borrow.Author.Needs.{needs}
 use Rattle.packing.proofs.image.packed_bit.Statement.{statement}
 use Rattle.packing.proofs.image.packed_bit.Tie as tie
@@ -18,19 +14,12 @@ cast-k c = search needs
 shared-slice-read-result : tie.Need-shared-slice-read-result
 shared-slice-read-result c = search needs
 
-array-read-result : tie.Need-array-read-result
-array-read-result c = search needs
-
-div-result : tie.Need-div-result
-div-result c =
-    let k = c .before .before .args .i % 8 in
-    rw (weight-is k (omega arith)) (pow-pos k)
+shr-result : tie.Need-shr-result
+shr-result c = search needs
 
 returns : tie.Need-returns
 unfolding packedBit bitOf
-returns c =
-    let k = c .before .before .args .i % 8 in
-    simp (lt-ltb _ _ (c .before .if1 .taken), weight-is k (omega arith))
+returns c = simp (lt-ltb _ _ (c .before .if1 .taken))
 
 returns-2 : tie.Need-returns-2
 unfolding packedBit
@@ -38,12 +27,4 @@ returns-2 c = simp (le-ltb _ _ (c .if1 .left))
 
 pub packed-bit-spec : {M : Type 1} → statement M
 packed-bit-spec =
-    tie.close
-    (tie.spec
-    cast-at
-    cast-k
-    shared-slice-read-result
-    array-read-result
-    div-result
-    returns
-    returns-2)
+    tie.close (tie.spec cast-at cast-k shared-slice-read-result shr-result returns returns-2)
