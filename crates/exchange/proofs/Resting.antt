@@ -132,18 +132,18 @@ ones-rest state letters heardD ts o h =
 made : (letters : Letters) (state : ℕ) (heardD : Bool) {d1 d2 d3 d4 e d calling frames : Bool} {place done1 done2 : ℕ}
     → d1 ≡ true → d2 ≡ true → d3 ≡ true → d4 ≡ true → place ≡ 0 → done1 ≡ 0 → done2 ≡ 0 → e ≡ true → d ≡ true → calling ≡ false → frames ≡ false
     → record {
-        letters = letters;
-        ds = record { first = d1; second = d2; third = d3; fourth = d4 };
-        state = state;
-        place = place;
-        done1 = done1;
-        done2 = done2;
-        heard = heardD;
-        e = e;
-        d = d;
-        calling = calling;
-        frames = frames;
-      } ≡ firstMoment state letters heardD
+      letters = letters;
+      ds = record { first = d1; second = d2; third = d3; fourth = d4 };
+      state = state;
+      place = place;
+      done1 = done1;
+      done2 = done2;
+      heard = heardD;
+      e = e;
+      d = d;
+      calling = calling;
+      frames = frames;
+    } ≡ firstMoment state letters heardD
 made letters state heardD a b c d p x y e f g h = cc
 
 first-is : (m : Moment) → isFirst m ≡ true → m ≡ firstMoment (m .state) (m .letters) (m .heard)

@@ -176,7 +176,10 @@ impl Moment {
     {
         let ds = self.ds;
         let letters = self.letters;
-        let first = ds.first & ds.second & ds.third & ds.fourth
+        let first = ds.first
+            & ds.second
+            & ds.third
+            & ds.fourth
             & (self.place == 0)
             & (self.done1 == 0)
             & (self.done2 == 0)

@@ -163,8 +163,8 @@ leap left (suc j) k r some h =
     let s = reach-still (k .bus) (k .terminals) left (suc j) some h (leb-false mostPeriods (k .bus .periods .0) more) in
     let first = rw reply at (going-first (suc j) (k .bus) (k .terminals) (k .images) (k .octets) (k .letters) (k .notes)) in
     let last =
-      over (k .images) (k .letters) (ran (suc j) k) (keptAfter (suc j) k) (k .terminals) (k .octets) j (refusedRun 0 (k .bus)) (suc j) (k .notes) first
-      (rw (lt-ltb 0 (suc j) some, more)) (o .opportunities-fit) s (omega arith) in
+    over (k .images) (k .letters) (ran (suc j) k) (keptAfter (suc j) k) (k .terminals) (k .octets) j (refusedRun 0 (k .bus)) (suc j) (k .notes) first
+    (rw (lt-ltb 0 (suc j) some, more)) (o .opportunities-fit) s (omega arith) in
     let none : suc j - suc j ≡ 0 = omega arith in
     let e = going-ends (k .images) (k .letters) (ran (suc j) k) (keptAfter (suc j) k) (refusedRun 0 (leapt (suc j) (k .bus))) (suc j - suc j) (k .terminals) (k .octets) (map (λ (t : Terminal). noNotes) (k .terminals)) last (rw none) in
     record { ran-is = sym (e .0); kept-is = sym (e .1) ∙ rw (map-none (k .terminals), o .eight) }

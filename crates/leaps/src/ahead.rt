@@ -71,7 +71,11 @@ fn farthest(bus: BusRecord, left: u32) -> u32
 {
     if quiet(bus) {
         let asked = clear(bus.periods, one_less(left), MOST_PERIODS as u64);
-        clear(bus.periods, clear(bus.periods, asked, bus.network.t1), bus.network.t2)
+        clear(
+            bus.periods,
+            clear(bus.periods, asked, bus.network.t1),
+            bus.network.t2,
+        )
     } else {
         0
     }

@@ -102,11 +102,7 @@ impl Search {
     pub fn alone_for(self) -> u32
         ensures { λ r. ⌜ r ≡ aloneFor self ⌝ }
     {
-        if self.fits & self.sends {
-            self.over
-        } else {
-            0
-        }
+        if self.fits & self.sends { self.over } else { 0 }
     }
 }
 
