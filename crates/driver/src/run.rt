@@ -17,7 +17,8 @@ use bus_event::event::IMAGES_ROOM;
 use packing::image::LONGEST_BODY;
 use symbols::LINE_LENGTH;
 
-// Nothing says that the input ends, so the turns are counted down, from a number that no run uses up (`RunEnds`).
+// Nothing says that the input ends, so the turns are counted down, from a number that no run uses up (`RunEnds`). The first turn stands before
+// the loop, so that the book that a turn is given is never known to the compiler as a fresh one, which it would take to pieces to copy it.
 fn drive(
     text: &mut [u8],
     room: &mut [u8],
@@ -31,14 +32,15 @@ fn drive(
     ensures { λ r. ⌜ Drives most (now (text .entry)) (now (room .entry)) (now (images .entry)) (now (octets .entry)) (now (letters .entry))
         (now (text .exit)) (now (room .exit)) (now (images .exit)) (now (octets .exit)) (now (letters .exit)) ⌝ }
 {
-    let mut turns = u64::MAX;
-    let mut h = Held {
+    let first = Held {
         progress: Progress::fresh(),
         have: 0,
         why: TEXT,
         whole: false,
         failed: false,
     };
+    let mut h = turn(first, text, room, images, octets, letters, most);
+    let mut turns = u64::MAX - 1;
     while (turns > 0) & (!h.failed & (h.why != OVER)) {
         h = turn(h, text, room, images, octets, letters, most);
         turns -= 1;

@@ -21,14 +21,14 @@ use symbols::PLUS;
 const TOP: u64 = 35184372088832;
 
 // The symbol of a bit, where the next pulse is next.
-pub fn symbol(b: bool, next: u8) -> u8
+fn symbol(b: bool, next: u8) -> u8
     ensures { λ r. ⌜ r ≡ cond b none next ⌝ }
 {
     if b { NONE } else { next }
 }
 
 // The polarity of the next pulse after that bit.
-pub fn turned(b: bool, next: u8) -> u8
+fn turned(b: bool, next: u8) -> u8
     requires { ⌜ next < 4 ⌝ }
     ensures { λ r. ⌜ (r ≡ cond b next (opposite next)) × (r < 4) ⌝ }
 {

@@ -2,7 +2,7 @@
 use mathlib.Core.Path.{_≡_, refl, ap}
 use mathlib.Core.Bool.{Bool, true, false, cond}
 use mathlib.Core.List.{List}
-use Prim.Native.Nat.{ℕ, _-_}
+use Prim.Native.Nat.{ℕ}
 use native.Mathlib.Omega.{arith}
 use lib.Dec.{eqb}
 use lib.ListN.{length, set}
@@ -18,17 +18,19 @@ abbrev laid : ℕ → ℕ → ℕ → ℕ → ℕ → ℕ → ℕ → ℕ → Li
 laid e₁ fa e₂ m e₃ s e₄ l =
     set (set (set (set (set (set (set (set (set (set info0 0 plus) 1 minus) 10 e₁) 13 fa) 23 e₂) 25 m) 34 e₃) 36 s) 45 e₄) 47 l
 
--- the polarity after a bit
-abbrev after : Bool → ℕ → ℕ
-after b next = cond b next (opposite next)
+-- the first pulse behind an E, and the symbol at it
+abbrev behind : Bool → ℕ → ℕ
+behind b last = cond b (opposite last) last
+
+abbrev at : Bool → ℕ → ℕ
+at b last = cond b none (opposite last)
 
 abbrev echoed : Bool → Bool → Bool → Bool → List ℕ
 echoed a b c d =
-    let fa = after a minus in
-    let m = after b (3 - fa) in
-    let s = after c (3 - m) in
-    let l = after d (3 - s) in
-    laid (cond a none minus) fa (cond b none (3 - fa)) m (cond c none (3 - m)) s (cond d none (3 - s)) (cond (eqb l minus) none plus)
+    let fa = behind a plus in
+    let m = behind b fa in
+    let s = behind c m in
+    let l = behind d s in laid (at a plus) fa (at b fa) m (at c m) s (at d s) (at (eqb l minus) minus)
 
 each : (a b c d : Bool) → echoed a b c d ≡ info4 (record { first = a; second = b; third = c; fourth = d })
 unfolding downLine downBits downBody octetBits zeros symbols alternate
@@ -50,9 +52,8 @@ each false false false true = refl
 each false false false false = refl
 
 pub pulses-put : (e : Four) {line : List ℕ} {fa m s l e₁ e₂ e₃ e₄ last : ℕ} → line ≡ info0
-    → fa ≡ after (e .first) minus → m ≡ after (e .second) (3 - fa) → s ≡ after (e .third) (3 - m) → l ≡ after (e .fourth) (3 - s)
-    → e₁ ≡ cond (e .first) none minus → e₂ ≡ cond (e .second) none (3 - fa) → e₃ ≡ cond (e .third) none (3 - m) → e₄ ≡ cond (e .fourth) none (3 - s)
-    → last ≡ cond (eqb l minus) none plus
+    → fa ≡ behind (e .first) plus → m ≡ behind (e .second) fa → s ≡ behind (e .third) m → l ≡ behind (e .fourth) s
+    → e₁ ≡ at (e .first) plus → e₂ ≡ at (e .second) fa → e₃ ≡ at (e .third) m → e₄ ≡ at (e .fourth) s → last ≡ at (eqb l minus) minus
     → set (set (set (set (set (set (set (set (set (set line 0 plus) 1 minus) 10 e₁) 13 fa) 23 e₂) 25 m) 34 e₃) 36 s) 45 e₄) 47 last ≡ info4 e
 pulses-put e z p₁ p₂ p₃ p₄ q₁ q₂ q₃ q₄ q₅ = rw (z, q₅, q₄, q₃, q₂, q₁, p₄, p₃, p₂, p₁) (each (e .first) (e .second) (e .third) (e .fourth))
 

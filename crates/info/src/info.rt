@@ -1,14 +1,14 @@
 // The INFO signals as lines. Each call replies 0, or 2 where what is lent is not 48 long.
+ghost use mathlib.Core.Bool.{cond};
 ghost use mathlib.Core.Path.{_≡_};
 ghost use Prim.Native.Nat.{_<_};
 ghost use lib.ListN.{getD};
+ghost use Rattle.frame.specs.Polarity.{opposite};
 ghost use Rattle.symbols.specs.Symbols.{none, lineLength, hasLineLength, reply, leaves, tested};
 ghost use Rattle.info.specs.Info as spec;
 use frame::fields::DownFields;
 use frame::fields::Four;
 use frame::fields::UpFields;
-use frame::write::symbol;
-use frame::write::turned;
 use frame::write::write_down;
 use frame::write::write_up;
 use symbols::LINE_LENGTH;
@@ -108,26 +108,42 @@ pub fn info3(d: Four, out: &mut [u8]) -> u8
     write_up(f, out)
 }
 
+// The symbol at an E, behind a last pulse.
+fn echo(e: bool, last: u8) -> u8
+    requires { ⌜ last < 4 ⌝ }
+    ensures { λ r. ⌜ r ≡ cond e none (opposite last) ⌝ }
+{
+    if e { NONE } else { 3 - last }
+}
+
+// The first pulse behind that E.
+fn behind_echo(e: bool, last: u8) -> u8
+    requires { ⌜ last < 4 ⌝ }
+    ensures { λ r. ⌜ (r ≡ cond e (opposite last) last) × (r < 4) ⌝ }
+{
+    if e { 3 - last } else { last }
+}
+
 // Puts the pulses of INFO 4 into a line of nones: at F, at the L behind it, at each E that is 0, at FA, at M, at S, and at the last L where
-// the pulses between are odd in number.
+// the pulses between are odd in number. The L behind F counts as a plus: the first pulse behind it is minus.
 fn put_pulses(e: Four, out: &mut [u8])
     requires { ⌜ now out ≡ spec.info0 ⌝ }
     ensures { λ _. ⌜ now (out .exit) ≡ spec.info4 e ⌝ }
 {
-    let fa = turned(e.first, MINUS);
-    let m = turned(e.second, 3 - fa);
-    let s = turned(e.third, 3 - m);
-    let l = turned(e.fourth, 3 - s);
+    let fa = behind_echo(e.first, PLUS);
+    let m = behind_echo(e.second, fa);
+    let s = behind_echo(e.third, m);
+    let l = behind_echo(e.fourth, s);
     out[0] = PLUS;
     out[1] = MINUS;
-    out[10] = symbol(e.first, MINUS);
+    out[10] = echo(e.first, PLUS);
     out[13] = fa;
-    out[23] = symbol(e.second, 3 - fa);
+    out[23] = echo(e.second, fa);
     out[25] = m;
-    out[34] = symbol(e.third, 3 - m);
+    out[34] = echo(e.third, m);
     out[36] = s;
-    out[45] = symbol(e.fourth, 3 - s);
-    out[47] = symbol(l == MINUS, PLUS);
+    out[45] = echo(e.fourth, s);
+    out[47] = echo(l == MINUS, MINUS);
 }
 
 // INFO 4 with the echo bits e.

@@ -1,8 +1,9 @@
--- `drive` meets its contract: the turns so far are a chain (SoFar.antt), and what holds before a turn holds before the next one (Turning.antt).
--- It ends: the turns are counted down. Assumes nothing.
+-- `drive` meets its contract: whatever chain of turns (SoFar.antt) leads to where the loop begins leads on to where it stands, and what holds before
+-- a turn holds before the next one (Turning.antt). It ends: the turns are counted down. Assumes nothing.
 use borrow.Author.Needs.{needs}
 use mathlib.Core.Path.{_≡_, refl, _∙_}
-use Prim.Native.Nat.{_≤_, _<_}
+use mathlib.Core.List.{List}
+use Prim.Native.Nat.{ℕ, _≤_, _<_}
 use lib.ListN.{length}
 use native.Mathlib.Omega.{arith}
 use Rattle.book_line.specs.Line.{longestLine}
@@ -13,8 +14,9 @@ use Rattle.driver.proofs.run.drive.Statement.{statement}
 use Rattle.driver.proofs.run.drive.Tie as tie
 
 abbrev Inv-loop : tie.InvT-loop
-Inv-loop text₀ room₀ images₀ octets₀ letters₀ most turns₀ h₀ text room images octets letters turns h =
-    SoFar most text₀ room₀ images₀ octets₀ letters₀ turns h text room images octets letters
+Inv-loop text₀ room₀ images₀ octets₀ letters₀ most h₀ turns₀ text room images octets letters h turns =
+    ((ts rs is os ls : List ℕ) → SoFar most ts rs is os ls turns₀ h₀ text₀ room₀ images₀ octets₀ letters₀
+    → SoFar most ts rs is os ls turns h text room images octets letters)
     × Going h text images octets letters
     × (longestLine ≤ length text₀)
     × (length text ≡ length text₀)
@@ -25,17 +27,27 @@ Inv-loop text₀ room₀ images₀ octets₀ letters₀ most turns₀ h₀ text 
     × (length letters ≡ length letters₀)
 
 abbrev μ-loop : tie.MeasureT-loop
-μ-loop text₀ room₀ images₀ octets₀ letters₀ most turns₀ h₀ text room images octets letters turns h = turns
+μ-loop text₀ room₀ images₀ octets₀ letters₀ most h₀ turns₀ text room images octets letters h turns = turns
 
 fresh-requires : tie.Need-fresh-requires Inv-loop μ-loop
 fresh-requires c κs = search needs
 
+turn-requires : tie.Need-turn-requires Inv-loop μ-loop
+turn-requires c κs =
+    let fresh = c .before .before .before .before .before in
+    let p = fresh .before .before .before .before .before .before .pre in (starts _ _ _ _ _ (fresh .fresh .ensures) (p .1 .0) (p .1 .1) (p .1 .2), p .0 .0, p .0 .1)
+
+sub-turns : tie.Need-sub-turns Inv-loop μ-loop
+sub-turns c = search needs
+
 loop-holds : tie.Need-loop-holds Inv-loop μ-loop
 loop-holds c =
-    let p = c .before .before .before .before .before .before .pre in (
-      no-turn _ _ _ _ _ _ _ (c .fresh .ensures),
-      starts _ _ _ _ _ (c .fresh .ensures) (p .1 .0) (p .1 .1) (p .1 .2),
-      p .0 .0,
+    let t = c .before .before .before .before .before .before .before .before .before .before in
+    let fresh = t .before .before .before .before .before .before in
+    let p = fresh .before .before .before .before .before .before .pre in (
+      λ ts rs is os ls s. s,
+      goes-on _ _ _ _ _ _ _ _ _ _ _ _ _ (starts _ _ _ _ _ (fresh .fresh .ensures) (p .1 .0) (p .1 .1) (p .1 .2)) (t .turn .ensures),
+      omega (arith, t .turn .kept .1 .0, p .0 .0),
       refl,
       p .0 .1,
       refl,
@@ -44,12 +56,12 @@ loop-holds c =
       refl,
     )
 
-turn-requires : tie.Need-turn-requires Inv-loop μ-loop
-turn-requires c κs =
+turn-requires-2 : tie.Need-turn-requires-2 Inv-loop μ-loop
+turn-requires-2 c κs =
     let i = c .before .before .before .before .before .before .before .before .loop .inv in (i .1, omega (arith, i .2, i .3), i .4)
 
-sub-turns : tie.Need-sub-turns Inv-loop μ-loop
-sub-turns c =
+sub-turns-2 : tie.Need-sub-turns-2 Inv-loop μ-loop
+sub-turns-2 c =
     let y = c .before .before .before .before .before .before .before .before .before .before .before .before .before .before .before .before in
     let l = y .before .before .before .loop in omega (arith, is-due (l .turns) (l .h) (y .if1 .taken) .0)
 
@@ -63,9 +75,9 @@ loop-again c =
     let t = c .before .before .before .before .before .before .before .before .before .before in
     let y = t .before .before .before .before .before .before in
     let i = y .before .before .before .loop .inv in
-    let k = t .turn .kept .1 in (
-      one-more (i .0) (y .if1 .taken) (t .turn .ensures),
-      goes-on _ _ _ _ _ _ _ _ _ _ _ _ _ (i .1) (t .turn .ensures),
+    let k = t .turn2 .kept .1 in (
+      λ ts rs is os ls s. one-more (i .0 ts rs is os ls s) (y .if1 .taken) (t .turn2 .ensures),
+      goes-on _ _ _ _ _ _ _ _ _ _ _ _ _ (i .1) (t .turn2 .ensures),
       i .2,
       k .0 ∙ i .3,
       i .4,
@@ -76,22 +88,31 @@ loop-again c =
     )
 
 same-length : tie.Need-same-length Inv-loop μ-loop
-same-length c = c .before .before .before .loop .inv .3
+same-length c =
+    let l = c .before .before .before in l .loop .inv .3 ∙ l .before .before .before .before .before .before .before .before .before .before .before .turn .kept .1 .0
 
 same-length-2 : tie.Need-same-length-2 Inv-loop μ-loop
-same-length-2 c = c .before .before .before .loop .inv .5
+same-length-2 c =
+    let l = c .before .before .before in l .loop .inv .5 ∙ l .before .before .before .before .before .before .before .before .before .before .before .turn .kept .1 .1 .0
 
 same-length-3 : tie.Need-same-length-3 Inv-loop μ-loop
-same-length-3 c = c .before .before .before .loop .inv .6
+same-length-3 c =
+    let l = c .before .before .before in l .loop .inv .6 ∙ l .before .before .before .before .before .before .before .before .before .before .before .turn .kept .1 .1 .1 .0
 
 same-length-4 : tie.Need-same-length-4 Inv-loop μ-loop
-same-length-4 c = c .before .before .before .loop .inv .7
+same-length-4 c =
+    let l = c .before .before .before in l .loop .inv .7 ∙ l .before .before .before .before .before .before .before .before .before .before .before .turn .kept .1 .1 .1 .1 .0
 
 same-length-5 : tie.Need-same-length-5 Inv-loop μ-loop
-same-length-5 c = c .before .before .before .loop .inv .8
+same-length-5 c =
+    let l = c .before .before .before in l .loop .inv .8 ∙ l .before .before .before .before .before .before .before .before .before .before .before .turn .kept .1 .1 .1 .1 .1 .0
 
 returns : tie.Need-returns Inv-loop μ-loop
-returns c = no-more (c .before .before .before .loop .inv .0) (c .if1 .left)
+returns c =
+    let l = c .before .before .before in
+    let t = l .before .before .before .before .before .before .before .before .before .before .before in
+    let one = one-more (no-turn _ _ _ _ _ _ _ (t .before .before .before .before .before .before .fresh .ensures)) refl (t .turn .ensures) in
+    no-more (l .loop .inv .0 _ _ _ _ _ one) (c .if1 .left)
 
 pub drive-spec : {M : Type 1} → statement M
 drive-spec =
@@ -100,9 +121,11 @@ drive-spec =
     Inv-loop
     μ-loop
     fresh-requires
-    loop-holds
     turn-requires
     sub-turns
+    loop-holds
+    turn-requires-2
+    sub-turns-2
     loop-less
     loop-again
     same-length
