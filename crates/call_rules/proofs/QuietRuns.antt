@@ -7,7 +7,7 @@ use native.Mathlib.Omega.{arith}
 use lib.Dec.{eqb, ltb}
 use borrow.Author.Tests.{eqb-true, eq-eqb, ltb-false}
 use Rattle.cases.proofs.ByCases.{by-test, clash, and-left-false, and-right-false}
-use Rattle.cases.proofs.Operators.{and-both}
+use Rattle.cases.proofs.Operators.{and-both, not-true}
 use Rattle.cells.specs.Notes.{noted}
 use Rattle.cells.specs.declared.notes.Notes.{Notes}
 use Rattle.hdlc.specs.Bits.{numberLowFirst, bitOf}
@@ -85,10 +85,6 @@ quiet now r ns octets h =
       none-noted (r .network .timed) (u .1),
     )
 
-not-so : (a : Bool) → not a ≡ true → a ≡ false
-not-so true h = clash false h refl
-not-so false h = refl
-
 -- what a run goes on by
 goes-by : (last : Ran) (n : ℕ) → goesOn last n ≡ true → (eqb (last .reply) 0 ≡ true) × (last .told ≡ false) × (allRun (last .bus .periods) ≡ false)
 unfolding goesOn
@@ -96,7 +92,7 @@ goes-by last n g =
     let all = and-both _ (not (allRun (last .bus .periods))) g in
     let some = and-both _ (ltb 0 n) (all .0) in
     let first = and-both (eqb (last .reply) 0) (not (last .told)) (some .0) in
-    (first .0, not-so _ (first .1), not-so _ (all .1))
+    (first .0, not-true _ (first .1), not-true _ (all .1))
 
 module _ (k : Kept) where
   quiet-run : (now : ℕ) → periodRan k .told ≡ false → periodTold now (periodRan k) (keptRun k .notes) (keptRun k .octets) ≡ []

@@ -24,6 +24,11 @@ pub not-true : (a : Bool) → not a ≡ true → a ≡ false
 not-true true h = cc
 not-true false h = refl
 
+-- `!a | b`
+pub not-or : (a b : Bool) → (not a || b) ≡ cond a b true
+not-or true b = refl
+not-or false b = refl
+
 -- `!a & b`
 pub without-cond : (a b : Bool) → (not a && b) ≡ cond a false b
 without-cond true b = refl

@@ -1,16 +1,11 @@
 -- Tests as the code of this crate has them.
-use mathlib.Core.Path.{_≡_, refl}
-use mathlib.Core.Bool.{Bool, true, false, cond, not, _&&_, _||_}
+use mathlib.Core.Path.{_≡_}
+use mathlib.Core.Bool.{Bool, true, _&&_}
 use Prim.Native.Nat.{ℕ, _≤_, _*_}
 use lib.Dec.{leb}
 use borrow.Author.Tests.{leb-true}
 use Rattle.cases.proofs.Operators.{and-both}
 use Rattle.timing.specs.Counts.{mostPeriods}
-
--- `!a | b`
-pub not-or : (a b : Bool) → (not a || b) ≡ cond a b true
-not-or true b = refl
-not-or false b = refl
 
 -- two bounds, behind another test
 pub within : (a : Bool) (o n : ℕ) → ((a && leb o (4 * mostPeriods)) && leb n mostPeriods) ≡ true → (o ≤ 4 * mostPeriods) × (n ≤ mostPeriods)

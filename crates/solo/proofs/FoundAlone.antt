@@ -8,7 +8,7 @@ use native.Mathlib.Omega.{arith}
 use lib.Dec.{eqb, ltb, leb}
 use borrow.Author.Tests.{ltb-true, ltb-false, leb-true, leb-false, eqb-true, eq-eqb, ne-eqb, lt-ltb, le-leb}
 use Rattle.cases.proofs.ByCases.{by-test, clash}
-use Rattle.cases.proofs.Operators.{and-both}
+use Rattle.cases.proofs.Operators.{and-both, not-true}
 use Rattle.cells.specs.Cells.{infoIn}
 use Rattle.table_6_2.specs.Table62.{F1, F3, F7, infoSent}
 use Rattle.table_6_3.specs.Table63.{G3}
@@ -24,7 +24,7 @@ use Rattle.solo.specs.Solo.{followedAccess, followed, soloSeat, soloSeat
 use Rattle.solo.specs.Search.{counting, sendingNow, senderAfter, fitsIn, searchedOne, noSearch, searched, allRest, allClear, IsAlone, FoundAlone}
 use Rattle.solo.specs.declared.solo.Solo.{Solo}
 use Rattle.solo.specs.declared.search.Search.{Search}
-use Rattle.solo.proofs.SoloFour.{not-false, followed-in, followed-out}
+use Rattle.solo.proofs.SoloFour.{followed-in, followed-out}
 
 -- ---- A terminal that rests while INFO 4 is heard is in F7 or in F1: it sends no INFO 1.
 rest-quiet : (t : Terminal) → rests (shownBy G3) t ≡ true → eqb (infoIn infoSent (t .state)) 1 ≡ false
@@ -61,7 +61,7 @@ fits-one a t h =
     record {
       rest = inner .0;
       same = λ c k. eqb-true (t .access .count) (a .solo .count) (rw (c, k) at (inner .1));
-      one = λ s. rw s at (not-false (a .sends && sendingNow t) (outer .1));
+      one = λ s. rw s at (not-true (a .sends && sendingNow t) (outer .1));
     }
 
 sender-count : (i : ℕ) (s : Solo) (t : Terminal) → senderAfter i s t .count ≡ cond (counting t) (t .access .count) (s .count)

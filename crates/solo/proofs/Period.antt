@@ -7,7 +7,7 @@ use native.Mathlib.Omega.{arith}
 use lib.Dec.{eqb, ltb, leb}
 use borrow.Author.Tests.{ltb-true, leb-true, leb-false, eqb-true, ne-eqb, le-leb, lt-ltb}
 use Rattle.cases.proofs.ByCases.{by-test}
-use Rattle.cases.proofs.Operators.{and-both}
+use Rattle.cases.proofs.Operators.{and-both, not-true}
 use Rattle.hdlc.specs.Bits.{sameBit}
 use Rattle.dchannel.proofs.AccessLaws.{same-equal}
 use Rattle.cells.specs.Cells.{infoIn}
@@ -35,7 +35,7 @@ use Rattle.solo.specs.Search.{allRest, allClear}
 use Rattle.solo.specs.Period.{exchangeOver, lineOver, terminalsHere, exchangedHere, lineHere, IsPeriod, PeriodAlone, ClearOn}
 use Rattle.solo.specs.declared.solo.Solo.{Solo}
 use Rattle.solo.specs.declared.alone.Alone.{Alone}
-use Rattle.solo.proofs.SoloFour.{not-false, followed-in, followed-out, solo-four}
+use Rattle.solo.proofs.SoloFour.{followed-in, followed-out, solo-four}
 
 -- ---- Timers.
 clear-one : (now n k timer : ℕ) → k < n → (leb timer now || ltb (now + n) timer) ≡ true → (leb timer (now + k) || ltb ((now + k) + 1) timer) ≡ true
@@ -121,10 +121,10 @@ goes-facts images a h =
     let h4 = and-both (quiet && eqb (bus .network .state) G3) (not (bus .hit)) (h3 .0) in
     record {
       in-g3 = eqb-true (bus .network .state) G3 (and-both quiet (eqb (bus .network .state) G3) (h4 .0) .1);
-      no-hit = not-false (bus .hit) (h4 .1);
+      no-hit = not-true (bus .hit) (h4 .1);
       heard-is = same-equal (bus .heard) (a .solo .last) (h3 .1);
       goes = h2 .1;
-      more = not-false (allRun (bus .periods)) (h1 .1);
+      more = not-true (allRun (bus .periods)) (h1 .1);
     }
 
 module _ (images letters : List ℕ) (a : Alone) (ts : List Terminal) (g : Goes images a) where

@@ -7,7 +7,7 @@ use native.Mathlib.Omega.{arith}
 use lib.Dec.{eqb, ltb, leb}
 use borrow.Author.Tests.{lt-ltb, ltb-true, eqb-true, eqb-false, ne-eqb, eq-eqb, lt-leb}
 use Rattle.cases.proofs.ByCases.{by-test, clash}
-use Rattle.cases.proofs.Operators.{and-both}
+use Rattle.cases.proofs.Operators.{and-both, not-true}
 use Rattle.frame.specs.Four.{allFour}
 use Rattle.frame.specs.declared.fields.Four.{Four}
 use Rattle.combining.specs.Hit.{keepLetter, struckBit}
@@ -16,6 +16,7 @@ use Rattle.table_6_2.specs.Table62.{F7, infoSent}
 use Rattle.table_6_3.specs.Table63 as table63
 use Rattle.hdlc.specs.Bits.{sameBit}
 use Rattle.dchannel.specs.Access.{normal1, normal2, countAfter, lowAfter, afterE, lowOf, threshold, mayStart, sendsNext, idles, turn}
+use Rattle.dchannel.proofs.AccessLaws.{same-refl}
 use Rattle.dchannel.specs.declared.access.Access.{Access}
 use Rattle.dchannel.specs.declared.access.Turn.{Turn}
 use Rattle.packing.specs.Octets.{shifted}
@@ -30,14 +31,6 @@ use Rattle.exchange.specs.declared.moment.Moment.{Moment}
 use Rattle.exchange.proofs.Images.{image-at}
 use Rattle.solo.specs.Solo.{countedAt, soloBit, soloTurned, soloTurns, soloAfterFour, soloBits, soloGoes, noLetters, momentOf, followedAccess, followed, soloSeat, soloSeats, senderIn, FourAlone, SoloFour}
 use Rattle.solo.specs.declared.solo.Solo.{Solo}
-
-pub not-false : (b : Bool) → not b ≡ true → b ≡ false
-not-false true h = clash false h refl
-not-false false h = refl
-
-same-self : (b : Bool) → sameBit b b ≡ true
-same-self true = refl
-same-self false = refl
 
 -- ---- The D access, at a C below the lowest threshold.
 module _ (e : Bool) (a : Access) (low : countAfter normal2 e (a .count) < normal1) where
@@ -95,7 +88,7 @@ module _ (e : Bool) (a : Access) (low : countAfter normal2 e (a .count) < normal
       }
   unfolding turn sendsNext
   sends-on next some more is =
-      let same : sameBit e (a .last) ≡ true = rw (← is) (same-self e) in
+      let same : sameBit e (a .last) ≡ true = rw (← is) (same-refl e) in
       rw (lt-ltb 0 (a .sent) some, levels-kept, same, lt-leb (a .length) (a .sent) more)
 
 -- ---- One terminal in F7, with the images that are lent.
@@ -144,7 +137,7 @@ seat-asks : (at length i : ℕ) (t : Terminal) → soloSeat at length i t ≡ tr
 unfolding soloSeat
 seat-asks at length i t h =
     let both = and-both (not (eqb (infoIn infoSent (t .state)) 1)) (inItsPlace at length i t) h in
-    (not-false (eqb (infoIn infoSent (t .state)) 1) (both .0), both .1)
+    (not-true (eqb (infoIn infoSent (t .state)) 1) (both .0), both .1)
 
 -- ---- One opportunity that the sender has alone.
 module _ (images : List ℕ) (s : Solo) (goes : soloTurns s ≡ true) where

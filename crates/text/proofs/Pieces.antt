@@ -113,28 +113,6 @@ module _ (sep : ℕ) (line : List ℕ) (from left end : ℕ) (ends : end ≡ fro
   field-found z =
       let w : end - from ≡ upto sep (drop from line) = omega arith in rw (z, w) (sym (piece-here sep (drop from line)))
 
--- ---- How many pieces.
-length-onto : (c : ℕ) (ps : List (List ℕ)) → 0 < length ps → length (onto c ps) ≡ length ps
-unfolding onto
-length-onto c [] h = absurd (omega arith)
-length-onto c (p ∷ ps) h = refl
-
-module _ (sep : ℕ) (t : List ℕ) (i : ℕ) where
-  pub count-sep : i < length t → getD t i 0 ≡ sep → length (split sep (drop i t)) ≡ suc (length (split sep (drop (i + 1) t)))
-  unfolding split
-  count-sep h e = rw (drop-cons t i 0 h, add-one i) (simp (eq-eqb (getD t i 0) sep e))
-
-  pub count-other : i < length t → (getD t i 0 ≡ sep → ⊥) → length (split sep (drop i t)) ≡ length (split sep (drop (i + 1) t))
-  unfolding split
-  count-other h e =
-      rw (drop-cons t i 0 h, add-one i)
-      (simp (ne-eqb (getD t i 0) sep e)
-      (length-onto (getD t i 0) (split sep (drop (suc i) t)) (split-some sep (drop (suc i) t))))
-
-  pub count-end : length t ≤ i → length (split sep (drop i t)) ≡ 1
-  unfolding split
-  count-end h = rw (drop-of-length-le t h)
-
 -- ---- A text cut at its separators, the piece at `from` ending at `end`.
 module _ (sep : ℕ) (t : List ℕ) (from end : ℕ) (ends : end ≡ from + upto sep (drop from t)) where
   pub cut-here : end < length t → split sep (drop from t) ≡ take (end - from) (drop from t) ∷ split sep (drop (end + 1) t)

@@ -2,7 +2,6 @@
 use crate::piece::long_piece_end;
 use crate::piece::piece_end;
 ghost use mathlib.Core.Path.{_≡_};
-ghost use lib.ListN.{length};
 ghost use Rattle.text.specs.Text as spec;
 
 // What stands between two fields.
@@ -24,19 +23,4 @@ pub fn field(line: &[u8], which: usize) -> &[u8]
     }
     let end = long_piece_end(line, from, SPACE);
     &line[from..end]
-}
-
-// How many fields a line has.
-pub fn field_count(line: &[u8]) -> usize
-    ensures { λ r. ⌜ r ≡ length (spec.fields (now (line .entry))) ⌝ }
-{
-    let mut n: usize = 1;
-    let mut i: usize = 0;
-    while i < line.len() {
-        if line[i] == SPACE {
-            n += 1;
-        }
-        i += 1;
-    }
-    n
 }

@@ -1,15 +1,10 @@
 -- `exchange::rest::part_rests` meets its contract.
-use mathlib.Core.Path.{_≡_, refl}
-use mathlib.Core.Bool.{Bool, true, false, cond, not, _&&_, _||_, and-true}
+use mathlib.Core.Bool.{and-true}
+use Rattle.cases.proofs.Operators.{not-or}
 use borrow.Author.Needs.{needs}
 use Rattle.exchange.specs.Rest.{partRests}
 use Rattle.exchange.proofs.rest.part_rests.Statement.{statement}
 use Rattle.exchange.proofs.rest.part_rests.Tie as tie
-
-not-or : (f a : Bool) → (not f || a) ≡ cond f (a && true) true
-not-or true true = refl
-not-or true false = refl
-not-or false a = refl
 
 info-sent-requires : tie.Need-info-sent-requires
 info-sent-requires c κs = search needs
@@ -19,7 +14,7 @@ at-rest-requires c κs = search needs
 
 returns : tie.Need-returns
 unfolding partRests
-returns c = rw (c .at-rest .ensures, c .before .before .info-sent .ensures, not-or)
+returns c = rw (c .at-rest .ensures, c .before .before .info-sent .ensures, not-or, and-true)
 
 pub part-rests-spec : {M : Type 1} → statement M
 part-rests-spec = tie.close (tie.spec info-sent-requires at-rest-requires returns)

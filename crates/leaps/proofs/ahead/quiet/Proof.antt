@@ -1,5 +1,5 @@
 -- `leaps::ahead::quiet` meets its contract.
-use Rattle.leaps.proofs.Tests.{not-or}
+use Rattle.cases.proofs.Operators.{not-or}
 use Rattle.leaps.specs.Still.{quiet}
 use borrow.Author.Needs.{needs}
 use Rattle.leaps.proofs.ahead.quiet.Statement.{statement}
