@@ -1,20 +1,28 @@
 -- What a bit more leaves of what the reader has said, by its answer.
-use mathlib.Core.Bool.{Bool}
+use mathlib.Core.Bool.{Bool, true, false, not, _&&_}
 use mathlib.Core.List.{List, [], _∷_}
 use mathlib.Core.Logic.{⊎-elim}
 use mathlib.Core.Path.{_≡_, refl}
 use Prim.Native.Nat.{ℕ}
 use native.Mathlib.Omega.{arith}
+use lib.Dec.{eqb, ltb}
+use lib.ListN.{length}
+use borrow.Author.Tests.{eqb-true}
 use types.Run.{OneOf}
 use denote.Enum.Declared.{tagOf}
+use Rattle.cases.proofs.ByCases.{by-test}
+use Rattle.cases.proofs.Operators.{and-both, not-true}
+use Rattle.hdlc.specs.Image.{longestBody}
 use Rattle.cells.specs.Notes.{HEARD, TORN}
+use Rattle.frame.specs.Four.{allFour}
 use Rattle.frame.specs.declared.fields.Four.{Four}
-use Rattle.reader.specs.Counters.{readBit}
+use Rattle.reader.specs.Counters.{freshReader, afterBit, answerTo, fills, storeWhole, readBit, readOctets}
+use Rattle.reader.specs.declared.Reader.{Reader}
 use Rattle.reader.specs.declared.Read.{Read}
 use Rattle.reader.specs.declared.ReaderAnswer.{ReaderAnswer}
 use Rattle.reader.specs.declared.ReaderAnswer.the-variants.{Nothing, Heard, Torn, Refused}
 use Rattle.reader.proofs.ReaderAnswer.{the-type}
-use Rattle.bus_record.specs.Reading.{saidWith, spokenTo, octetsTo, spokenToFour, octetsToFour}
+use Rattle.bus_record.specs.Reading.{quietReading, saidWith, spokenTo, octetsTo, spokenToFour, octetsToFour, readerWaits}
 use Rattle.bus_record.specs.declared.reading.Spoken.{Spoken}
 
 module _ (b : Bool) (buf : List ℕ) (s : Spoken) (x : Read) (e : x ≡ readBit b buf (s .reader)) where
@@ -52,3 +60,53 @@ pub four-read : (ds : Four) (buf b1 b2 b3 b4 : List ℕ) (s s1 s2 s3 s4 : Spoken
 unfolding spokenToFour octetsToFour
 four-read ds buf b1 b2 b3 b4 s s1 s2 s3 s4 e1 f1 e2 f2 e3 f3 e4 f4 =
     (simp (e4, f3, e3, f2, e2, f1, e1), simp (f4, f3, e3, f2, e2, f1, e1))
+
+-- ---- The reader: 1s after seven 1s.
+module _ (buf : List ℕ) where
+  one-said : spokenTo true buf (quietReading freshReader) ≡ quietReading freshReader
+  unfolding spokenTo readBit afterBit answerTo saidWith
+  one-said = by-test (ltb (length buf) longestBody) (λ t. rw t) (λ t. rw t)
+
+  one-stored : octetsTo true (quietReading freshReader) buf ≡ buf
+  unfolding octetsTo readOctets storeWhole fills
+  one-stored = by-test (ltb (length buf) longestBody) (λ t. rw t) (λ t. rw t)
+
+  four-said : spokenToFour (allFour true) buf (quietReading freshReader) ≡ quietReading freshReader
+  unfolding spokenToFour
+  four-said = rw (one-stored, one-said, one-stored, one-said, one-stored, one-said, one-said)
+
+  four-stored : octetsToFour (allFour true) (quietReading freshReader) buf ≡ buf
+  unfolding octetsToFour
+  four-stored = rw (one-stored, one-said, one-stored, one-said, one-stored, one-said, one-stored)
+
+waits-fresh : (r : Reader) → readerWaits r ≡ true → r ≡ freshReader
+unfolding readerWaits
+waits-fresh r h =
+    let a = and-both _ (not (r .zero)) h in
+    let b = and-both _ (not (r .opened)) (a .0) in
+    let c = and-both _ (eqb (r .octet) 0) (b .0) in
+    let d = and-both (eqb (r .bits) 0) (eqb (r .ones) 7) (c .0) in
+    made (eqb-true _ _ (d .0)) (eqb-true _ _ (d .1)) (eqb-true _ _ (c .1)) (not-true _ (b .1)) (not-true _ (a .1))
+  where
+    made : {bits ones octet : ℕ} {opened zero : Bool} → bits ≡ 0 → ones ≡ 7 → octet ≡ 0 → opened ≡ false → zero ≡ false
+        → record { bits = bits; ones = ones; octet = octet; opened = opened; zero = zero } ≡ freshReader
+    made p q r s t = cc
+
+-- so a reader that waits reads four 1s as if nothing came
+pub four-ones : (buf : List ℕ) (r : Reader) → readerWaits r ≡ true
+    → (spokenToFour (allFour true) buf (quietReading r) ≡ quietReading r) × (octetsToFour (allFour true) (quietReading r) buf ≡ buf)
+four-ones buf r h = let w = waits-fresh r h in (rw w (four-said buf), rw w (four-stored buf))
+
+-- as the code finds it
+pub ones-read : (buf : List ℕ) (r : Reader) (ds : Four) → (readerWaits r && (((ds .first && ds .second) && ds .third) && ds .fourth)) ≡ true
+    → (spokenToFour ds buf (quietReading r) ≡ quietReading r) × (octetsToFour ds (quietReading r) buf ≡ buf)
+ones-read buf r ds h =
+    let p = and-both (readerWaits r) (((ds .first && ds .second) && ds .third) && ds .fourth) h in
+    let q = and-both ((ds .first && ds .second) && ds .third) (ds .fourth) (p .1) in
+    let s = and-both (ds .first && ds .second) (ds .third) (q .0) in
+    let t = and-both (ds .first) (ds .second) (s .0) in
+    let all : ds ≡ allFour true = four (t .0) (t .1) (s .1) (q .1) in
+    rw all (four-ones buf r (p .0))
+  where
+    four : {a b c d : Bool} → a ≡ true → b ≡ true → c ≡ true → d ≡ true → record { first = a; second = b; third = c; fourth = d } ≡ allFour true
+    four a b c d = cc

@@ -1,6 +1,6 @@
 -- The network end reads the four D of a period in G3 (document 01, "D access (6.1)"), bit by bit.
 -- This is how the code goes; crate `call_rules`' law `step-shown` holds it to document 01's period.
-use mathlib.Core.Bool.{Bool, cond}
+use mathlib.Core.Bool.{Bool, cond, not, _&&_}
 use mathlib.Core.List.{List}
 use Prim.Native.Nat.{ℕ}
 use lib.Dec.{eqb}
@@ -51,6 +51,10 @@ octetsToFour ds s buf =
     let s3 = spokenTo (ds .third) buf2 s2 in
     let buf3 = octetsTo (ds .third) s2 buf2 in
     octetsTo (ds .fourth) s3 buf3
+
+-- a reader that waits for a flag, after seven 1s or more: further 1s change nothing (SpokenLaws `four-ones`)
+unfoldable pub readerWaits : Reader → Bool
+readerWaits r = (((eqb (r .bits) 0 && eqb (r .ones) 7) && eqb (r .octet) 0) && not (r .opened)) && not (r .zero)
 
 -- "In G3 the network reads D"
 unfoldable pub readIn : ℕ → Four → List ℕ → Reader → Spoken

@@ -1,6 +1,6 @@
 // The network end reads the four D of a period.
 ghost use mathlib.Core.Path.{_≡_};
-ghost use Rattle.bus_record.specs.Reading.{quietReading, spokenTo, octetsTo, readIn, octetsIn};
+ghost use Rattle.bus_record.specs.Reading.{quietReading, spokenTo, octetsTo, readerWaits, spokenToFour, octetsToFour, readIn, octetsIn};
 use cells::notes::HEARD;
 use cells::notes::TORN;
 use frame::fields::Four;
@@ -54,6 +54,23 @@ impl Spoken {
     }
 }
 
+// Whether a reader waits for a flag, after seven 1s or more: further 1s change nothing.
+pub fn waits(reader: Reader) -> bool
+    ensures { λ r. ⌜ r ≡ readerWaits reader ⌝ }
+{
+    (reader.bits == 0) & (reader.ones == 7) & (reader.octet == 0) & !reader.opened & !reader.zero
+}
+
+// The four D of a period.
+fn read_four(start: Spoken, ds: Four, octets: &mut [u8]) -> Spoken
+    ensures { λ r. ⌜ (r ≡ spokenToFour ds (now (octets .entry)) start) × (now (octets .exit) ≡ octetsToFour ds start (now (octets .entry))) ⌝ }
+{
+    let first = start.read_on(ds.first, octets);
+    let second = first.read_on(ds.second, octets);
+    let third = second.read_on(ds.third, octets);
+    third.read_on(ds.fourth, octets)
+}
+
 // In G3 the four D of a period are read.
 pub fn read_in(state: u8, reader: Reader, ds: Four, octets: &mut [u8]) -> Spoken
     ensures { λ r. ⌜ (r ≡ readIn state ds (now (octets .entry)) reader) × (now (octets .exit) ≡ octetsIn state ds reader (now (octets .entry))) ⌝ }
@@ -62,8 +79,8 @@ pub fn read_in(state: u8, reader: Reader, ds: Four, octets: &mut [u8]) -> Spoken
     if state != G3 {
         return start;
     }
-    let first = start.read_on(ds.first, octets);
-    let second = first.read_on(ds.second, octets);
-    let third = second.read_on(ds.third, octets);
-    third.read_on(ds.fourth, octets)
+    if waits(reader) & (ds.first & ds.second & ds.third & ds.fourth) {
+        return start;
+    }
+    read_four(start, ds, octets)
 }

@@ -6,11 +6,9 @@ use mathlib.Core.List.{List, [], _∷_, map}
 use Prim.Native.Nat.{ℕ, suc, _+_, _*_, _≤_, _<_}
 use native.Mathlib.Omega.{arith}
 use lib.Dec.{eqb, ltb, leb}
-use lib.ListN.{length}
 use borrow.Author.Tests.{eqb-true, eq-eqb, ne-eqb, le-leb, lt-leb, leb-true}
 use Rattle.cases.proofs.ByCases.{by-test, clash}
 use Rattle.cases.proofs.Operators.{and-both, not-true}
-use Rattle.hdlc.specs.Image.{longestBody}
 use Rattle.walks.specs.Over.{mapFrom, foldFrom}
 use Rattle.frame.specs.Four.{allFour}
 use Rattle.combining.specs.Hit.{keepLetter}
@@ -30,8 +28,6 @@ use Rattle.network.specs.Network as network
 use Rattle.network.specs.declared.Network.{Network}
 use Rattle.network.specs.declared.NetworkStep.{NetworkStep}
 use Rattle.terminal.specs.declared.Terminal.{Terminal}
-use Rattle.reader.specs.Counters.{freshReader, afterBit, answerTo, fills, storeWhole, readBit, readOctets}
-use Rattle.reader.specs.declared.Reader.{Reader}
 use Rattle.bus.specs.Quick.{sentE, shownBy, shownFrom}
 use Rattle.exchange.specs.Rest.{partRests, allRest, anyFrames, eSent, restMoment, RestsThrough}
 use Rattle.exchange.specs.Shown.{lettersOf}
@@ -41,48 +37,18 @@ use Rattle.listening.specs.declared.hears.UnitNotes.{UnitNotes}
 use Rattle.listening.specs.declared.hears.HeardOne.{HeardOne}
 use Rattle.listening.proofs.Rests.{one-rests}
 use Rattle.bus_record.specs.Echo.{hitIn, firstMoment, heardDown}
-use Rattle.bus_record.specs.Reading.{quietReading, saidWith, spokenTo, octetsTo, spokenToFour, octetsToFour, readIn, octetsIn}
+use Rattle.bus_record.specs.Reading.{quietReading, readerWaits, readIn, octetsIn}
+use Rattle.bus_record.proofs.SpokenLaws.{four-ones}
 use Rattle.bus_record.specs.NetworkSide.{leavesG3, readerAfter, hears, timers, networkListens, countedAfter, anyNote, ranWith, ranAfter, octetsAfter, noNotes, refusedRun}
 use Rattle.bus_record.specs.declared.record.BusRecord.{BusRecord}
 use Rattle.call_rules.specs.Step.{stepMoment, stepExchanged, stepLine, stepTerminals, stepNotes, stepTold, stepRan, stepOctets}
-use Rattle.leaps.specs.Still.{networkRests, readerWaits, quiet, countedOver, leapt}
+use Rattle.leaps.specs.Still.{networkRests, quiet, countedOver, leapt}
 use Rattle.leaps.proofs.Stays.{Stays, AllStay, Still}
 
 -- ---- Timers.
 next-is : (p : Periods) → p .0 < mostPeriods → nextPeriod p ≡ atPeriod (p .0 + 1)
 unfolding nextPeriod
 next-is p l = rw (lt-leb mostPeriods (p .0) l)
-
--- ---- The reader: 1s after seven 1s.
-module _ (buf : List ℕ) where
-  one-said : spokenTo true buf (quietReading freshReader) ≡ quietReading freshReader
-  unfolding spokenTo readBit afterBit answerTo saidWith
-  one-said = by-test (ltb (length buf) longestBody) (λ t. rw t) (λ t. rw t)
-
-  one-stored : octetsTo true (quietReading freshReader) buf ≡ buf
-  unfolding octetsTo readOctets storeWhole fills
-  one-stored = by-test (ltb (length buf) longestBody) (λ t. rw t) (λ t. rw t)
-
-  four-said : spokenToFour (allFour true) buf (quietReading freshReader) ≡ quietReading freshReader
-  unfolding spokenToFour
-  four-said = rw (one-stored, one-said, one-stored, one-said, one-stored, one-said, one-said)
-
-  four-stored : octetsToFour (allFour true) (quietReading freshReader) buf ≡ buf
-  unfolding octetsToFour
-  four-stored = rw (one-stored, one-said, one-stored, one-said, one-stored, one-said, one-stored)
-
-waits-fresh : (r : Reader) → readerWaits r ≡ true → r ≡ freshReader
-unfolding readerWaits
-waits-fresh r h =
-    let a = and-both _ (not (r .zero)) h in
-    let b = and-both _ (not (r .opened)) (a .0) in
-    let c = and-both _ (eqb (r .octet) 0) (b .0) in
-    let d = and-both (eqb (r .bits) 0) (eqb (r .ones) 7) (c .0) in
-    made (eqb-true _ _ (d .0)) (eqb-true _ _ (d .1)) (eqb-true _ _ (c .1)) (not-true _ (b .1)) (not-true _ (a .1))
-  where
-    made : {bits ones octet : ℕ} {opened zero : Bool} → bits ≡ 0 → ones ≡ 7 → octet ≡ 0 → opened ≡ false → zero ≡ false
-        → record { bits = bits; ones = ones; octet = octet; opened = opened; zero = zero } ≡ freshReader
-    made p q r s t = cc
 
 -- ---- The network end: hearing, then its timers.
 module _ (now t1 t2 : ℕ) where
@@ -237,7 +203,7 @@ module _ (images octets letters : List ℕ) (j : ℕ) (b : BusRecord) (ts : List
   unfolding readIn
   read-is =
       by-test (eqb state G3)
-      (λ t. let w = waits-fresh (b .reader) (rw t at (parts .2)) in rw (t, w) (four-said octets))
+      (λ t. rw t (four-ones octets (b .reader) (rw t at (parts .2)) .0))
       (λ t. rw t)
 
   pub still-octets : stepOctets b ts images octets letters ≡ octets
@@ -245,7 +211,7 @@ module _ (images octets letters : List ℕ) (j : ℕ) (b : BusRecord) (ts : List
   still-octets =
       rw moment-is
       (by-test (eqb state G3)
-      (λ t. let w = waits-fresh (b .reader) (rw t at (parts .2)) in rw (t, w) (four-stored octets))
+      (λ t. rw t (four-ones octets (b .reader) (rw t at (parts .2)) .1))
       (λ t. rw t))
 
   counted-is : countedAfter state (b .opportunities) ≡ countedOver state 1 (b .opportunities)

@@ -20,9 +20,10 @@ use Rattle.reader.specs.declared.Reader.{Reader}
 use Rattle.bus.specs.Quick.{shownBy}
 use Rattle.exchange.specs.Rest.{partRests}
 use Rattle.listening.specs.Hears.{rests}
+use Rattle.bus_record.specs.Reading.{readerWaits}
 use Rattle.bus_record.specs.Record.{freshRecord}
 use Rattle.bus_record.specs.declared.record.BusRecord.{BusRecord}
-use Rattle.leaps.specs.Still.{networkRests, readerWaits, quiet, farthest, firstAhead, overWith, alsoAhead, reached, reach, countedOver, leapt}
+use Rattle.leaps.specs.Still.{networkRests, quiet, farthest, firstAhead, overWith, alsoAhead, reached, reach, countedOver, leapt}
 
 -- ---- Units.
 -- a network end in a state, aligned or not, after 1,000 periods, with T1 due at a period and a reader

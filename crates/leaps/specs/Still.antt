@@ -14,10 +14,10 @@ use Rattle.timing.specs.Timers.{clear}
 use Rattle.timing.specs.declared.counts.Opportunities.{Opportunities}
 use Rattle.network.specs.declared.Network.{Network}
 use Rattle.terminal.specs.declared.Terminal.{Terminal}
-use Rattle.reader.specs.declared.Reader.{Reader}
 use Rattle.bus.specs.Quick.{shownBy}
 use Rattle.exchange.specs.Rest.{partRests}
 use Rattle.listening.specs.Hears.{rests}
+use Rattle.bus_record.specs.Reading.{readerWaits}
 use Rattle.bus_record.specs.declared.record.BusRecord.{BusRecord}
 use Rattle.leaps.specs.declared.ahead.Ahead.{Ahead}
 
@@ -30,10 +30,6 @@ networkRests frames n =
     && cond (eqb (n .state) G3)
     (n .alignment .aligned && frames)
     ((not (n .alignment .aligned) && not frames) && (eqb (n .state) G1 || eqb (n .state) G2))
-
--- the reader waits for a flag, after seven 1s or more
-unfoldable pub readerWaits : Reader → Bool
-readerWaits r = (((eqb (r .bits) 0 && eqb (r .ones) 7) && eqb (r .octet) 0) && not (r .opened)) && not (r .zero)
 
 -- no hit is pending, D was 1, and in G3 the reader waits
 unfoldable pub quiet : BusRecord → Bool

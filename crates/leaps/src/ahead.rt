@@ -3,12 +3,12 @@ ghost use mathlib.Core.Path.{_≡_};
 ghost use Prim.Native.Nat.{_-_};
 ghost use Rattle.leaps.specs.Still as spec;
 use bus_record::echo::shown_by;
+use bus_record::reading::waits;
 use bus_record::record::BusRecord;
 use exchange::rest::part_rests;
 use hearing::heard::Downward;
 use listening::hears::rests;
 use network::Network;
-use reader::Reader;
 use table_6_2::info_sent;
 use table_6_3::G1;
 use table_6_3::G2;
@@ -30,19 +30,12 @@ pub struct Ahead {
     pub frames: bool,
 }
 
-// Whether the reader waits for a flag, after seven 1s or more.
-fn reader_waits(reader: Reader) -> bool
-    ensures { λ r. ⌜ r ≡ spec.readerWaits reader ⌝ }
-{
-    (reader.bits == 0) & (reader.ones == 7) & (reader.octet == 0) & !reader.opened & !reader.zero
-}
-
 // Whether no hit is pending, D was 1, and in G3 the reader waits.
 fn quiet(bus: BusRecord) -> bool
     ensures { λ r. ⌜ r ≡ spec.quiet bus ⌝ }
 {
     let reader = bus.reader;
-    !bus.hit & bus.heard & ((bus.network.state != G3) | reader_waits(reader))
+    !bus.hit & bus.heard & ((bus.network.state != G3) | waits(reader))
 }
 
 // Whether the network end hears what it has heard before, where `frames` is whether any terminal sends INFO 3 and none sends INFO 1.

@@ -1,7 +1,8 @@
--- `read_in` meets its contract: outside G3 nothing is read.
+-- `read_in` meets its contract: outside G3 nothing is read, and 1s change nothing in a reader that waits.
+use mathlib.Core.Path.{sym, _∙_}
 use borrow.Author.Tests.{eq-eqb, ne-eqb}
 use Rattle.bus_record.specs.Reading.{readIn, octetsIn}
-use Rattle.bus_record.proofs.SpokenLaws.{four-read}
+use Rattle.bus_record.proofs.SpokenLaws.{ones-read}
 use borrow.Author.Needs.{needs}
 use Rattle.bus_record.proofs.reading.read_in.Statement.{statement}
 use Rattle.bus_record.proofs.reading.read_in.Tie as tie
@@ -13,32 +14,30 @@ returns : tie.Need-returns
 unfolding readIn octetsIn
 returns c = (simp (ne-eqb _ _ (c .if1 .taken)) (c .before .quiet .ensures), simp (ne-eqb _ _ (c .if1 .taken)))
 
-read-on-requires : tie.Need-read-on-requires
-read-on-requires c κs = search needs
-
-read-on-requires-2 : tie.Need-read-on-requires-2
-read-on-requires-2 c κs = search needs
-
-read-on-requires-3 : tie.Need-read-on-requires-3
-read-on-requires-3 c κs = search needs
-
-read-on-requires-4 : tie.Need-read-on-requires-4
-read-on-requires-4 c κs = search needs
-
-same-length : tie.Need-same-length
-same-length c = search needs
+waits-requires : tie.Need-waits-requires
+waits-requires c κs = search needs
 
 returns-2 : tie.Need-returns-2
 unfolding readIn octetsIn
 returns-2 c =
-    let fourth = c .before .before in
-    let third = fourth .before .before .before .before in
-    let second = third .before .before .before .before in
-    let first = second .before .before .before .before in
-    let in-g3 = first .before .before in
+    let waited = c .before .before .before .before in
+    let in-g3 = waited .before in
     let start = in-g3 .before .before .before in
-    let read = four-read (start .args .ds) (start .args .octets .now) _ _ _ _ _ _ _ _ _ (first .read-on .ensures .0) (first .read-on .ensures .1) (second .read-on2 .ensures .0) (second .read-on2 .ensures .1) (third .read-on3 .ensures .0) (third .read-on3 .ensures .1) (fourth .read-on4 .ensures .0) (fourth .read-on4 .ensures .1) in
-    (simp (eq-eqb _ _ (in-g3 .if1 .left), ← in-g3 .before .quiet .ensures) (read .0), simp (eq-eqb _ _ (in-g3 .if1 .left), ← in-g3 .before .quiet .ensures) (read .1))
+    let r = ones-read (start .args .octets .now) (start .args .reader) (start .args .ds) (rw (waited .waits .ensures) at (c .if2 .taken)) in
+    (simp (eq-eqb _ _ (in-g3 .if1 .left)) (in-g3 .before .quiet .ensures ∙ sym (r .0)), simp (eq-eqb _ _ (in-g3 .if1 .left)) (sym (r .1)))
+
+read-four-requires : tie.Need-read-four-requires
+read-four-requires c κs = search needs
+
+same-length : tie.Need-same-length
+same-length c = search needs
+
+returns-3 : tie.Need-returns-3
+unfolding readIn octetsIn
+returns-3 c =
+    let four = c .before .before in
+    let in-g3 = four .before .before .before .before .before .before .before in
+    (simp (eq-eqb _ _ (in-g3 .if1 .left), ← in-g3 .before .quiet .ensures) (four .read-four .ensures .0), simp (eq-eqb _ _ (in-g3 .if1 .left), ← in-g3 .before .quiet .ensures) (four .read-four .ensures .1))
 
 pub read-in-spec : {M : Type 1} → statement M
 read-in-spec =
@@ -46,9 +45,8 @@ read-in-spec =
     (tie.spec
     quiet-requires
     returns
-    read-on-requires
-    read-on-requires-2
-    read-on-requires-3
-    read-on-requires-4
+    waits-requires
+    returns-2
+    read-four-requires
     same-length
-    returns-2)
+    returns-3)

@@ -5,12 +5,12 @@ use borrow.Author.Needs.{needs}
 use Rattle.leaps.proofs.ahead.quiet.Statement.{statement}
 use Rattle.leaps.proofs.ahead.quiet.Tie as tie
 
-reader-waits-requires : tie.Need-reader-waits-requires
-reader-waits-requires c κs = search needs
+waits-requires : tie.Need-waits-requires
+waits-requires c κs = search needs
 
 returns : tie.Need-returns
 unfolding quiet
-returns c = rw (c .reader-waits .ensures, not-or)
+returns c = rw (c .waits .ensures, not-or)
 
 pub quiet-spec : {M : Type 1} → statement M
-quiet-spec = tie.close (tie.spec reader-waits-requires returns)
+quiet-spec = tie.close (tie.spec waits-requires returns)
