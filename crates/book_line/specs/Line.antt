@@ -122,7 +122,8 @@ numberOf f = cond (isNumber f) (Number.Is (number f)) Number.Wrong
 unfoldable pub judged : List ℕ → Judged
 judged line = cond (formed line) (Judged.Entry (periodOf line) (unitOf line) (eventOf line)) Judged.Wrong
 
--- What four fields say: so it is with a line's, as the code cuts it.
+-- What four fields say. This is how the code goes: it is `judged` where they are the fields of a line of right length (proofs/Judging.antt
+-- `cut-judged`).
 unfoldable pub judgedFields : List ℕ → List ℕ → List ℕ → List ℕ → Judged
 judgedFields period unit name value =
     cond (isNumber period && isNumber unit && (not (eqb (eventNamed name) 0) && valueFits (eventNamed name) value))

@@ -17,6 +17,7 @@ use Rattle.reader.specs.Counters.{freshReader}
 use Rattle.reader.specs.declared.Reader.{Reader}
 use Rattle.bus.specs.Quick.{shownFrom}
 use Rattle.exchange.specs.declared.moment.Moment.{Moment}
+pub use Rattle.listening.specs.Hears.{noNotes}
 use Rattle.listening.specs.declared.hears.UnitNotes.{UnitNotes}
 use Rattle.bus_record.specs.Reading.{readIn, octetsIn}
 use Rattle.bus_record.specs.declared.record.BusRecord.{BusRecord}
@@ -83,9 +84,6 @@ ranAfter r m buf told =
 
 unfoldable pub octetsAfter : BusRecord → Moment → List ℕ → List ℕ
 octetsAfter r m buf = octetsIn (r .network .state) (m .ds) (r .reader) buf
-
-abbrev pub noNotes : UnitNotes
-noNotes = record { heard = packedNotes []; timed = packedNotes [] }
 
 -- nothing is run: the record as it is, with a reply
 unfoldable pub refusedRun : ℕ → BusRecord → Ran

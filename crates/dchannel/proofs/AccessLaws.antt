@@ -1,6 +1,6 @@
 -- The sentences of document 01, "D access (6.1)", about one terminal's access, each a lemma over every record, for normal levels x1
 -- of class 1 and x2 of class 2.
-use mathlib.Core.Bool.{Bool, true, false, cond, not, _&&_, true≢false, Bool·beq}
+use mathlib.Core.Bool.{Bool, true, false, cond, not, true≢false, Bool·beq}
 use mathlib.Core.Path.{_≡_, refl, sym, ap, _∙_, subst}
 use mathlib.Core.Logic.{_↔_, _⊎_, inl, inr}
 use mathlib.Core.List.{List, [], _∷_, _++_}

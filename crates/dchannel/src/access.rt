@@ -6,9 +6,9 @@ ghost use Rattle.dchannel.specs.Handing.{handed, left};
 ghost use Rattle.dchannel.specs.Ranges.{accessInRange};
 
 // The C at which class 1 starts at its normal level. The low level is one more.
-const NORMAL_1: u8 = 8;
+pub const NORMAL_1: u8 = 8;
 // The same for class 2.
-const NORMAL_2: u8 = 10;
+pub const NORMAL_2: u8 = 10;
 // The most octets of a body.
 const LONGEST_BODY: u16 = 266;
 // The bits of the shortest image: two flags and one octet.

@@ -18,7 +18,7 @@ use packing::image::LONGEST_BODY;
 use symbols::LINE_LENGTH;
 
 // Nothing says that the input ends, so the turns are counted down, from a number that no run uses up (`RunEnds`). The first turn stands before
-// the loop, so that the book that a turn is given is never known to the compiler as a fresh one, which it would take to pieces to copy it.
+// the loop: where the compiler sees a fresh book go into the loop, it copies the book's fields one by one, at every turn.
 fn drive(
     text: &mut [u8],
     room: &mut [u8],

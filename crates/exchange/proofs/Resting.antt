@@ -18,7 +18,7 @@ use Rattle.dchannel.specs.Access.{normal1, normal2, atRest, idles}
 use Rattle.dchannel.proofs.AccessLaws.{rests}
 use Rattle.terminal.specs.declared.Terminal.{Terminal}
 use Rattle.walks.specs.Over.{mapFrom, foldFrom}
-use Rattle.bus.specs.Exchange.{inF7, turnOf, turned, dOf}
+use Rattle.bus.specs.Exchange.{turnOf, turned, dOf}
 use Rattle.exchange.specs.Moment.{firstMoment, begun, also, combinedD, ended}
 use Rattle.exchange.specs.Part.{seatIn, turnedIn, doneIn, goneThrough}
 use Rattle.exchange.specs.Opportunities.{momentAfter, terminalsAfter, momentAfterFour, terminalsAfterFour}

@@ -43,7 +43,7 @@ alsoRests i r t = record { still = r .still && partRests true t; frames = r .fra
 unfoldable pub restOf : List Terminal → Rest
 restOf ts = foldFrom alsoRests 0 noneRest ts
 
--- the E at place k of an exchange in which D is 1 throughout: the first is of the D heard before it
+-- the E that terminals hear after a hit's letter, where this was the last D heard
 abbrev pub eSent : ℕ → ℕ → Bool → Bool
 eSent state letter heardD = struckBit letter (sentE state heardD)
 
@@ -60,6 +60,7 @@ isFirst m =
     (((((((((m .ds .first && m .ds .second) && m .ds .third) && m .ds .fourth) && eqb (m .place) 0) && eqb (m .done1) 0) && eqb (m .done2) 0)
     && m .e) && m .d) && not (m .calling)) && not (m .frames)
 
+-- so that it is enough to look at the terminals
 unfoldable pub mayRest : Moment → Bool
 mayRest m = isFirst m && onesSent m
 

@@ -170,7 +170,7 @@ impl Moment {
         }
     }
 
-    // Whether it is no exchange of which no opportunity has gone yet and all four E are 1 as long as D is.
+    // Whether the four opportunities must be gone through: one has gone already, or some E is 0 though D is 1.
     pub fn must_turn(self) -> bool
         ensures { λ r. ⌜ r ≡ not (rest.mayRest self) ⌝ }
     {

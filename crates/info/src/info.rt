@@ -143,6 +143,7 @@ fn put_pulses(e: Four, out: &mut [u8])
     out[34] = echo(e.third, m);
     out[36] = s;
     out[45] = echo(e.fourth, s);
+    // Position 48 is a pulse where the last one before it is plus.
     out[47] = echo(l == MINUS, MINUS);
 }
 

@@ -1,36 +1,35 @@
 -- A run of periods in which one terminal sends alone (crate `solo`) is a turn of a run's loop: `specs/Turn.antt`.
 use mathlib.Core.Path.{_≡_, refl, sym, ap, _∙_}
-use mathlib.Core.Bool.{Bool, true, false, cond, not, _&&_}
+use mathlib.Core.Bool.{true, false, not, _&&_}
 use mathlib.Core.List.{List, [], _∷_}
 use Prim.Native.Nat.{ℕ, zero, suc, _+_, _-_, _≤_, _<_}
 use native.Mathlib.Nat.{suc-inj}
 use native.Mathlib.Omega.{arith}
-use lib.Dec.{eqb, ltb}
+use lib.Dec.{eqb}
 use lib.ListN.{length}
-use borrow.Author.Tests.{eqb-true, eqb-false, lt-ltb, leb-false}
+use borrow.Author.Tests.{eqb-true, lt-ltb}
 use Rattle.cases.proofs.ByCases.{by-test}
 use Rattle.cases.proofs.Operators.{and-both, not-true}
 use Rattle.walks.specs.Over.{mapFrom}
 use Rattle.hdlc.specs.Bits.{sameBit}
 use Rattle.table_6_3.specs.Table63.{G3}
-use Rattle.timing.specs.Counts.{mostPeriods, allRun, atPeriod, nextPeriod}
+use Rattle.timing.specs.Counts.{allRun, nextPeriod}
 use Rattle.terminal.specs.declared.Terminal.{Terminal}
 use Rattle.listening.specs.Hears.{silenced}
 use Rattle.listening.specs.declared.hears.UnitNotes.{UnitNotes}
-use Rattle.bus_record.specs.NetworkSide.{noNotes, ranWith, ranAfter, octetsAfter, refusedRun}
+use Rattle.bus_record.specs.NetworkSide.{noNotes, ranWith, ranAfter, refusedRun}
 use Rattle.bus_record.specs.declared.record.BusRecord.{BusRecord}
 use Rattle.bus_record.specs.declared.side.Ran.{Ran}
 use Rattle.solo.specs.Solo.{soloTurned, soloAfterFour, soloGoes, followed, soloSeats, senderIn}
 use Rattle.solo.specs.Alone.{staysAlone, goesAlone, aloneAfter, octetsThen, aloneOn, octetsOn, notYet, aloneRun, aloneRunOctets}
-use Rattle.solo.specs.Search.{allRest, allClear, searched, aloneFor, IsAlone}
-use Rattle.solo.specs.Period.{IsPeriod}
+use Rattle.solo.specs.Search.{allHearAlike, allClear, searched, aloneFor}
 use Rattle.solo.specs.declared.alone.Alone.{Alone}
 use Rattle.solo.specs.declared.solo.Solo.{Solo}
 use Rattle.solo.specs.declared.search.Search.{Search}
 use Rattle.solo.proofs.FoundAlone.{found-alone}
 use Rattle.solo.proofs.Period.{period-alone, clear-on}
 use Rattle.call_rules.specs.Kept.{Kept, kept}
-use Rattle.call_rules.specs.Ready.{runReply, goesOn}
+use Rattle.call_rules.specs.Ready.{goesOn}
 use Rattle.call_rules.specs.Period.{periodRan, keptRun}
 use Rattle.call_rules.specs.Run.{ranOn, keptOn}
 use Rattle.call_rules.specs.Step.{stepMoment, stepExchanged, stepLine, stepTold, stepRan, stepTerminals, stepOctets, stepNotes}
@@ -68,7 +67,7 @@ module _ (images : List ℕ) (a : Alone) (g : goesAlone images a ≡ true) where
   next-period os = rw (facts .2)
 
 -- ---- The run, from what was found.
-module _ (images letters : List ℕ) (ended : Ran) (end : Kept) (ts : List Terminal) (total : ℕ) (rest : allRest ts ≡ true) where
+module _ (images letters : List ℕ) (ended : Ran) (end : Kept) (ts : List Terminal) (total : ℕ) (rest : allHearAlike ts ≡ true) where
   abbrev none-noted : List UnitNotes
   none-noted = mapFrom (λ (_ : ℕ) (_ : Terminal). noNotes) 0 ts
 

@@ -1,16 +1,16 @@
 -- Leaps. A loop over `step` that leaps from a still bus runs the periods of a run (crate `call_rules`, RunLoop.antt); and the law `leap`:
 -- `specs/Leap.antt`.
 use mathlib.Core.Path.{_≡_, refl, sym, ap, _∙_}
-use mathlib.Core.Bool.{Bool, true, false, cond, not, _&&_}
+use mathlib.Core.Bool.{true, false, not, _&&_}
 use mathlib.Core.List.{List, [], _∷_, map}
 use Prim.Native.Nat.{ℕ, zero, suc, _+_, _-_, _*_, _≤_, _<_}
 use native.Mathlib.Omega.{arith}
-use lib.Dec.{eqb, ltb, leb}
+use lib.Dec.{eqb, leb}
 use lib.ListN.{length, replicate}
-use borrow.Author.Tests.{eqb-true, eqb-false, le-leb, leb-false, lt-leb, lt-ltb, le-ltb, ltb-true}
+use borrow.Author.Tests.{eqb-true, eqb-false, le-leb, leb-false, lt-leb, lt-ltb, ltb-true}
 use Rattle.cases.proofs.ByCases.{by-test}
 use Rattle.table_6_3.specs.Table63.{G3}
-use Rattle.timing.specs.Counts.{mostPeriods, atPeriod, allRun}
+use Rattle.timing.specs.Counts.{mostPeriods, allRun}
 use Rattle.terminal.specs.declared.Terminal.{Terminal}
 use Rattle.listening.specs.declared.hears.UnitNotes.{UnitNotes}
 use Rattle.bus.specs.Bus.{terminals}
@@ -19,7 +19,7 @@ use Rattle.bus_record.specs.declared.record.BusRecord.{BusRecord}
 use Rattle.bus_record.specs.declared.side.Ran.{Ran}
 use Rattle.call_rules.specs.Kept.{Kept, kept}
 use Rattle.call_rules.specs.Ready.{runReply, goesOn}
-use Rattle.call_rules.specs.Run.{notYet, ran, keptAfter}
+use Rattle.call_rules.specs.Run.{ran, keptAfter}
 use Rattle.call_rules.specs.Step.{stepRan, stepTerminals, stepOctets, stepNotes}
 use Rattle.call_rules.proofs.InOrder.{InOrder, in-order, order-reply, one-left}
 use Rattle.call_rules.proofs.RunSingle.{goes-facts}

@@ -1,16 +1,16 @@
 -- What a reach that is not 0 says: every unit stays as it is for so many periods.
-use mathlib.Core.Path.{_≡_, refl, sym, _∙_}
-use mathlib.Core.Bool.{Bool, true, false, cond, not, _&&_, _||_, or-false, or-assoc}
-use mathlib.Core.Logic.{_⊎_, inl, inr, ⊎-elim}
+use mathlib.Core.Path.{_≡_, _∙_}
+use mathlib.Core.Bool.{true, not, _&&_, _||_, or-false, or-assoc}
+use mathlib.Core.Logic.{_⊎_, ⊎-elim}
 use mathlib.Core.List.{List, [], _∷_}
 use Prim.Native.Nat.{ℕ, suc, _+_, _-_, _≤_, _<_}
 use native.Mathlib.Omega.{arith}
-use lib.Dec.{eqb, leb}
+use lib.Dec.{leb}
 use borrow.Author.Tests.{le-leb}
 use Rattle.cases.proofs.ByCases.{by-test}
 use Rattle.cases.proofs.Operators.{and-both}
 use Rattle.walks.specs.Over.{foldFrom}
-use Rattle.timing.specs.Counts.{mostPeriods, atPeriod}
+use Rattle.timing.specs.Counts.{mostPeriods}
 use Rattle.timing.specs.Timers.{clear}
 use Rattle.timing.proofs.TimerLaws.{Clear, clear-most, clear-is, clear-next}
 use Rattle.hearing.specs.declared.heard.Downward.{Downward}

@@ -1,23 +1,21 @@
 -- A period of a still bus, as the code goes through it: it hands back no notes and changes nothing but the counts.
-use mathlib.Core.Path.{_≡_, refl, sym, ap, _∙_}
+use mathlib.Core.Path.{_≡_, refl, ap, _∙_}
 use mathlib.Core.Bool.{Bool, true, false, cond, not, _&&_, _||_}
-use mathlib.Core.Logic.{⊎-elim}
 use mathlib.Core.List.{List, [], _∷_, map}
-use Prim.Native.Nat.{ℕ, suc, _+_, _*_, _≤_, _<_}
+use Prim.Native.Nat.{ℕ, suc, _+_, _*_, _<_}
 use native.Mathlib.Omega.{arith}
-use lib.Dec.{eqb, ltb, leb}
-use borrow.Author.Tests.{eqb-true, eq-eqb, ne-eqb, le-leb, lt-leb, leb-true}
+use lib.Dec.{eqb, leb}
+use borrow.Author.Tests.{eqb-true, le-leb, lt-leb}
 use Rattle.cases.proofs.ByCases.{by-test, clash}
 use Rattle.cases.proofs.Operators.{and-both, not-true}
 use Rattle.walks.specs.Over.{mapFrom, foldFrom}
 use Rattle.frame.specs.Four.{allFour}
-use Rattle.combining.specs.Hit.{keepLetter}
 use Rattle.cells.specs.Notes.{packedNotes, noted}
 use Rattle.cells.specs.Cells.{cellIn, infoIn}
 use Rattle.table_6_2.specs.Table62.{F1, F7}
 use Rattle.table_6_3.specs.Table63.{G1, G2, G3}
 use Rattle.table_6_3.specs.Table63 as table63
-use Rattle.timing.specs.Counts.{mostPeriods, atPeriod, allRun, nextPeriod, fourMore}
+use Rattle.timing.specs.Counts.{mostPeriods, atPeriod, nextPeriod, fourMore}
 use Rattle.timing.proofs.TimerLaws.{Clear, clear-due}
 use Rattle.timing.specs.declared.counts.Periods.{Periods}
 use Rattle.alignment.specs.Alignment.{framedPeriod, followed}
@@ -29,7 +27,7 @@ use Rattle.network.specs.declared.Network.{Network}
 use Rattle.network.specs.declared.NetworkStep.{NetworkStep}
 use Rattle.terminal.specs.declared.Terminal.{Terminal}
 use Rattle.bus.specs.Quick.{sentE, shownBy, shownFrom}
-use Rattle.exchange.specs.Rest.{partRests, allRest, anyFrames, eSent, restMoment, RestsThrough}
+use Rattle.exchange.specs.Rest.{partRests, allRest, anyFrames, restMoment, RestsThrough}
 use Rattle.exchange.specs.Shown.{lettersOf}
 use Rattle.exchange.proofs.Resting.{rest-four}
 use Rattle.listening.specs.Hears.{rests, heardOne, terminalAfter, notesAfter, toldAfter}

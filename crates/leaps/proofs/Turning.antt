@@ -1,12 +1,10 @@
 -- Turns of a run's loop: `specs/Turn.antt`.
 use mathlib.Core.Path.{_≡_, refl, sym, _∙_}
-use mathlib.Core.Bool.{true, false}
+use mathlib.Core.Bool.{true}
 use mathlib.Core.List.{List}
 use Prim.Native.Nat.{ℕ, _+_, _-_, _≤_, _<_}
 use native.Mathlib.Omega.{arith}
-use lib.ListN.{length}
 use borrow.Author.Tests.{lt-ltb, ltb-true}
-use Rattle.timing.specs.Counts.{allRun}
 use Rattle.terminal.specs.declared.Terminal.{Terminal}
 use Rattle.listening.specs.declared.hears.UnitNotes.{UnitNotes}
 use Rattle.bus_record.specs.NetworkSide.{ranWith, ranAfter, refusedRun}

@@ -1,14 +1,10 @@
 -- The law of leaps: from a still bus the step over so many periods is what so many single calls of `period` leave.
 -- The statement is a type; `proofs/Leaping.antt` proves it under the same name in small letters.
-use mathlib.Core.Bool.{Bool, false}
 use mathlib.Core.Path.{_≡_}
-use mathlib.Core.List.{List}
 use Prim.Native.Nat.{ℕ, _≤_, _<_}
 use lib.ListN.{replicate}
-use Rattle.timing.specs.Counts.{allRun}
 use Rattle.bus.specs.Bus.{terminals}
 use Rattle.bus_record.specs.NetworkSide.{noNotes, refusedRun}
-use Rattle.bus_record.specs.declared.record.BusRecord.{BusRecord}
 use Rattle.call_rules.specs.Kept.{Kept, kept}
 use Rattle.call_rules.specs.Ready.{runReply}
 use Rattle.call_rules.specs.Run.{ran, keptAfter}

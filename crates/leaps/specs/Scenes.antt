@@ -74,7 +74,8 @@ pub in-G3 : far (bus G3 true 0 freshReader) (active ∷ terminal.fresh ∷ activ
 unfolding reach reached firstAhead alsoAhead overWith farthest quiet readerWaits networkRests clear rests partRests shownBy infoIn foldFrom atRest
 in-G3 = refl
 
--- not still: C at 10, a frame held, the reader inside a frame, no terminal left in G3, a terminal not aligned, the last period
+-- not still: C at 10, a frame held, the reader inside a frame, G3 without a terminal that sends, a
+-- terminal not aligned, one period left
 pub not-still : far (bus G3 true 0 freshReader) (unit F7 true 0 (counting 10 0) ∷ []) ∷ far (bus G3 true 0 freshReader) (unit F7 true 0 (counting 11 2) ∷ []) ∷ far (bus G3 true 0 openedReader) (active ∷ []) ∷ far (bus G3 true 0 freshReader) (terminal.fresh ∷ []) ∷ far (bus G3 true 0 freshReader) (unit F7 false 0 (counting 11 0) ∷ []) ∷ reach freshRecord [] 1 ∷ [] ≡ replicate 6 0
 unfolding reach reached firstAhead alsoAhead overWith farthest quiet readerWaits networkRests clear rests partRests shownBy infoIn foldFrom atRest
 not-still = refl

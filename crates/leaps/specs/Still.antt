@@ -1,10 +1,11 @@
 -- A bus is still when a period hands back no notes and changes nothing but the counts: periods run and, in G3, D opportunities run. From
 -- there as many periods as lie before the next timer, the number asked for and 4,000,000 are one step.
--- This is how the code goes; the law `leap` (Leap.antt) holds it to single periods.
+-- This is how the code goes, by a test that holds of still buses alone, and of all but those in G4 with a terminal in F4; the law `leap`
+-- (Leap.antt) holds it to single periods.
 use mathlib.Core.Bool.{Bool, true, false, cond, not, _&&_, _||_}
 use mathlib.Core.List.{List}
 use Prim.Native.Nat.{ℕ, _+_, _-_, _*_}
-use lib.Dec.{eqb, ltb, leb}
+use lib.Dec.{eqb, leb}
 use Rattle.walks.specs.Over.{foldFrom}
 use Rattle.cells.specs.Cells.{infoIn}
 use Rattle.table_6_2.specs.Table62.{infoSent}
@@ -35,7 +36,8 @@ networkRests frames n =
 unfoldable pub quiet : BusRecord → Bool
 quiet b = (not (b .hit) && b .heard) && cond (eqb (b .network .state) G3) (readerWaits (b .reader)) true
 
--- its own timers, and the number of periods left: one of them stays to be run after the step
+-- its own timers, and the number of periods left: one of them stays to be run after the step. The last period that a bus can run bounds it
+-- as a timer does.
 unfoldable pub farthest : BusRecord → ℕ → ℕ
 farthest b left =
     let now = b .periods .0 in
@@ -56,7 +58,7 @@ alsoAhead i a t =
 unfoldable pub reached : Network → Ahead → ℕ
 reached n a = cond (networkRests (a .frames) n) (a .over) 0
 
--- as far as the bus is still, with so many periods left to run; 0 where it is not
+-- as far as the bus is found still, with so many periods left to run; 0 where it is not
 unfoldable pub reach : BusRecord → List Terminal → ℕ → ℕ
 reach b ts left = reached (b .network) (foldFrom alsoAhead 0 (firstAhead b left) ts)
 

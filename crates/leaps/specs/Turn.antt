@@ -1,4 +1,4 @@
--- A turn of a run's loop: one period or more are run, and the run goes on from there as after the first of them.
+-- A turn of a run's loop: the run goes on from what it leaves, with fewer periods left, to the same end as after its first period.
 use mathlib.Core.Path.{_≡_}
 use Prim.Native.Nat.{ℕ, _+_, _-_, _≤_, _<_}
 use Rattle.bus_record.specs.declared.side.Ran.{Ran}
@@ -7,7 +7,7 @@ use Rattle.call_rules.specs.Period.{periodRan, keptRun}
 use Rattle.call_rules.specs.Ready.{runReply}
 use Rattle.call_rules.specs.Run.{ranOn, keptOn}
 
--- from k, with so many periods left, the turn runs `over` periods and one more; it gives r and leaves k′
+-- from k, with so many periods left: the turn gives r and leaves k′, with `over` periods and one less left to run
 pub record RunsOn (left : ℕ) (k : Kept) (r : Ran) (over : ℕ) (k′ : Kept) : Type 0 where
   pub within : 1 + over ≤ left
   pub ready : runReply 0 k′ ≡ 0

@@ -21,11 +21,11 @@ use Rattle.hearing.specs.declared.heard.Downward.{Downward}
 use Rattle.terminal.specs.Terminal.{unchanged, acts, happens, aligned, heardAs, hears, timer, ready, checked}
 use Rattle.terminal.specs.declared.Terminal.{Terminal}
 use Rattle.terminal.specs.declared.TerminalStep.{TerminalStep}
-use Rattle.listening.specs.Hears.{isWaiting, rests, heardStep, timedStep, hasNote, heardOne}
+use Rattle.listening.specs.Hears.{staysInSilence, rests, heardStep, timedStep, hasNote, heardOne}
 
 -- one of the three states
-waiting-is {ℓ} : {X : Type ℓ} (state : ℕ) → isWaiting state ≡ true → (state ≡ F3 → X) → (state ≡ F4 → X) → (state ≡ F5 → X) → X
-waiting-is state h three four five =
+silence-is {ℓ} : {X : Type ℓ} (state : ℕ) → staysInSilence state ≡ true → (state ≡ F3 → X) → (state ≡ F4 → X) → (state ≡ F5 → X) → X
+silence-is state h three four five =
     let p = and-both (leb F3 state) (leb state F5) h in
     let low : F3 ≤ state = leb-true F3 state (p .0) in
     let high : state ≤ F5 = leb-true state F5 (p .1) in
@@ -44,11 +44,11 @@ module _ (now t3 : ℕ) (access : Access) where
   in-F7 state run true false framed a p q h = clash false h refl
   in-F7 state run false pulse framed a p q h = clash false h refl
 
-  in-silence : (state run : ℕ) (al pulse framed a : Bool) → isWaiting state ≡ true → run ≡ 0 → (not al && not pulse) ≡ true →
+  in-silence : (state run : ℕ) (al pulse framed a : Bool) → staysInSilence state ≡ true → run ≡ 0 → (not al && not pulse) ≡ true →
       hears (record { pulse = pulse; framed = framed; a = a }) now (record { t3 = t3; access = access; state = state; alignment = record { aligned = al; run = run } })
       ≡ unchanged 0 (record { t3 = t3; access = access; state = state; alignment = record { aligned = al; run = run } })
   unfolding hears heardAs aligned happens acts followed downwardEvent cellIn
-  in-silence state run false false framed a p q h = waiting-is state p (λ e. rw (e, q)) (λ e. rw (e, q)) (λ e. rw (e, q))
+  in-silence state run false false framed a p q h = silence-is state p (λ e. rw (e, q)) (λ e. rw (e, q)) (λ e. rw (e, q))
   in-silence state run true pulse framed a p q h = clash false h refl
   in-silence state run false true framed a p q h = clash false h refl
 
@@ -65,7 +65,7 @@ rests-hears line now t h =
     by-test (eqb (t .state) F7)
     (λ v. in-F7 now (t .t3) (t .access) (t .state) (t .alignment .run) (t .alignment .aligned) (line .pulse) (line .framed) (line .a) (eqb-true _ _ v) (eqb-true _ _ u) (rw v at h1))
     (λ v. let h2 = rw v at h1 in
-    by-test (isWaiting (t .state))
+    by-test (staysInSilence (t .state))
     (λ w. in-silence now (t .t3) (t .access) (t .state) (t .alignment .run) (t .alignment .aligned) (line .pulse) (line .framed) (line .a) w (eqb-true _ _ u) (rw w at h2))
     (λ w. in-F1 line now t (rw w at h2))))
     (λ u. in-F1 line now t (rw u at h))

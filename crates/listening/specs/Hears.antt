@@ -17,9 +17,9 @@ use Rattle.cells.specs.declared.notes.Notes.{Notes}
 use Rattle.listening.specs.declared.hears.UnitNotes.{UnitNotes}
 use Rattle.listening.specs.declared.hears.HeardOne.{HeardOne}
 
--- F3, F4 and F5: what a terminal without alignment does not leave in silence
-abbrev pub isWaiting : ℕ → Bool
-isWaiting state = leb F3 state && leb state F5
+-- F3, F4 and F5: the states in which a terminal that is not aligned stays while there is no pulse
+abbrev pub staysInSilence : ℕ → Bool
+staysInSilence state = leb F3 state && leb state F5
 
 -- whether a terminal hears what it has heard before, so that nothing happens
 unfoldable pub rests : Downward → Terminal → Bool
@@ -27,7 +27,7 @@ rests line t =
     cond (eqb (t .alignment .run) 0)
     (cond (eqb (t .state) F7)
     (((t .alignment .aligned && line .pulse) && line .framed) && line .a)
-    (cond (isWaiting (t .state)) (not (t .alignment .aligned) && not (line .pulse)) (eqb (t .state) F1)))
+    (cond (staysInSilence (t .state)) (not (t .alignment .aligned) && not (line .pulse)) (eqb (t .state) F1)))
     (eqb (t .state) F1)
 
 -- the two calls one after the other
@@ -69,9 +69,9 @@ unfoldable pub allNotes : Downward → Periods → List UnitNotes → List Termi
 allNotes line period ns ts = cond (eqb (length ns) (length ts)) (mapFrom (notesAfter line period) 0 ts) ns
 
 -- ---- No notes.
-abbrev pub silentNotes : UnitNotes
-silentNotes = record { heard = packedNotes []; timed = packedNotes [] }
+abbrev pub noNotes : UnitNotes
+noNotes = record { heard = packedNotes []; timed = packedNotes [] }
 
 -- at any place
 abbrev pub silenced : ℕ → UnitNotes → UnitNotes
-silenced i n = silentNotes
+silenced i n = noNotes

@@ -1,13 +1,13 @@
 // No notes of any terminal.
 ghost use mathlib.Core.Path.{_≡_};
 ghost use Rattle.walks.specs.Over.{mapFrom};
-ghost use Rattle.listening.specs.Hears.{silentNotes, silenced};
+ghost use Rattle.listening.specs.Hears.{noNotes, silenced};
 use super::hears::UnitNotes;
 use cells::cell::NO_NOTES;
 
 // The notes of a terminal that has none.
 fn silent() -> UnitNotes
-    ensures { λ r. ⌜ r ≡ silentNotes ⌝ }
+    ensures { λ r. ⌜ r ≡ noNotes ⌝ }
 {
     UnitNotes {
         heard: NO_NOTES,

@@ -1,27 +1,26 @@
 -- What a search that finds a terminal has shown: `found-alone` (specs/Search.antt).
 use mathlib.Core.Path.{_≡_, refl, sym, _∙_}
-use mathlib.Core.Bool.{Bool, true, false, cond, not, _&&_, _||_, or-true, or-false}
+use mathlib.Core.Bool.{Bool, true, false, cond, not, _&&_, _||_, or-true}
 use mathlib.Core.Logic.{⊎-elim}
 use mathlib.Core.List.{List, [], _∷_}
 use Prim.Native.Nat.{ℕ, suc, _+_, _-_, _≤_, _<_}
 use native.Mathlib.Omega.{arith}
 use lib.Dec.{eqb, ltb, leb}
-use borrow.Author.Tests.{ltb-true, ltb-false, leb-true, leb-false, eqb-true, eq-eqb, ne-eqb, lt-ltb, le-leb}
+use borrow.Author.Tests.{ltb-false, eqb-true, eq-eqb, ne-eqb, lt-ltb, le-leb}
 use Rattle.cases.proofs.ByCases.{by-test, clash}
 use Rattle.cases.proofs.Operators.{and-both, not-true}
 use Rattle.cells.specs.Cells.{infoIn}
-use Rattle.table_6_2.specs.Table62.{F1, F3, F7, infoSent}
+use Rattle.table_6_2.specs.Table62.{F1, F7, infoSent}
 use Rattle.table_6_3.specs.Table63.{G3}
 use Rattle.timing.specs.Timers.{clear}
 use Rattle.timing.proofs.TimerLaws.{clear-most, clear-is}
 use Rattle.timing.specs.declared.counts.Periods.{Periods}
-use Rattle.dchannel.specs.declared.access.Access.{Access}
 use Rattle.terminal.specs.declared.Terminal.{Terminal}
 use Rattle.walks.specs.Over.{mapFrom, foldFrom}
 use Rattle.bus.specs.Quick.{shownBy}
-use Rattle.listening.specs.Hears.{isWaiting, rests}
+use Rattle.listening.specs.Hears.{staysInSilence, rests}
 use Rattle.solo.specs.Solo.{followedAccess, followed, soloSeat, soloSeats, senderIn}
-use Rattle.solo.specs.Search.{counting, sendingNow, senderAfter, fitsIn, searchedOne, noSearch, searched, allRest, allClear, IsAlone, FoundAlone}
+use Rattle.solo.specs.Search.{counting, sendingNow, senderAfter, fitsIn, searchedOne, noSearch, searched, allHearAlike, allClear, FoundAlone}
 use Rattle.solo.specs.declared.solo.Solo.{Solo}
 use Rattle.solo.specs.declared.search.Search.{Search}
 use Rattle.solo.proofs.SoloFour.{followed-in, followed-out}
@@ -34,7 +33,7 @@ rest-quiet t h =
     (λ v. by-test (eqb (t .state) F1) (λ w. rw (eqb-true (t .state) F1 w))
     (λ w. clash (rests (shownBy G3) t) h
     (by-test (eqb (t .alignment .run) 0)
-    (λ u. rw (u, v) (by-test (isWaiting (t .state)) (λ x. rw x (neither (t .alignment .aligned))) (λ x. rw x w)))
+    (λ u. rw (u, v) (by-test (staysInSilence (t .state)) (λ x. rw x (neither (t .alignment .aligned))) (λ x. rw x w)))
     (λ u. rw u w))))
   where
     neither : (b : Bool) → (not b && false) ≡ false
@@ -166,15 +165,15 @@ module _ (now : ℕ) where
   record Rest (r : Search) (i : ℕ) (ts : List Terminal) : Type 0 where
     seats : soloSeats (r .solo .at) (r .solo .length) i ts ≡ true
     followed-is : mapFrom (followed (r .solo)) i ts ≡ ts
-    rest : allRest ts ≡ true
+    rest : allHearAlike ts ≡ true
     clear : allClear now (r .over) ts ≡ true
 
   none-rest : (r : Search) (i : ℕ) → Rest r i []
-  unfolding soloSeats mapFrom allRest allClear
+  unfolding soloSeats mapFrom allHearAlike allClear
   none-rest r i = record { seats = refl; followed-is = refl; rest = refl; clear = refl }
 
   one-rest : (r : Search) (i : ℕ) (t : Terminal) (ts : List Terminal) → Placed (r .solo) i t → rests (shownBy G3) t ≡ true → (leb (t .t3) now || ltb (now + r .over) (t .t3)) ≡ true → Rest r (suc i) ts → Rest r i (t ∷ ts)
-  unfolding soloSeats mapFrom allRest allClear
+  unfolding soloSeats mapFrom allHearAlike allClear
   one-rest r i t ts p quiet clear on =
       record {
         seats = rw (seat-is (r .solo) i t p quiet) (on .seats);

@@ -1,17 +1,16 @@
 -- A period of a run alone is the period over all terminals: specs/Period.antt.
-use mathlib.Core.Path.{_≡_, refl, sym, ap, _∙_}
-use mathlib.Core.Bool.{Bool, true, false, cond, not, _&&_, _||_}
+use mathlib.Core.Path.{_≡_, refl, ap, _∙_}
+use mathlib.Core.Bool.{Bool, true, false, not, _&&_, _||_}
 use mathlib.Core.List.{List, [], _∷_}
 use Prim.Native.Nat.{ℕ, suc, _+_, _<_}
 use native.Mathlib.Omega.{arith}
 use lib.Dec.{eqb, ltb, leb}
-use borrow.Author.Tests.{ltb-true, leb-true, leb-false, eqb-true, ne-eqb, le-leb, lt-ltb}
+use borrow.Author.Tests.{ltb-true, leb-true, eqb-true, ne-eqb, le-leb, lt-ltb}
 use Rattle.cases.proofs.ByCases.{by-test}
 use Rattle.cases.proofs.Operators.{and-both, not-true}
 use Rattle.hdlc.specs.Bits.{sameBit}
 use Rattle.dchannel.proofs.AccessLaws.{same-equal}
 use Rattle.cells.specs.Cells.{infoIn}
-use Rattle.cells.specs.Notes.{packedNotes}
 use Rattle.table_6_2.specs.Table62.{F7}
 use Rattle.table_6_3.specs.Table63.{G3}
 use Rattle.table_6_3.specs.Table63 as table63
@@ -29,10 +28,10 @@ use Rattle.listening.specs.declared.hears.HeardOne.{HeardOne}
 use Rattle.listening.proofs.Rests.{one-rests}
 use Rattle.bus_record.specs.Echo.{hitIn, firstMoment, heardDown}
 use Rattle.bus_record.specs.NetworkSide.{noNotes}
-use Rattle.solo.specs.Solo.{soloAfterFour, soloGoes, soloMoment, noLetters, followed, soloSeats, senderIn, FourAlone}
+use Rattle.solo.specs.Solo.{soloAfterFour, soloGoes, noLetters, followed}
 use Rattle.solo.specs.Alone.{staysAlone, goesAlone}
-use Rattle.solo.specs.Search.{allRest, allClear}
-use Rattle.solo.specs.Period.{exchangeOver, lineOver, terminalsHere, exchangedHere, lineHere, IsPeriod, PeriodAlone, ClearOn}
+use Rattle.solo.specs.Search.{allHearAlike, allClear}
+use Rattle.solo.specs.Period.{lineHere, PeriodAlone, ClearOn}
 use Rattle.solo.specs.declared.solo.Solo.{Solo}
 use Rattle.solo.specs.declared.alone.Alone.{Alone}
 use Rattle.solo.proofs.SoloFour.{followed-in, followed-out, solo-four}
@@ -86,11 +85,11 @@ module _ (period : Periods) (more : allRun period ≡ false) (s : Solo) where
     notes-are : mapFrom (notesAfter line period) i (mapFrom (followed s) i ts) ≡ mapFrom (λ (_ : ℕ) (_ : Terminal). noNotes) i ts
     told-is : foldFrom (toldAfter line period) i false (mapFrom (followed s) i ts) ≡ false
 
-  heard-all : (i : ℕ) (ts : List Terminal) → allRest ts ≡ true → allClear (period .0) 1 ts ≡ true → Heard i ts
-  unfolding mapFrom foldFrom allRest allClear
+  heard-all : (i : ℕ) (ts : List Terminal) → allHearAlike ts ≡ true → allClear (period .0) 1 ts ≡ true → Heard i ts
+  unfolding mapFrom foldFrom allHearAlike allClear
   heard-all i [] r c = record { terminals-are = refl; notes-are = refl; told-is = refl }
   heard-all i (t ∷ ts) r c =
-      let rest = and-both (rests line t) (allRest ts) r in
+      let rest = and-both (rests line t) (allHearAlike ts) r in
       let clear = and-both (leb (t .t3) (period .0) || ltb (period .0 + 1) (t .t3)) (allClear (period .0) 1 ts) c in
       let here = heard-one i t (rest .0) (clear .0) in
       let on = heard-all (suc i) ts (rest .1) (clear .1) in

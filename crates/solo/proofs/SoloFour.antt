@@ -1,16 +1,15 @@
 -- Where one terminal sends alone, the opportunities over all terminals are those of the sender: `solo-four` (specs/Solo.antt).
-use mathlib.Core.Path.{_≡_, refl, sym, _∙_, ap}
+use mathlib.Core.Path.{_≡_, refl, _∙_, ap}
 use mathlib.Core.Bool.{Bool, true, false, cond, not, _&&_, _||_, and-true, or-true, and-false}
 use mathlib.Core.List.{List, [], _∷_}
-use Prim.Native.Nat.{ℕ, suc, _+_, _≤_, _<_}
+use Prim.Native.Nat.{ℕ, suc, _+_, _<_}
 use native.Mathlib.Omega.{arith}
-use lib.Dec.{eqb, ltb, leb}
-use borrow.Author.Tests.{lt-ltb, ltb-true, eqb-true, eqb-false, ne-eqb, eq-eqb, lt-leb}
+use lib.Dec.{eqb, ltb}
+use borrow.Author.Tests.{lt-ltb, ltb-true, eqb-true, ne-eqb, lt-leb}
 use Rattle.cases.proofs.ByCases.{by-test, clash}
 use Rattle.cases.proofs.Operators.{and-both, not-true}
 use Rattle.frame.specs.Four.{allFour}
 use Rattle.frame.specs.declared.fields.Four.{Four}
-use Rattle.combining.specs.Hit.{keepLetter, struckBit}
 use Rattle.cells.specs.Cells.{infoIn}
 use Rattle.table_6_2.specs.Table62.{F7, infoSent}
 use Rattle.table_6_3.specs.Table63 as table63
@@ -25,7 +24,7 @@ use Rattle.walks.specs.Over.{mapFrom, foldFrom}
 use Rattle.bus.specs.Quick.{sentE}
 use Rattle.bus.specs.Exchange.{turned, turnOf, dOf}
 use Rattle.exchange.specs.Moment.{begun, also, combinedD, ended}
-use Rattle.exchange.specs.Part.{imageBit, seatIn, imageOf, turnedIn, doneIn, goneThrough}
+use Rattle.exchange.specs.Part.{imageBit, seatIn, turnedIn, doneIn, goneThrough}
 use Rattle.exchange.specs.Opportunities.{momentAfter, terminalsAfter, momentAfterFour, terminalsAfterFour}
 use Rattle.exchange.specs.declared.moment.Moment.{Moment}
 use Rattle.exchange.proofs.Images.{image-at}

@@ -15,7 +15,7 @@ use Rattle.bus_record.specs.NetworkSide.{noNotes}
 use Rattle.bus_record.specs.declared.record.BusRecord.{BusRecord}
 use Rattle.solo.specs.Solo.{soloAfterFour, soloMoment, followed, soloSeats, senderIn}
 use Rattle.solo.specs.Alone.{goesAlone}
-use Rattle.solo.specs.Search.{allRest, allClear}
+use Rattle.solo.specs.Search.{allHearAlike, allClear}
 use Rattle.solo.specs.declared.alone.Alone.{Alone}
 
 -- the exchange of the period, and the line that is heard
@@ -45,7 +45,7 @@ abbrev pub PeriodAlone : Type 0
 PeriodAlone =
     (images letters : List ℕ) (a : Alone) (ts : List Terminal) → goesAlone images a ≡ true
     → soloSeats (a .solo .at) (a .solo .length) 0 ts ≡ true → senderIn (a .solo .at) 0 ts ≡ true
-    → allRest ts ≡ true → allClear (a .ran .bus .periods .0) 1 ts ≡ true → IsPeriod images letters a ts
+    → allHearAlike ts ≡ true → allClear (a .ran .bus .periods .0) 1 ts ≡ true → IsPeriod images letters a ts
 
 -- timers that are clear for n periods are clear at each of them
 abbrev pub ClearOn : Type 0

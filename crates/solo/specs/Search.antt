@@ -64,9 +64,9 @@ unfoldable pub inVain : BusRecord → Bool
 inVain b = (not (eqb (b .network .state) G3) || b .hit) || eqb (b .reader .ones) 7
 
 -- ---- What a search that finds one has shown (proofs/FoundAlone.antt).
-unfoldable pub allRest : List Terminal → Bool
-allRest [] = true
-allRest (t ∷ ts) = rests (shownBy G3) t && allRest ts
+unfoldable pub allHearAlike : List Terminal → Bool
+allHearAlike [] = true
+allHearAlike (t ∷ ts) = rests (shownBy G3) t && allHearAlike ts
 
 -- T3 is due at the start of none of the n periods after period `now`
 unfoldable pub allClear : ℕ → ℕ → List Terminal → Bool
@@ -78,7 +78,7 @@ pub record IsAlone (now most : ℕ) (r : Search) (ts : List Terminal) : Type 0 w
   pub seats : soloSeats (r .solo .at) (r .solo .length) 0 ts ≡ true
   pub sender : senderIn (r .solo .at) 0 ts ≡ true
   pub followed-is : mapFrom (followed (r .solo)) 0 ts ≡ ts
-  pub rest : allRest ts ≡ true
+  pub rest : allHearAlike ts ≡ true
   pub clear : allClear now (r .over) ts ≡ true
   pub few : r .over ≤ most
 

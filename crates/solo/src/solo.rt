@@ -2,15 +2,15 @@
 ghost use mathlib.Core.Path.{_≡_};
 ghost use Rattle.solo.specs.Solo.{countedAt, soloTurned, soloTurns, soloStep, momentOf};
 use combining::hit::KEEP_LETTER;
+use dchannel::access::NORMAL_1;
+use dchannel::access::NORMAL_2;
 use exchange::moment::Letters;
 use exchange::moment::Moment;
 use exchange::part::image_bit;
 use frame::fields::Four;
 
-// The C at which a frame of class 1 may start: at a lower one no frame starts, and no level changes.
-const FIRST_START: u8 = 8;
 // C stays there.
-const MOST_COUNT: u8 = 11;
+const MOST_COUNT: u8 = NORMAL_2 + 1;
 
 // The terminal that sends alone.
 pub struct Solo {
@@ -66,11 +66,11 @@ impl Solo {
         }
     }
 
-    // Whether the next bit leaves, and no other terminal starts.
+    // Whether the next bit leaves, and no other terminal starts: at a C below the lowest threshold none does, and no level changes.
     fn turns(self) -> bool
         ensures { λ r. ⌜ r ≡ soloTurns self ⌝ }
     {
-        (0 < self.sent) & (self.sent < self.length) & (self.counted() < FIRST_START)
+        (0 < self.sent) & (self.sent < self.length) & (self.counted() < NORMAL_1)
     }
 
     // The four opportunities of a period.

@@ -1,6 +1,6 @@
 -- `bus_calls::turn::advance` meets its contract: a walk of its MIR with the lemmas of crate `walks`. All that it knows of the functions it calls are their contracts;
 -- that a run alone is a turn is the law `alone-turns`. Assumes nothing.
-use Rattle.walks.proofs.Walk.{_≡_, refl, sym, _∙_, ap, subst, ℕ, _<_, _^_, arith, Bool, true, false, List, [], _∷_, eqb, length, URA, w32, Val, vint, SProp, ent, emp, via, id⊢, fst∗, Memory, Routine, Heap, Tables, WpFn, Atoms, Fun, factI, givenOf, tables, tablesOf, Given, ⋆, _$_, !, lit, no-more, and-then, bin, Is, u8, u32, Room, onEntry, Meets, tripleOf, Contract, Triple, entered, cited, walkOf, loc, part, sets, leaves, returns-if, typed, uint-kind, bool-kind, unit-kind, Spot, spot, word, lends-at, shows-at, hands-at, Param, plain-of, lfts-at, shares-at, args-at, vals-of, lfts-of, shares-of, args-of, itemsOf, reborrows, Call, calls-giving, enters-with, returns-with, mut-way, shr-way, plain-way, Ways-of, stays-of, meets-by, needs}
+use Rattle.walks.proofs.Walk.{_≡_, refl, sym, _∙_, ap, subst, ℕ, _<_, _^_, arith, true, false, List, [], _∷_, eqb, length, URA, w32, Val, vint, SProp, ent, emp, id⊢, Memory, Routine, Heap, Tables, WpFn, Atoms, Fun, factI, givenOf, tables, tablesOf, Given, ⋆, _$_, !, lit, no-more, and-then, bin, Is, u8, u32, Room, onEntry, Meets, tripleOf, Contract, Triple, entered, cited, walkOf, loc, part, sets, leaves, returns-if, typed, uint-kind, bool-kind, unit-kind, Spot, spot, word, lends-at, shows-at, hands-at, Param, plain-of, lfts-at, shares-at, args-at, vals-of, lfts-of, shares-of, args-of, itemsOf, reborrows, Call, calls-giving, enters-with, returns-with, mut-way, shr-way, plain-way, Ways-of, stays-of, meets-by, needs}
 use Prim.Native.Nat.{_-_, _≤_}
 use borrow.Author.Tests.{eqb-true, eqb-false}
 use denote.Struct.Laws as LL
@@ -12,7 +12,6 @@ use Rattle.listening.specs.Hears.{silenced}
 use Rattle.listening.specs.declared.hears.UnitNotes.{UnitNotes}
 use Rattle.listening.proofs.hears.UnitNotes as N
 use Rattle.bus_record.specs.declared.record.BusRecord.{BusRecord}
-use Rattle.bus_record.specs.declared.side.Ran.{Ran}
 use Rattle.bus_record.proofs.record.BusRecord as B
 use Rattle.bus_record.proofs.record.BusRecord.Laws as B′
 use Rattle.bus_record.proofs.side.Ran as R
@@ -21,14 +20,13 @@ use Rattle.solo.specs.Alone.{aloneRun, aloneRunOctets}
 use Rattle.solo.specs.Search.{searched, aloneFor, inVain}
 use Rattle.solo.specs.declared.alone.Alone.{Alone}
 use Rattle.solo.specs.declared.search.Search.{Search}
-use Rattle.solo.specs.declared.solo.Solo.{Solo}
 use Rattle.solo.proofs.solo.Solo as So
 use Rattle.solo.proofs.search.Search as Se
 use Rattle.solo.proofs.search.Search.Laws as Se′
 use Rattle.solo.proofs.alone.Alone as Al
 use Rattle.solo.proofs.alone.Alone.Laws as Al′
 use Rattle.solo.proofs.Structs.{periods, solos, searches}
-use Rattle.call_rules.specs.Kept.{Kept, kept}
+use Rattle.call_rules.specs.Kept.{kept}
 use Rattle.leaps.specs.Turn.{Turns}
 use Rattle.leaps.proofs.AloneTurns.{none-run, alone-turns}
 use Rattle.bus_calls.specs.declared.turn.Turn.{Turn}

@@ -1,7 +1,7 @@
 -- `listening::silence::silence` meets its contract: a walk of its MIR with the lemmas of crate `walks`. All that it knows of `silent` is its contract.
 -- Assumes nothing.
-use Rattle.walks.proofs.Walk.{_≡_, refl, _∙_, ap, ℕ, _+_, _<_, List, [], _∷_, lit<, length, set, URA, named, w64, Val, vunit, vint, SProp, ent, emp, via, id⊢, fst∗, Memory, Routine, Heap, Tables, WpFn, Atoms, Fun, factI, givenOf, tables, tablesOf, Given, ⋆, _$_, !, rewrite, lit, unit-lit, of-opd, no-more, bin, Is, Room, onEntry, Meets, tripleOf, Contract, Triple, entered, cited, walkOf, upto, upto-length, upto-within, upto-all, one-more, Holds, free, has, loc, sets, sets-last, leaves, blurs, unit-kind, lent, stores, Spot, spot, word, lends-at, Param, lfts-at, shares-at, args-at, vals-of, itemsOf, Call, calls-giving, enters-with, returns-with, mut-way, Ways-of, stays-of, meets-by, whiles, next-fits}
-use Rattle.listening.specs.Hears.{silentNotes, silenced}
+use Rattle.walks.proofs.Walk.{_≡_, refl, _∙_, ap, ℕ, _+_, _<_, List, [], _∷_, lit<, length, set, URA, named, w64, Val, vunit, vint, SProp, ent, emp, via, id⊢, fst∗, Memory, Routine, Heap, Tables, WpFn, Atoms, Fun, factI, givenOf, tables, tablesOf, Given, ⋆, _$_, !, rewrite, lit, unit-lit, of-opd, no-more, bin, Room, onEntry, Meets, tripleOf, Contract, Triple, entered, cited, walkOf, upto, upto-length, upto-within, upto-all, one-more, Holds, free, has, loc, sets, sets-last, leaves, blurs, unit-kind, lent, stores, Spot, spot, word, lends-at, Param, lfts-at, shares-at, args-at, vals-of, itemsOf, Call, calls-giving, enters-with, returns-with, mut-way, Ways-of, stays-of, meets-by, whiles, next-fits}
+use Rattle.listening.specs.Hears.{noNotes, silenced}
 use Rattle.listening.specs.declared.hears.UnitNotes.{UnitNotes}
 use Rattle.listening.proofs.Structs.{unit-notes}
 use Rattle.listening.proofs.hears.UnitNotes as N
@@ -53,11 +53,11 @@ module _ {M : Type 1} (𝓤 : URA M) (H : Heap 𝓤) (A : Atoms 𝓤) (W : Given
     last = λ ns ws. ws;
     finals = λ ns ws. id⊢ 𝓤 _;
     result = λ ns. unit-notes .kind;
-    Said = λ ns r ws. r ≡ silentNotes;
+    Said = λ ns r ws. r ≡ noNotes;
     ensured = λ ns r ws. id⊢ 𝓤 _;
   }
 
-  next-list : (k : ℕ) → k < n → (r : UnitNotes) → r ≡ silentNotes → set (list k) k r ≡ list (k + 1)
+  next-list : (k : ℕ) → k < n → (r : UnitNotes) → r ≡ noNotes → set (list k) k r ≡ list (k + 1)
   next-list k l r is = ap (λ (x : UnitNotes). set (list k) k x) is ∙ one-more silenced k ys (unit-notes .blank) l
 
   walk : (𝓣 : Tables 𝓤 H) → Triple 𝓤 (𝓣 .C #step) (Step 𝓤 H A mem run)

@@ -1,6 +1,6 @@
 -- `solo::follow::follow` meets its contract: a walk of its MIR with the lemmas of crate `walks`. All that it knows of `follow_one` is its contract.
 -- Assumes nothing.
-use Rattle.walks.proofs.Walk.{_≡_, refl, _∙_, ap, ℕ, _+_, _<_, List, [], _∷_, lit<, length, getD, set, URA, named, w64, Val, vunit, vint, SProp, ent, emp, via, id⊢, fst∗, Memory, Routine, Heap, Tables, WpFn, Atoms, Fun, factI, givenOf, tables, tablesOf, Given, ⋆, _$_, !, rewrite, lit, unit-lit, of-opd, no-more, and-then, bin, Is, usize, Room, onEntry, Meets, tripleOf, Contract, Triple, entered, cited, walkOf, upto, upto-length, upto-within, upto-all, one-more, Holds, free, has, loc, part, sets, sets-last, leaves, blurs, uint-kind, unit-kind, typed, lent, loads, stores, Spot, spot, word, lends-at, Param, plain-of, lfts-at, shares-at, args-at, vals-of, lfts-of, shares-of, args-of, itemsOf, Call, calls-giving, enters-with, returns-with, mut-way, plain-way, Ways-of, stays-of, meets-by, whiles, index-fits, next-fits}
+use Rattle.walks.proofs.Walk.{_≡_, refl, _∙_, ap, ℕ, _+_, _<_, List, [], _∷_, lit<, length, getD, set, URA, named, w64, Val, vunit, vint, SProp, ent, emp, via, id⊢, fst∗, Memory, Routine, Heap, Tables, WpFn, Atoms, Fun, factI, givenOf, tables, tablesOf, Given, ⋆, _$_, !, rewrite, lit, unit-lit, of-opd, no-more, and-then, bin, Is, usize, Room, onEntry, Meets, tripleOf, Contract, Triple, entered, cited, walkOf, upto, upto-length, upto-within, upto-all, one-more, Holds, free, has, loc, sets, sets-last, leaves, blurs, uint-kind, unit-kind, typed, lent, loads, stores, Spot, spot, word, lends-at, Param, plain-of, lfts-at, shares-at, args-at, vals-of, lfts-of, shares-of, args-of, itemsOf, Call, calls-giving, enters-with, returns-with, mut-way, plain-way, Ways-of, stays-of, meets-by, whiles, index-fits, next-fits}
 use Rattle.terminal.specs.declared.Terminal.{Terminal}
 use Rattle.terminal.proofs.Terminal as T
 use Rattle.solo.specs.Solo.{followed}

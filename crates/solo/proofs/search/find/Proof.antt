@@ -1,6 +1,6 @@
 -- `solo::search::find` meets its contract: a walk of its MIR with the lemmas of crate `walks`, with a struct gathered over a slice that is shown. All
 -- that it knows of `no_search` and `also` is their contracts. Assumes nothing.
-use Rattle.walks.proofs.Walk.{_≡_, refl, _∙_, ap, subst, ℕ, _+_, _<_, _^_, List, [], _∷_, lit<, length, getD, URA, w32, w64, Val, vint, SProp, ent, emp, via, id⊢, fst∗, Memory, Routine, Heap, Tables, WpFn, Atoms, Fun, factI, givenOf, tables, tablesOf, Given, ⋆, _$_, !, lit, of-opd, no-more, and-then, bin, Is, u32, usize, Room, onEntry, Meets, tripleOf, Contract, Triple, entered, cited, walkOf, acc, acc-all, one-read, Holds, free, has, loc, part, sets, sets-last, leaves, blurs, uint-kind, typed, peeks-at, calls-plain, Spot, spot, word, hands-at, Param, plain-of, lfts-at, shares-at, args-at, vals-of, lfts-of, shares-of, args-of, itemsOf, Call, calls-giving, enters-with, returns-with, shr-way, plain-way, Ways-of, stays-of, meets-by, whiles, index-fits, next-fits}
+use Rattle.walks.proofs.Walk.{_≡_, refl, _∙_, ap, subst, ℕ, _+_, _<_, _^_, List, [], _∷_, lit<, length, getD, URA, w32, w64, Val, vint, SProp, ent, emp, via, id⊢, fst∗, Memory, Routine, Heap, Tables, WpFn, Atoms, Fun, factI, givenOf, tables, tablesOf, Given, ⋆, _$_, !, lit, of-opd, no-more, and-then, bin, Is, u32, usize, Room, onEntry, Meets, tripleOf, Contract, Triple, entered, cited, walkOf, acc, acc-all, one-read, Holds, free, has, loc, sets, sets-last, leaves, blurs, uint-kind, typed, peeks-at, calls-plain, Spot, spot, word, hands-at, Param, plain-of, lfts-at, shares-at, args-at, vals-of, lfts-of, shares-of, args-of, itemsOf, Call, calls-giving, enters-with, returns-with, shr-way, plain-way, Ways-of, stays-of, meets-by, whiles, index-fits, next-fits}
 use Rattle.walks.specs.Over.{foldFrom}
 use Rattle.timing.specs.declared.counts.Periods.{Periods}
 use Rattle.timing.proofs.counts.Periods as P
