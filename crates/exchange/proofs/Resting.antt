@@ -1,6 +1,6 @@
--- An exchange in which nothing happens: `specs/Rest.antt`. One opportunity first, then four.
+-- An exchange in which no terminal takes part: `specs/Rest.antt`. One opportunity first, then four.
 use mathlib.Core.Path.{_≡_, refl, sym, ap, _∙_}
-use mathlib.Core.Bool.{Bool, true, false, cond, not, _&&_, _||_, and-true, or-false, or-assoc, and-assoc}
+use mathlib.Core.Bool.{Bool, true, false, cond, not, _&&_, _||_, and-true, and-false, or-false, or-assoc}
 use mathlib.Core.List.{List, [], _∷_}
 use Prim.Native.Nat.{ℕ, suc}
 use native.Mathlib.Omega.{arith}
@@ -22,22 +22,17 @@ use Rattle.bus.specs.Exchange.{turnOf, turned, dOf}
 use Rattle.exchange.specs.Moment.{firstMoment, begun, also, combinedD, ended}
 use Rattle.exchange.specs.Part.{seatIn, turnedIn, doneIn, goneThrough}
 use Rattle.exchange.specs.Opportunities.{momentAfter, terminalsAfter, momentAfterFour, terminalsAfterFour}
-use Rattle.exchange.specs.Rest.{partRests, allRest, anyFrames, noneRest, alsoRests, restOf, eSent, onesSent, isFirst, mayRest, restMoment, RestsThrough, RestFour}
+use Rattle.exchange.specs.Rest.{partRests, allRest, anyCalling, anyFrames, noneRest, alsoRests, restOf, eSent, onesSent, isFirst, mayRest, restMoment, RestsThrough, RestFour}
 use Rattle.exchange.specs.declared.moment.Letters.{Letters}
 use Rattle.exchange.specs.declared.moment.Moment.{Moment}
 use Rattle.exchange.specs.declared.rest.Rest.{Rest}
 
 -- ---- One terminal.
 module _ (images : List ℕ) (e : Bool) (i : ℕ) (t : Terminal) (h : partRests e t ≡ true) where
-  silent : eqb (infoIn infoSent (t .state)) 1 ≡ false
-  unfolding partRests
-  silent = not-true _ (and-both _ _ h .0)
-
   idle : eqb (t .state) F7 ≡ true → turnOf e (seatIn images i t) ≡ idles (t .access)
   unfolding partRests turnOf
   idle f =
-      let q : cond (eqb (t .state) F7) (atRest normal2 (t .access) && e) true ≡ true = and-both (not (eqb (infoIn infoSent (t .state)) 1)) _ h .1 in
-      let p = and-both (atRest normal2 (t .access)) e (rw f at q) in
+      let p = and-both (atRest normal2 (t .access)) e (rw f at h) in
       rw (p .1) (rests normal1 normal2 _ (t .access) (omega arith) (p .0))
 
   as-it-was : turnedIn images e i t ≡ t
@@ -53,20 +48,20 @@ module _ (images : List ℕ) (e : Bool) (i : ℕ) (t : Terminal) (h : partRests 
   none-done = by-test (eqb (t .state) F7) (λ f. rw (f, idle f)) (λ f. rw f)
 
 -- ---- All terminals.
--- the exchange at a place, nothing sent so far
-abbrev quiet : Letters → Four → ℕ → ℕ → Bool → Bool → Bool → Moment
-quiet letters ds state place heardD e frames =
-    record { letters = letters; ds = ds; state = state; place = place; done1 = 0; done2 = 0; heard = heardD; e = e; d = true; calling = false; frames = frames }
+-- the exchange at a place, no 0 sent for D so far
+abbrev quiet : Letters → Four → ℕ → ℕ → Bool → Bool → Bool → Bool → Moment
+quiet letters ds state place heardD e calling frames =
+    record { letters = letters; ds = ds; state = state; place = place; done1 = 0; done2 = 0; heard = heardD; e = e; d = true; calling = calling; frames = frames }
 
 module _ (images : List ℕ) (letters : Letters) (ds : Four) (state place : ℕ) (heardD e : Bool) where
-  quiet-through : (i : ℕ) (f : Bool) (ts : List Terminal) → allRest e ts ≡ true
-      → foldFrom (goneThrough images) i (quiet letters ds state place heardD e f) ts ≡ quiet letters ds state place heardD e (f || anyFrames ts)
-  unfolding foldFrom allRest anyFrames goneThrough also shifted
-  quiet-through i f [] h = rw or-false
-  quiet-through i f (t ∷ ts) h =
+  quiet-through : (i : ℕ) (c f : Bool) (ts : List Terminal) → allRest e ts ≡ true
+      → foldFrom (goneThrough images) i (quiet letters ds state place heardD e c f) ts ≡ quiet letters ds state place heardD e (c || anyCalling ts) (f || anyFrames ts)
+  unfolding foldFrom allRest anyCalling anyFrames goneThrough also shifted
+  quiet-through i c f [] h = rw (or-false c, or-false f)
+  quiet-through i c f (t ∷ ts) h =
       let p = and-both (partRests e t) (allRest e ts) h in
-      rw (one-d images e i t (p .0), none-done images e i t (p .0), silent images e i t (p .0))
-      (quiet-through (suc i) (f || eqb (infoIn infoSent (t .state)) 3) ts (p .1) ∙ rw or-assoc)
+      rw (one-d images e i t (p .0), none-done images e i t (p .0))
+      (quiet-through (suc i) (c || eqb (infoIn infoSent (t .state)) 1) (f || eqb (infoIn infoSent (t .state)) 3) ts (p .1) ∙ simp or-assoc)
 
 all-as-they-were : (images : List ℕ) (e : Bool) (i : ℕ) (ts : List Terminal) → allRest e ts ≡ true → mapFrom (turnedIn images e) i ts ≡ ts
 unfolding mapFrom allRest
@@ -75,12 +70,12 @@ all-as-they-were images e i (t ∷ ts) h =
     let p = and-both (partRests e t) (allRest e ts) h in rw (as-it-was images e i t (p .0), all-as-they-were images e (suc i) ts (p .1))
 
 -- ---- One opportunity.
-module _ (images : List ℕ) (letters : Letters) (ds : Four) (state place : ℕ) (heardD e₀ f₀ : Bool) (ts : List Terminal) (h : allRest (eSent state (letters .first) heardD) ts ≡ true) where
-  moment-after : momentAfter images (quiet letters ds state place heardD e₀ f₀) ts ≡ ended (quiet letters ds state place heardD (eSent state (letters .first) heardD) (anyFrames ts))
+module _ (images : List ℕ) (letters : Letters) (ds : Four) (state place : ℕ) (heardD e₀ c₀ f₀ : Bool) (ts : List Terminal) (h : allRest (eSent state (letters .first) heardD) ts ≡ true) where
+  moment-after : momentAfter images (quiet letters ds state place heardD e₀ c₀ f₀) ts ≡ ended (quiet letters ds state place heardD (eSent state (letters .first) heardD) (anyCalling ts) (anyFrames ts))
   unfolding momentAfter begun
-  moment-after = rw (quiet-through images letters ds state place heardD (eSent state (letters .first) heardD) 0 false ts h)
+  moment-after = rw (quiet-through images letters ds state place heardD (eSent state (letters .first) heardD) 0 false false ts h)
 
-  terminals-after : terminalsAfter images (quiet letters ds state place heardD e₀ f₀) ts ≡ ts
+  terminals-after : terminalsAfter images (quiet letters ds state place heardD e₀ c₀ f₀) ts ≡ ts
   unfolding terminalsAfter begun
   terminals-after = all-as-they-were images (eSent state (letters .first) heardD) 0 ts h
 
@@ -88,45 +83,60 @@ module _ (images : List ℕ) (letters : Letters) (ds : Four) (state place : ℕ)
 abbrev shifted-letters : Letters → Letters
 shifted-letters l = record { first = l .second; second = l .third; third = l .fourth; fourth = keepLetter }
 
+-- the D heard at the second opportunity
+second-d : (c : Bool) → cond c (not true) true ≡ not c
+second-d true = refl
+second-d false = refl
+
 pub rest-four : RestFour
 unfolding momentAfterFour terminalsAfterFour ended combinedD
 rest-four images state l1 heardD ts r =
     let l2 = shifted-letters l1 in
     let l3 = shifted-letters l2 in
     let l4 = shifted-letters l3 in
+    let c = anyCalling ts in
     let f = anyFrames ts in
+    let d3 : Four = record { first = true; second = true; third = true; fourth = not c } in
+    let d4 : Four = record { first = true; second = true; third = not c; fourth = true } in
     let e1 = eSent state (l1 .first) heardD in
     let e2 = eSent state (l2 .first) true in
-    let e3 = eSent state (l3 .first) true in
-    let m1 = moment-after images l1 (allFour true) state 0 heardD true false ts (r .first) in
-    let t1 = terminals-after images l1 (allFour true) state 0 heardD true false ts (r .first) in
-    let m2 = moment-after images l2 (allFour true) state 1 true e1 f ts (r .second) in
-    let t2 = terminals-after images l2 (allFour true) state 1 true e1 f ts (r .second) in
-    let m3 = moment-after images l3 (allFour true) state 2 true e2 f ts (r .third) in
-    let t3 = terminals-after images l3 (allFour true) state 2 true e2 f ts (r .third) in
-    let m4 = moment-after images l4 (allFour true) state 3 true e3 f ts (r .fourth) in
-    let t4 = terminals-after images l4 (allFour true) state 3 true e3 f ts (r .fourth) in
-    (rw (m1, t1, m2, t2, m3, t3, m4), rw (m1, t1, m2, t2, m3, t3) t4)
+    let e3 = eSent state (l3 .first) (not c) in
+    let m1 = moment-after images l1 (allFour true) state 0 heardD true false false ts (r .first) in
+    let t1 = terminals-after images l1 (allFour true) state 0 heardD true false false ts (r .first) in
+    let m2 = moment-after images l2 (allFour true) state 1 true e1 c f ts (r .second) in
+    let t2 = terminals-after images l2 (allFour true) state 1 true e1 c f ts (r .second) in
+    let m3 = moment-after images l3 d3 state 2 (not c) e2 c f ts (r .third) in
+    let t3 = terminals-after images l3 d3 state 2 (not c) e2 c f ts (r .third) in
+    let m4 = moment-after images l4 d4 state 3 true e3 c f ts (r .fourth) in
+    let t4 = terminals-after images l4 d4 state 3 true e3 c f ts (r .fourth) in
+    (rw (m1, t1, m2, t2, second-d c, m3, t3, m4), rw (m1, t1, m2, t2, second-d c, m3, t3) t4)
 
 -- ---- What is gathered of all terminals.
-gathered : (i : ℕ) (r : Rest) (ts : List Terminal) → foldFrom alsoRests i r ts ≡ record { still = r .still && allRest true ts; frames = r .frames || anyFrames ts }
-unfolding foldFrom allRest anyFrames
-gathered i r [] = rw (and-true (r .still), or-false (r .frames))
-gathered i r (t ∷ ts) = gathered (suc i) (alsoRests i r t) ts ∙ rw (and-assoc, or-assoc)
+also-still : (s p c a b : Bool) → (((s && p) && not c) && (a && not b)) ≡ (s && ((p && a) && not (c || b)))
+also-still false p c a b = refl
+also-still true false c a b = refl
+also-still true true true a b = rw and-false
+also-still true true false a b = refl
 
-pub rest-is : (ts : List Terminal) → restOf ts ≡ record { still = allRest true ts; frames = anyFrames ts }
+gathered : (i : ℕ) (r : Rest) (ts : List Terminal)
+    → foldFrom alsoRests i r ts ≡ record { still = r .still && (allRest true ts && not (anyCalling ts)); frames = r .frames || anyFrames ts }
+unfolding foldFrom allRest anyCalling anyFrames
+gathered i r [] = rw (and-true (r .still), or-false (r .frames))
+gathered i r (t ∷ ts) = gathered (suc i) (alsoRests i r t) ts ∙ rw (also-still, or-assoc)
+
+pub rest-is : (ts : List Terminal) → restOf ts ≡ record { still = allRest true ts && not (anyCalling ts); frames = anyFrames ts }
 unfolding restOf
 rest-is ts = gathered 0 noneRest ts
 
 -- ---- An exchange whose E are all 1.
 pub ones-rest : (state : ℕ) (letters : Letters) (heardD : Bool) (ts : List Terminal)
-    → onesSent (firstMoment state letters heardD) ≡ true → allRest true ts ≡ true → RestsThrough state letters heardD ts
+    → onesSent (firstMoment state letters heardD) ≡ true → allRest true ts ≡ true → anyCalling ts ≡ false → RestsThrough state letters heardD ts
 unfolding onesSent
-ones-rest state letters heardD ts o h =
+ones-rest state letters heardD ts o h none =
     let p = and-both _ (eSent state (letters .fourth) true) o in
     let q = and-both _ (eSent state (letters .third) true) (p .0) in
     let s = and-both (eSent state (letters .first) heardD) (eSent state (letters .second) true) (q .0) in
-    record { first = rw (s .0) h; second = rw (s .1) h; third = rw (q .1) h; fourth = rw (p .1) h }
+    record { first = rw (s .0) h; second = rw (s .1) h; third = rw (none, q .1) h; fourth = rw (p .1) h }
 
 -- ---- As the code finds it.
 made : (letters : Letters) (state : ℕ) (heardD : Bool) {d1 d2 d3 d4 e d calling frames : Bool} {place done1 done2 : ℕ}
@@ -166,13 +176,13 @@ first-is m h =
     let place : m .place ≡ 0 = eqb-true (m .place) 0 (g .1) in
     made (m .letters) (m .state) (m .heard) (k .0) (k .1) (j .1) (i .1) place done1 done2 (d .1) (c .1) calling frames
 
--- an exchange in which nothing happens ..
 pub left-at-rest : (images : List ℕ) (m : Moment) (ts : List Terminal) → mayRest m ≡ true → restOf ts .still ≡ true
-    → (restMoment (m .state) (m .letters) (restOf ts .frames) ≡ momentAfterFour images m ts) × (ts ≡ terminalsAfterFour images m ts)
+    → (restMoment (m .state) (m .letters) false (restOf ts .frames) ≡ momentAfterFour images m ts) × (ts ≡ terminalsAfterFour images m ts)
 unfolding mayRest
 left-at-rest images m ts h s =
     let p = and-both (isFirst m) (onesSent m) h in
     let f = first-is m (p .0) in
-    let all : allRest true ts ≡ true = rw (rest-is ts) at s in
-    let r = rest-four images (m .state) (m .letters) (m .heard) ts (ones-rest (m .state) (m .letters) (m .heard) ts (rw f at (p .1)) all) in
-    (rw (rest-is ts) (sym (r .0) ∙ ap (λ (x : Moment). momentAfterFour images x ts) (sym f)), sym (r .1) ∙ ap (λ (x : Moment). terminalsAfterFour images x ts) (sym f))
+    let q = and-both (allRest true ts) (not (anyCalling ts)) (rw (rest-is ts) at s) in
+    let none = not-true (anyCalling ts) (q .1) in
+    let r = rest-four images (m .state) (m .letters) (m .heard) ts (ones-rest (m .state) (m .letters) (m .heard) ts (rw f at (p .1)) (q .0) none) in
+    (rw (rest-is ts) (ap (λ (c : Bool). restMoment (m .state) (m .letters) c (anyFrames ts)) (sym none) ∙ sym (r .0) ∙ ap (λ (x : Moment). momentAfterFour images x ts) (sym f)), sym (r .1) ∙ ap (λ (x : Moment). terminalsAfterFour images x ts) (sym f))

@@ -1,12 +1,11 @@
--- An exchange in which nothing happens: no terminal sends INFO 1, and each in F7 has a D access that the E leaves as it is. Then D is 1 at
--- every opportunity, and the terminals are as before.
--- This is how the code goes; the law `rest-four` holds it to Opportunities.antt.
+-- An exchange in which no terminal takes part: each in F7 has a D access that the E leaves as it is. Then the terminals are as before, and D
+-- is 1 at every opportunity, but for the second where one sends INFO 1. The law `rest-four` holds this to Opportunities.antt.
+-- The code goes this way where none sends INFO 1.
 use mathlib.Core.Path.{_≡_}
 use mathlib.Core.Bool.{Bool, true, false, cond, not, _&&_, _||_}
 use mathlib.Core.List.{List, [], _∷_}
 use Prim.Native.Nat.{ℕ}
 use lib.Dec.{eqb}
-use Rattle.frame.specs.Four.{allFour}
 use Rattle.combining.specs.Hit.{keepLetter, struckBit}
 use Rattle.cells.specs.Cells.{infoIn}
 use Rattle.table_6_2.specs.Table62.{F7, infoSent}
@@ -20,25 +19,30 @@ use Rattle.exchange.specs.declared.moment.Letters.{Letters}
 use Rattle.exchange.specs.declared.moment.Moment.{Moment}
 use Rattle.exchange.specs.declared.rest.Rest.{Rest}
 
--- whether an E changes nothing in a terminal, and nothing but 1s leaves it
+-- whether an E changes nothing in a terminal, and a 1 leaves it for D
 unfoldable pub partRests : Bool → Terminal → Bool
-partRests e t = not (eqb (infoIn infoSent (t .state)) 1) && cond (eqb (t .state) F7) (atRest normal2 (t .access) && e) true
+partRests e t = cond (eqb (t .state) F7) (atRest normal2 (t .access) && e) true
 
 unfoldable pub allRest : Bool → List Terminal → Bool
 allRest e [] = true
 allRest e (t ∷ ts) = partRests e t && allRest e ts
+
+-- whether any of them sends INFO 1
+unfoldable pub anyCalling : List Terminal → Bool
+anyCalling [] = false
+anyCalling (t ∷ ts) = eqb (infoIn infoSent (t .state)) 1 || anyCalling ts
 
 -- whether any of them sends INFO 3
 unfoldable pub anyFrames : List Terminal → Bool
 anyFrames [] = false
 anyFrames (t ∷ ts) = eqb (infoIn infoSent (t .state)) 3 || anyFrames ts
 
--- ---- As the code gathers it, for an E of 1.
+-- ---- As the code gathers it, for an E of 1 and where none sends INFO 1.
 abbrev pub noneRest : Rest
 noneRest = record { still = true; frames = false }
 
 abbrev pub alsoRests : ℕ → Rest → Terminal → Rest
-alsoRests i r t = record { still = r .still && partRests true t; frames = r .frames || eqb (infoIn infoSent (t .state)) 3 }
+alsoRests i r t = record { still = (r .still && partRests true t) && not (eqb (infoIn infoSent (t .state)) 1); frames = r .frames || eqb (infoIn infoSent (t .state)) 3 }
 
 unfoldable pub restOf : List Terminal → Rest
 restOf ts = foldFrom alsoRests 0 noneRest ts
@@ -64,12 +68,12 @@ isFirst m =
 unfoldable pub mayRest : Moment → Bool
 mayRest m = isFirst m && onesSent m
 
--- what it leaves
-abbrev pub restMoment : ℕ → Letters → Bool → Moment
-restMoment state letters frames =
+-- what it leaves, with whether any terminal sends INFO 1, and INFO 3
+abbrev pub restMoment : ℕ → Letters → Bool → Bool → Moment
+restMoment state letters calling frames =
     record {
       letters = record { first = keepLetter; second = keepLetter; third = keepLetter; fourth = keepLetter };
-      ds = allFour true;
+      ds = record { first = true; second = not calling; third = true; fourth = true };
       state = state;
       place = 0;
       done1 = 0;
@@ -77,7 +81,7 @@ restMoment state letters frames =
       heard = true;
       e = eSent state (letters .fourth) true;
       d = true;
-      calling = false;
+      calling = calling;
       frames = frames;
     }
 
@@ -85,11 +89,11 @@ restMoment state letters frames =
 pub record RestsThrough (state : ℕ) (letters : Letters) (heardD : Bool) (ts : List Terminal) : Type 0 where
   pub first : allRest (eSent state (letters .first) heardD) ts ≡ true
   pub second : allRest (eSent state (letters .second) true) ts ≡ true
-  pub third : allRest (eSent state (letters .third) true) ts ≡ true
+  pub third : allRest (eSent state (letters .third) (not (anyCalling ts))) ts ≡ true
   pub fourth : allRest (eSent state (letters .fourth) true) ts ≡ true
 
 abbrev pub RestFour : Type 0
 RestFour =
     (images : List ℕ) (state : ℕ) (letters : Letters) (heardD : Bool) (ts : List Terminal) → RestsThrough state letters heardD ts
-    → (momentAfterFour images (firstMoment state letters heardD) ts ≡ restMoment state letters (anyFrames ts))
+    → (momentAfterFour images (firstMoment state letters heardD) ts ≡ restMoment state letters (anyCalling ts) (anyFrames ts))
     × (terminalsAfterFour images (firstMoment state letters heardD) ts ≡ ts)

@@ -1,6 +1,6 @@
 // The exchange of a period as an E comes, in the few values that it takes: no symbol is built.
 ghost use mathlib.Core.Path.{_≡_};
-ghost use mathlib.Core.Bool.{not};
+ghost use mathlib.Core.Bool.{false, not};
 ghost use Rattle.combining.specs.Hit.{struckBit};
 ghost use Rattle.bus.specs.Quick.{sentE};
 ghost use Rattle.exchange.specs.Moment as spec;
@@ -195,9 +195,9 @@ impl Moment {
         !(first & ones)
     }
 
-    // Four opportunities in which D was 1 throughout; `frames` is whether any terminal sends INFO 3.
+    // Four opportunities in which D was 1 throughout: no terminal sends INFO 1. `frames` is whether any sends INFO 3.
     pub fn rested(self, frames: bool) -> Self
-        ensures { λ r. ⌜ r ≡ rest.restMoment (self .state) (self .letters) frames ⌝ }
+        ensures { λ r. ⌜ r ≡ rest.restMoment (self .state) (self .letters) false frames ⌝ }
     {
         let letters = Letters {
             first: KEEP_LETTER,

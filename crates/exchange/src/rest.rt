@@ -1,4 +1,4 @@
-// An exchange in which nothing happens.
+// An exchange in which no terminal takes part.
 ghost use mathlib.Core.Path.{_≡_};
 ghost use Rattle.exchange.specs.Rest.{partRests, noneRest, alsoRests, restOf};
 ghost use mathlib.Core.Bool.{true};
@@ -6,18 +6,18 @@ use table_6_2::F7;
 use table_6_2::info_sent;
 use terminal::Terminal;
 
-// Whether no terminal gone through so far takes part in an exchange whose E are 1, and whether any sends INFO 3.
+// Whether no terminal gone through so far takes part in an exchange whose E are 1 nor sends INFO 1, and whether any sends INFO 3.
 pub struct Rest {
     pub still: bool,
     pub frames: bool,
 }
 
-// Whether an E of 1 changes nothing in a terminal, and nothing but 1s leaves it.
+// Whether an E of 1 changes nothing in a terminal, and a 1 leaves it for D.
 pub fn part_rests(terminal: Terminal) -> bool
     ensures { λ r. ⌜ r ≡ partRests true terminal ⌝ }
 {
     let access = terminal.access;
-    (info_sent(terminal.state) != 1) & ((terminal.state != F7) | access.at_rest())
+    (terminal.state != F7) | access.at_rest()
 }
 
 impl Rest {
@@ -35,9 +35,10 @@ impl Rest {
     pub fn also(self, terminal: Terminal) -> Self
         ensures { λ r. ⌜ r ≡ alsoRests 0 self terminal ⌝ }
     {
+        let info = info_sent(terminal.state);
         Rest {
-            still: self.still & part_rests(terminal),
-            frames: self.frames | (info_sent(terminal.state) == 3),
+            still: self.still & part_rests(terminal) & (info != 1),
+            frames: self.frames | (info == 3),
         }
     }
 }

@@ -25,4 +25,5 @@ pub reach-none : (b : BusRecord) (ts : List Terminal) (left : ℕ) → firstAhea
 unfolding reach reached
 reach-none b ts left h =
     let z = none-over 0 (firstAhead b left) ts h in
-    by-test (networkRests (foldFrom alsoAhead 0 (firstAhead b left) ts .frames) (b .network)) (λ u. rw (u, z)) (λ u. rw u)
+    let a = foldFrom alsoAhead 0 (firstAhead b left) ts in
+    by-test (networkRests (a .calling) (a .frames) (b .network)) (λ u. rw (u, z)) (λ u. rw u)

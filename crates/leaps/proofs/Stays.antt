@@ -16,7 +16,7 @@ use Rattle.timing.proofs.TimerLaws.{Clear, clear-most, clear-is, clear-next}
 use Rattle.hearing.specs.declared.heard.Downward.{Downward}
 use Rattle.terminal.specs.declared.Terminal.{Terminal}
 use Rattle.bus.specs.Quick.{shownBy}
-use Rattle.exchange.specs.Rest.{partRests, anyFrames}
+use Rattle.exchange.specs.Rest.{partRests, anyCalling, anyFrames}
 use Rattle.listening.specs.Hears.{rests}
 use Rattle.bus_record.specs.declared.record.BusRecord.{BusRecord}
 use Rattle.leaps.specs.Still.{networkRests, quiet, farthest, firstAhead, overWith, alsoAhead, reached, reach, leapt}
@@ -48,15 +48,16 @@ module _ (j : ℕ) (some : 0 < j) where
       let w = with-one a t (rest .1) in
       ((record { hears-alike = w .0; takes-no-part = w .1; t3-clear = clear-is (a .now .0) (a .over) (t .t3) j (w .2) }, rest .0), omega (arith, clear-most (a .now .0) (a .over) (t .t3), w .2))
 
-pub gathered-frames : (i : ℕ) (a : Ahead) (ts : List Terminal) → foldFrom alsoAhead i a ts .frames ≡ (a .frames || anyFrames ts)
-unfolding foldFrom alsoAhead anyFrames
-gathered-frames i a [] = rw or-false
-gathered-frames i a (t ∷ ts) = gathered-frames (suc i) (alsoAhead i a t) ts ∙ rw or-assoc
+pub gathered-sent : (i : ℕ) (a : Ahead) (ts : List Terminal)
+    → (foldFrom alsoAhead i a ts .calling ≡ (a .calling || anyCalling ts)) × (foldFrom alsoAhead i a ts .frames ≡ (a .frames || anyFrames ts))
+unfolding foldFrom alsoAhead anyCalling anyFrames
+gathered-sent i a [] = (rw or-false, rw or-false)
+gathered-sent i a (t ∷ ts) = let g = gathered-sent (suc i) (alsoAhead i a t) ts in (g .0 ∙ rw or-assoc, g .1 ∙ rw or-assoc)
 
 -- ---- All units.
 pub record Still (j : ℕ) (b : BusRecord) (ts : List Terminal) : Type 0 where
   pub quiet-is : quiet b ≡ true
-  pub network-rests : networkRests (anyFrames ts) (b .network) ≡ true
+  pub network-rests : networkRests (anyCalling ts) (anyFrames ts) (b .network) ≡ true
   pub terminals-stay : AllStay (shownBy (b .network .state)) (b .periods .0) j ts
   pub t1-clear : Clear (b .periods .0) j (b .network .t1)
   pub t2-clear : Clear (b .periods .0) j (b .network .t2)
@@ -69,10 +70,10 @@ module _ (b : BusRecord) (ts : List Terminal) (left j : ℕ) (some : 0 < j) (h :
   abbrev all : Ahead
   all = foldFrom alsoAhead 0 (firstAhead b left) ts
 
-  rests-so : (networkRests (all .frames) (b .network) ≡ true) × (j ≤ all .over)
+  rests-so : (networkRests (all .calling) (all .frames) (b .network) ≡ true) × (j ≤ all .over)
   unfolding reach reached
   rests-so =
-      by-test (networkRests (all .frames) (b .network)) (λ u. (u, rw u at h)) (λ u. let z : j ≤ 0 = rw u at h in absurd (omega arith))
+      by-test (networkRests (all .calling) (all .frames) (b .network)) (λ u. (u, rw u at h)) (λ u. let z : j ≤ 0 = rw u at h in absurd (omega arith))
 
   abbrev far : AllStay (firstAhead b left .line) (firstAhead b left .now .0) j ts × (j ≤ firstAhead b left .over)
   far = gathered-stay j some 0 (firstAhead b left) ts (rests-so .1)
@@ -95,7 +96,7 @@ module _ (b : BusRecord) (ts : List Terminal) (left j : ℕ) (some : 0 < j) (h :
   reach-still run =
       record {
         quiet-is = own .0;
-        network-rests = rw (gathered-frames 0 (firstAhead b left) ts) at (rests-so .0);
+        network-rests = let g = gathered-sent 0 (firstAhead b left) ts in rw (g .0, g .1) at (rests-so .0);
         terminals-stay = far .0;
         t1-clear = clear-is now (clear now (left - 1) mostPeriods) (b .network .t1) j second;
         t2-clear = clear-is now (clear now (clear now (left - 1) mostPeriods) (b .network .t1)) (b .network .t2) j (own .1);

@@ -1,6 +1,6 @@
 -- A period of a still bus, as the code goes through it: it hands back no notes and changes nothing but the counts.
 use mathlib.Core.Path.{_≡_, refl, ap, _∙_}
-use mathlib.Core.Bool.{Bool, true, false, cond, not, _&&_, _||_}
+use mathlib.Core.Bool.{Bool, true, false, cond, not, _&&_, _||_, or-false}
 use mathlib.Core.List.{List, [], _∷_, map}
 use Prim.Native.Nat.{ℕ, suc, _+_, _*_, _<_}
 use native.Mathlib.Omega.{arith}
@@ -10,15 +10,16 @@ use Rattle.cases.proofs.ByCases.{by-test, clash}
 use Rattle.cases.proofs.Operators.{and-both, not-true}
 use Rattle.walks.specs.Over.{mapFrom, foldFrom}
 use Rattle.frame.specs.Four.{allFour}
+use Rattle.frame.specs.declared.fields.Four.{Four}
 use Rattle.cells.specs.Notes.{packedNotes, noted}
 use Rattle.cells.specs.Cells.{cellIn, infoIn}
 use Rattle.table_6_2.specs.Table62.{F1, F7}
-use Rattle.table_6_3.specs.Table63.{G1, G2, G3}
+use Rattle.table_6_3.specs.Table63.{G1, G2, G3, G4}
 use Rattle.table_6_3.specs.Table63 as table63
 use Rattle.timing.specs.Counts.{mostPeriods, atPeriod, nextPeriod, fourMore}
 use Rattle.timing.proofs.TimerLaws.{Clear, clear-due}
 use Rattle.timing.specs.declared.counts.Periods.{Periods}
-use Rattle.alignment.specs.Alignment.{framedPeriod, followed}
+use Rattle.alignment.specs.Alignment.{framedPeriod, unframedPeriod, followed}
 use Rattle.hearing.specs.Heard.{upwardEvent, lossUp}
 use Rattle.hearing.specs.declared.heard.Downward.{Downward}
 use Rattle.network.specs.Network.{unchanged, acts, happens, andThen, aligned, t1Due, t2Due, checked, ready}
@@ -27,7 +28,7 @@ use Rattle.network.specs.declared.Network.{Network}
 use Rattle.network.specs.declared.NetworkStep.{NetworkStep}
 use Rattle.terminal.specs.declared.Terminal.{Terminal}
 use Rattle.bus.specs.Quick.{sentE, shownBy, shownFrom}
-use Rattle.exchange.specs.Rest.{partRests, allRest, anyFrames, restMoment, RestsThrough}
+use Rattle.exchange.specs.Rest.{partRests, allRest, anyCalling, anyFrames, restMoment, RestsThrough}
 use Rattle.exchange.specs.Shown.{lettersOf}
 use Rattle.exchange.proofs.Resting.{rest-four}
 use Rattle.listening.specs.Hears.{rests, heardOne, terminalAfter, notesAfter, toldAfter}
@@ -53,29 +54,56 @@ module _ (now t1 t2 : ℕ) where
   abbrev with : ℕ → ℕ → Bool → Network
   with state run al = record { t1 = t1; t2 = t2; state = state; alignment = record { aligned = al; run = run } }
 
-  in-G3 : (state run : ℕ) (al f : Bool) → state ≡ G3 → run ≡ 0 → (al && f) ≡ true → network.hears (shownFrom false f) now (with state run al) ≡ unchanged 0 (with state run al)
+  in-G3 : (state run : ℕ) (al c f : Bool) → state ≡ G3 → run ≡ 0 → ((al && f) && not c) ≡ true → network.hears (shownFrom c f) now (with state run al) ≡ unchanged 0 (with state run al)
   unfolding network.hears network.heardAs happens acts andThen aligned followed framedPeriod upwardEvent lossUp cellIn shownFrom noted
-  in-G3 state run true true p q h = rw (p, q)
-  in-G3 state run true false p q h = clash false h refl
-  in-G3 state run false f p q h = clash false h refl
+  in-G3 state run true false true p q h = rw (p, q)
+  in-G3 state run true true true p q h = clash false h refl
+  in-G3 state run true c false p q h = clash false h refl
+  in-G3 state run false c f p q h = clash false h refl
 
-  in-silence : (state run : ℕ) (al f : Bool) → (eqb state G1 || eqb state G2) ≡ true → run ≡ 0 → (not al && not f) ≡ true → network.hears (shownFrom false f) now (with state run al) ≡ unchanged 0 (with state run al)
-  unfolding network.hears network.heardAs happens acts andThen aligned followed framedPeriod upwardEvent lossUp cellIn shownFrom noted
-  in-silence state run false false p q h =
+  outside : (state run : ℕ) (al c f : Bool) → ((c && eqb state G4) || (not c && (eqb state G1 || eqb state G2))) ≡ true → run ≡ 0 → (not al && not f) ≡ true → network.hears (shownFrom c f) now (with state run al) ≡ unchanged 0 (with state run al)
+  unfolding network.hears network.heardAs happens acts andThen aligned followed framedPeriod unframedPeriod upwardEvent lossUp cellIn shownFrom noted
+  outside state run false true false p q h = let u : eqb state G4 ≡ true = rw (or-false (eqb state G4)) at p in rw (eqb-true state G4 u, q)
+  outside state run false false false p q h =
       by-test (eqb state G1) (λ t. rw (eqb-true state G1 t, q)) (λ t. let u : eqb state G2 ≡ true = rw t at p in rw (eqb-true state G2 u, q))
-  in-silence state run true f p q h = clash false h refl
-  in-silence state run false true p q h = clash false h refl
+  outside state run true c f p q h = clash false h refl
+  outside state run false c true p q h = clash false h refl
 
-hears-nothing : (f : Bool) (now : ℕ) (n : Network) → networkRests f n ≡ true → network.hears (shownFrom false f) now n ≡ unchanged 0 n
-unfolding networkRests
-hears-nothing f now n h =
-    let p = and-both (eqb (n .alignment .run) 0) (cond (eqb (n .state) G3) (n .alignment .aligned && f) ((not (n .alignment .aligned) && not f) && (eqb (n .state) G1 || eqb (n .state) G2))) h in
-    let run : n .alignment .run ≡ 0 = eqb-true (n .alignment .run) 0 (p .0) in
+module _ (c f : Bool) (n : Network) (h : networkRests c f n ≡ true) where
+  -- no run under way; in G3, or outside it
+  record Rested : Type 0 where
+    no-run : n .alignment .run ≡ 0
+    in-it : eqb (n .state) G3 ≡ true → ((n .alignment .aligned && f) && not c) ≡ true
+    out-of-it : eqb (n .state) G3 ≡ false → ((not (n .alignment .aligned) && not f) ≡ true) × (((c && eqb (n .state) G4) || (not c && (eqb (n .state) G1 || eqb (n .state) G2))) ≡ true)
+
+  rested : Rested
+  unfolding networkRests
+  rested =
+      let p = and-both (eqb (n .alignment .run) 0) _ h in
+      record {
+        no-run = eqb-true (n .alignment .run) 0 (p .0);
+        in-it = λ t. rw t at (p .1);
+        out-of-it = λ t. and-both (not (n .alignment .aligned) && not f) _ (rw t at (p .1));
+      }
+
+  hears-nothing : (now : ℕ) → network.hears (shownFrom c f) now n ≡ unchanged 0 n
+  hears-nothing now =
+      by-test (eqb (n .state) G3)
+      (λ t. in-G3 now (n .t1) (n .t2) (n .state) (n .alignment .run) (n .alignment .aligned) c f (eqb-true (n .state) G3 t) (rested .no-run) (rested .in-it t))
+      (λ t. let q = rested .out-of-it t in outside now (n .t1) (n .t2) (n .state) (n .alignment .run) (n .alignment .aligned) c f (q .1) (rested .no-run) (q .0))
+
+  -- in G3 no terminal sends INFO 1
+  none-calls : eqb (n .state) G3 ≡ true → c ≡ false
+  none-calls t = not-true c (and-both (n .alignment .aligned && f) (not c) (rested .in-it t) .1)
+
+-- where one sends INFO 1, so that D25 is 0, the E after it is as after a D of 1
+third-e : (c f : Bool) (n : Network) → networkRests c f n ≡ true → sentE (n .state) (not c) ≡ sentE (n .state) true
+unfolding sentE infoIn
+third-e false f n h = refl
+third-e true f n h =
     by-test (eqb (n .state) G3)
-    (λ t. in-G3 now (n .t1) (n .t2) (n .state) (n .alignment .run) (n .alignment .aligned) f (eqb-true (n .state) G3 t) run (rw t at (p .1)))
-    (λ t.
-    let q = and-both (not (n .alignment .aligned) && not f) (eqb (n .state) G1 || eqb (n .state) G2) (rw t at (p .1)) in
-    in-silence now (n .t1) (n .t2) (n .state) (n .alignment .run) (n .alignment .aligned) f (q .1) run (q .0))
+    (λ t. clash true refl (none-calls true f n h t))
+    (λ t. let u : eqb (n .state) G4 ≡ true = rw (or-false (eqb (n .state) G4)) at (rested true f n h .out-of-it t .1) in rw (eqb-true (n .state) G4 u))
 
 none-due : (now j : ℕ) (n : Network) → Clear now (suc j) (n .t1) → Clear now (suc j) (n .t2) → network.timers (now + 1) n ≡ unchanged 0 n
 unfolding network.timers andThen t1Due t2Due noted
@@ -90,16 +118,16 @@ checked-nothing step p n h = by-test (ready p n) (λ u. (rw (u, h), rw (u, h))) 
 leaves-none : (s : ℕ) → leavesG3 s s ≡ false
 leaves-none s = by-test (eqb s G3) (λ t. rw t) (λ t. rw t)
 
-module _ (f : Bool) (p : Periods) (j : ℕ) (n : Network) (l : p .0 < mostPeriods) (r : networkRests f n ≡ true) (a : Clear (p .0) (suc j) (n .t1)) (b : Clear (p .0) (suc j) (n .t2)) where
-  hearing : (hears (shownFrom false f) p n .network ≡ n) × (hears (shownFrom false f) p n .notes ≡ packedNotes [])
+module _ (c f : Bool) (p : Periods) (j : ℕ) (n : Network) (l : p .0 < mostPeriods) (r : networkRests c f n ≡ true) (a : Clear (p .0) (suc j) (n .t1)) (b : Clear (p .0) (suc j) (n .t2)) where
+  hearing : (hears (shownFrom c f) p n .network ≡ n) × (hears (shownFrom c f) p n .notes ≡ packedNotes [])
   unfolding hears
-  hearing = checked-nothing (network.hears (shownFrom false f)) p n (hears-nothing f (p .0) n r)
+  hearing = checked-nothing (network.hears (shownFrom c f)) p n (hears-nothing c f n r (p .0))
 
-  timing : (timers (shownFrom false f) p n .network ≡ n) × (timers (shownFrom false f) p n .notes ≡ packedNotes [])
+  timing : (timers (shownFrom c f) p n .network ≡ n) × (timers (shownFrom c f) p n .notes ≡ packedNotes [])
   unfolding timers
   timing = rw (hearing .0, next-is p l) (checked-nothing network.timers (atPeriod (p .0 + 1)) n (none-due (p .0) j n a b))
 
-  listens : networkListens (shownFrom false f) p n ≡ record { network = n; notes = noNotes; left = false }
+  listens : networkListens (shownFrom c f) p n ≡ record { network = n; notes = noNotes; left = false }
   unfolding networkListens
   listens = rw (timing .0, hearing .1, timing .1, hearing .0, leaves-none (n .state))
 
@@ -123,7 +151,7 @@ e-sent state t h p =
     (λ u. by-test (eqb (infoIn table63.infoSent state) 2)
     (λ v. clash false (rw (u, v) at a) refl)
     (λ v. rw (u, v) p)))
-    (λ f. rw f (rw f at p))
+    (λ f. rw f)
 
 module _ (state : ℕ) (p : Periods) (j : ℕ) (l : p .0 < mostPeriods) where
   abbrev AllHere : List Terminal → Type 0
@@ -171,9 +199,12 @@ module _ (images octets letters : List ℕ) (j : ℕ) (b : BusRecord) (ts : List
 
   rest : RestsThrough state (lettersOf (hitIn false letters)) true ts
   unfolding hitIn lettersOf
-  rest = let all = take-no-part state (b .periods) j run ts (s .terminals-stay) in record { first = all; second = all; third = all; fourth = all }
+  rest =
+      let all = take-no-part state (b .periods) j run ts (s .terminals-stay) in
+      let third : allRest (sentE state (not (anyCalling ts))) ts ≡ true = rw (third-e (anyCalling ts) (anyFrames ts) (b .network) (s .network-rests)) all in
+      record { first = all; second = all; third = third; fourth = all }
 
-  moment-is : stepMoment b ts images letters ≡ restMoment state (lettersOf (hitIn false letters)) (anyFrames ts)
+  moment-is : stepMoment b ts images letters ≡ restMoment state (lettersOf (hitIn false letters)) (anyCalling ts) (anyFrames ts)
   unfolding stepMoment firstMoment
   moment-is = rw (parts .0, parts .1) (rest-four images state (lettersOf (hitIn false letters)) true ts rest .0)
 
@@ -197,11 +228,18 @@ module _ (images octets letters : List ℕ) (j : ℕ) (b : BusRecord) (ts : List
   unfolding stepTold
   told-is = rw (line-is, exchanged-is) (none-told state (b .periods) j run 0 ts (s .terminals-stay))
 
-  read-is : readIn state (allFour true) octets (b .reader) ≡ quietReading (b .reader)
+  -- the four D heard; in G3 all are 1
+  abbrev ds : Four
+  ds = record { first = true; second = not (anyCalling ts); third = true; fourth = true }
+
+  ones : eqb state G3 ≡ true → ds ≡ allFour true
+  ones t = rw (none-calls (anyCalling ts) (anyFrames ts) (b .network) (s .network-rests) t)
+
+  read-is : readIn state ds octets (b .reader) ≡ quietReading (b .reader)
   unfolding readIn
   read-is =
       by-test (eqb state G3)
-      (λ t. rw t (four-ones octets (b .reader) (rw t at (parts .2)) .0))
+      (λ t. rw (t, ones t) (four-ones octets (b .reader) (rw t at (parts .2)) .0))
       (λ t. rw t)
 
   pub still-octets : stepOctets b ts images octets letters ≡ octets
@@ -209,7 +247,7 @@ module _ (images octets letters : List ℕ) (j : ℕ) (b : BusRecord) (ts : List
   still-octets =
       rw moment-is
       (by-test (eqb state G3)
-      (λ t. rw t (four-ones octets (b .reader) (rw t at (parts .2)) .1))
+      (λ t. rw (t, ones t) (four-ones octets (b .reader) (rw t at (parts .2)) .1))
       (λ t. rw t))
 
   counted-is : countedAfter state (b .opportunities) ≡ countedOver state 1 (b .opportunities)
@@ -220,4 +258,4 @@ module _ (images octets letters : List ℕ) (j : ℕ) (b : BusRecord) (ts : List
   unfolding stepRan ranAfter ranWith refusedRun leapt anyNote readerAfter
   still-ran =
       let l : leb (b .periods .0 + 1) mostPeriods ≡ true = le-leb (b .periods .0 + 1) mostPeriods (omega (arith, s .one-left)) in
-      rw (moment-is, told-is, read-is, listens (anyFrames ts) (b .periods) j (b .network) run (s .network-rests) (s .t1-clear) (s .t2-clear), next-is (b .periods) run, counted-is, l, parts .0, parts .1)
+      rw (moment-is, told-is, read-is, listens (anyCalling ts) (anyFrames ts) (b .periods) j (b .network) run (s .network-rests) (s .t1-clear) (s .t2-clear), next-is (b .periods) run, counted-is, l, parts .0, parts .1)

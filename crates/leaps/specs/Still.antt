@@ -1,7 +1,6 @@
 -- A bus is still when a period hands back no notes and changes nothing but the counts: periods run and, in G3, D opportunities run. From
 -- there as many periods as lie before the next timer, the number asked for and 4,000,000 are one step.
--- This is how the code goes, by a test that holds of still buses alone, and of all but those in G4 with a terminal in F4; the law `leap`
--- (Leap.antt) holds it to single periods.
+-- This is how the code goes, by a test that holds of still buses alone; the law `leap` (Leap.antt) holds it to single periods.
 use mathlib.Core.Bool.{Bool, true, false, cond, not, _&&_, _||_}
 use mathlib.Core.List.{List}
 use Prim.Native.Nat.{ℕ, _+_, _-_, _*_}
@@ -9,7 +8,7 @@ use lib.Dec.{eqb, leb}
 use Rattle.walks.specs.Over.{foldFrom}
 use Rattle.cells.specs.Cells.{infoIn}
 use Rattle.table_6_2.specs.Table62.{infoSent}
-use Rattle.table_6_3.specs.Table63.{G1, G2, G3}
+use Rattle.table_6_3.specs.Table63.{G1, G2, G3, G4}
 use Rattle.timing.specs.Counts.{mostPeriods, atPeriod}
 use Rattle.timing.specs.Timers.{clear}
 use Rattle.timing.specs.declared.counts.Opportunities.{Opportunities}
@@ -24,13 +23,15 @@ use Rattle.leaps.specs.declared.ahead.Ahead.{Ahead}
 
 -- ---- The network end.
 
--- it hears what it has heard before: in G1 and G2 unaligned no pulse, in G3 aligned INFO 3
-unfoldable pub networkRests : Bool → Network → Bool
-networkRests frames n =
+-- it hears what it has heard before, where terminals send INFO 1, and INFO 3: in G1 and G2 unaligned no pulse, in G3 aligned INFO 3, in G4
+-- unaligned INFO 1
+unfoldable pub networkRests : Bool → Bool → Network → Bool
+networkRests calling frames n =
     eqb (n .alignment .run) 0
     && cond (eqb (n .state) G3)
-    (n .alignment .aligned && frames)
-    ((not (n .alignment .aligned) && not frames) && (eqb (n .state) G1 || eqb (n .state) G2))
+    ((n .alignment .aligned && frames) && not calling)
+    ((not (n .alignment .aligned) && not frames)
+    && ((calling && eqb (n .state) G4) || (not calling && (eqb (n .state) G1 || eqb (n .state) G2))))
 
 -- no hit is pending, D was 1, and in G3 the reader waits
 unfoldable pub quiet : BusRecord → Bool
@@ -45,7 +46,7 @@ farthest b left =
 
 -- ---- All units.
 unfoldable pub firstAhead : BusRecord → ℕ → Ahead
-firstAhead b left = record { over = farthest b left; now = b .periods; line = shownBy (b .network .state); frames = false }
+firstAhead b left = record { over = farthest b left; now = b .periods; line = shownBy (b .network .state); calling = false; frames = false }
 
 -- a terminal takes no part in the exchange and hears what it has heard before, until its timer is due
 unfoldable pub overWith : Ahead → Terminal → ℕ
@@ -53,10 +54,11 @@ overWith a t = cond (rests (a .line) t && partRests true t) (clear (a .now .0) (
 
 unfoldable pub alsoAhead : ℕ → Ahead → Terminal → Ahead
 alsoAhead i a t =
-    record { over = overWith a t; now = a .now; line = a .line; frames = a .frames || eqb (infoIn infoSent (t .state)) 3 }
+    let info = infoIn infoSent (t .state) in
+    record { over = overWith a t; now = a .now; line = a .line; calling = a .calling || eqb info 1; frames = a .frames || eqb info 3 }
 
 unfoldable pub reached : Network → Ahead → ℕ
-reached n a = cond (networkRests (a .frames) n) (a .over) 0
+reached n a = cond (networkRests (a .calling) (a .frames) n) (a .over) 0
 
 -- as far as the bus is found still, with so many periods left to run; 0 where it is not
 unfoldable pub reach : BusRecord → List Terminal → ℕ → ℕ

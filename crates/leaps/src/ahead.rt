@@ -13,6 +13,7 @@ use table_6_2::info_sent;
 use table_6_3::G1;
 use table_6_3::G2;
 use table_6_3::G3;
+use table_6_3::G4;
 use terminal::Terminal;
 use timing::counts::MOST_PERIODS;
 use timing::counts::Periods;
@@ -26,7 +27,8 @@ pub struct Ahead {
     pub now: Periods,
     // What all powered terminals hear in it.
     pub line: Downward,
-    // Whether any terminal sends INFO 3.
+    // Whether any terminal sends INFO 1, and INFO 3.
+    pub calling: bool,
     pub frames: bool,
 }
 
@@ -38,17 +40,18 @@ fn quiet(bus: BusRecord) -> bool
     !bus.hit & bus.heard & ((bus.network.state != G3) | waits(reader))
 }
 
-// Whether the network end hears what it has heard before, where `frames` is whether any terminal sends INFO 3 and none sends INFO 1.
-fn network_rests(network: Network, frames: bool) -> bool
-    ensures { λ r. ⌜ r ≡ spec.networkRests frames network ⌝ }
+// Whether the network end hears what it has heard before; the bools are whether any terminal sends INFO 1, and INFO 3.
+fn network_rests(network: Network, calling: bool, frames: bool) -> bool
+    ensures { λ r. ⌜ r ≡ spec.networkRests calling frames network ⌝ }
 {
     let state = network.state;
     let aligned = network.alignment.aligned;
     let run = network.alignment.run;
     if state == G3 {
-        return (run == 0) & (aligned & frames);
+        return (run == 0) & (aligned & frames & !calling);
     }
-    (run == 0) & (!aligned & !frames & ((state == G1) | (state == G2)))
+    let stays = (calling & (state == G4)) | (!calling & ((state == G1) | (state == G2)));
+    (run == 0) & (!aligned & !frames & stays)
 }
 
 // One less, or 0.
@@ -85,6 +88,7 @@ impl Ahead {
             over: farthest(bus, left),
             now,
             line,
+            calling: false,
             frames: false,
         }
     }
@@ -107,11 +111,13 @@ impl Ahead {
     {
         let now = self.now;
         let line = self.line;
+        let info = info_sent(terminal.state);
         Ahead {
             over: self.over_with(terminal),
             now,
             line,
-            frames: self.frames | (info_sent(terminal.state) == 3),
+            calling: self.calling | (info == 1),
+            frames: self.frames | (info == 3),
         }
     }
 
@@ -119,7 +125,7 @@ impl Ahead {
     pub fn reached(self, network: Network) -> u32
         ensures { λ r. ⌜ r ≡ spec.reached network self ⌝ }
     {
-        if network_rests(network, self.frames) {
+        if network_rests(network, self.calling, self.frames) {
             self.over
         } else {
             0

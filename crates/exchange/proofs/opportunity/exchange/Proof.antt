@@ -116,7 +116,7 @@ module _ {M : Type 1} (𝓤 : URA M) (H : Heap 𝓤) (A : Atoms 𝓤) (W : Given
     last = λ ns ws. ws;
     finals = λ ns ws. id⊢ 𝓤 _;
     result = λ ns. moments;
-    Said = λ ns r ws. r ≡ restMoment (first .state) (first .letters) (x .frames);
+    Said = λ ns r ws. r ≡ restMoment (first .state) (first .letters) false (x .frames);
     ensured = λ ns r ws. id⊢ 𝓤 _;
   }
 
@@ -134,10 +134,10 @@ module _ {M : Type 1} (𝓤 : URA M) (H : Heap 𝓤) (A : Atoms 𝓤) (W : Given
   }
 
   -- nothing changes
-  rested-right : (w : Bool) → w ≡ not (mayRest first) → w ≡ false → (x : Rest) → x ≡ restOf ys → x .still ≡ true → (r : Moment) → r ≡ restMoment (first .state) (first .letters) (x .frames) → Promised r ys
+  rested-right : (w : Bool) → w ≡ not (mayRest first) → w ≡ false → (x : Rest) → x ≡ restOf ys → x .still ≡ true → (r : Moment) → r ≡ restMoment (first .state) (first .letters) false (x .frames) → Promised r ys
   rested-right w is-w off x is-x still r is-r =
       let l = left-at-rest es first ys (not-false (mayRest first) (sym is-w ∙ off)) (ap (λ (y : Rest). y .still) (sym is-x) ∙ still) in
-      (is-r ∙ ap (λ (y : Rest). restMoment (first .state) (first .letters) (y .frames)) is-x ∙ l .0, l .1)
+      (is-r ∙ ap (λ (y : Rest). restMoment (first .state) (first .letters) false (y .frames)) is-x ∙ l .0, l .1)
 
   walk : (𝓣 : Tables 𝓤 H) → Triple 𝓤 (𝓣 .C #may) (May 𝓤 H A mem run) → Triple 𝓤 (𝓣 .C #rest) (Rests 𝓤 H A mem run) → Triple 𝓤 (𝓣 .C #rested) (Rested 𝓤 H A mem run) → Triple 𝓤 (𝓣 .C #four) (Four 𝓤 H A mem run)
       → ent 𝓤 (onEntry 𝓤 H A all.signature (bound .0 .0) (bound .0 .1) (bound .0 .3) (bound .0 .4)) (WpFn 𝓤 H (𝓣 .C) (𝓣 .Λ) code.function (word s₁ n ∷ word s₂ (length es) ∷ moments .val first ∷ []) Post)

@@ -6,15 +6,12 @@ use Rattle.exchange.specs.Rest.{partRests}
 use Rattle.exchange.proofs.rest.part_rests.Statement.{statement}
 use Rattle.exchange.proofs.rest.part_rests.Tie as tie
 
-info-sent-requires : tie.Need-info-sent-requires
-info-sent-requires c κs = search needs
-
 at-rest-requires : tie.Need-at-rest-requires
 at-rest-requires c κs = search needs
 
 returns : tie.Need-returns
 unfolding partRests
-returns c = rw (c .at-rest .ensures, c .before .before .info-sent .ensures, not-or, and-true)
+returns c = rw (c .at-rest .ensures, not-or, and-true)
 
 pub part-rests-spec : {M : Type 1} → statement M
-part-rests-spec = tie.close (tie.spec info-sent-requires at-rest-requires returns)
+part-rests-spec = tie.close (tie.spec at-rest-requires returns)

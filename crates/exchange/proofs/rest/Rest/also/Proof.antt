@@ -3,14 +3,14 @@ use borrow.Author.Needs.{needs}
 use Rattle.exchange.proofs.rest.Rest.also.Statement.{statement}
 use Rattle.exchange.proofs.rest.Rest.also.Tie as tie
 
-part-rests-requires : tie.Need-part-rests-requires
-part-rests-requires c κs = search needs
-
 info-sent-requires : tie.Need-info-sent-requires
 info-sent-requires c κs = search needs
 
+part-rests-requires : tie.Need-part-rests-requires
+part-rests-requires c κs = search needs
+
 returns : tie.Need-returns
-returns c = rw (c .before .before .before .part-rests .ensures, c .before .info-sent .ensures)
+returns c = cc
 
 pub also-spec : {M : Type 1} → statement M
-also-spec = tie.close (tie.spec part-rests-requires info-sent-requires returns)
+also-spec = tie.close (tie.spec info-sent-requires part-rests-requires returns)

@@ -4,15 +4,15 @@ use borrow.Author.Needs.{needs}
 use Rattle.leaps.proofs.ahead.Ahead.also.Statement.{statement}
 use Rattle.leaps.proofs.ahead.Ahead.also.Tie as tie
 
-over-with-requires : tie.Need-over-with-requires
-over-with-requires c κs = search needs
-
 info-sent-requires : tie.Need-info-sent-requires
 info-sent-requires c κs = search needs
+
+over-with-requires : tie.Need-over-with-requires
+over-with-requires c κs = search needs
 
 returns : tie.Need-returns
 unfolding alsoAhead
 returns c = cc
 
 pub also-spec : {M : Type 1} → statement M
-also-spec = tie.close (tie.spec over-with-requires info-sent-requires returns)
+also-spec = tie.close (tie.spec info-sent-requires over-with-requires returns)
