@@ -6,8 +6,8 @@ use Prim.Native.Nat.{ℕ}
 use lib.ListN.{replicate}
 use Rattle.walks.specs.Over.{foldFrom}
 use Rattle.cells.specs.Cells.{infoIn}
-use Rattle.table_6_2.specs.Table62.{F3, F5, F7}
-use Rattle.table_6_3.specs.Table63.{G1, G2, G3}
+use Rattle.table_6_2.specs.Table62.{F3, F4, F5, F7}
+use Rattle.table_6_3.specs.Table63.{G1, G2, G3, G4}
 use Rattle.timing.specs.Counts.{atPeriod}
 use Rattle.timing.specs.Timers.{clear}
 use Rattle.dchannel.specs.Access.{atRest}
@@ -26,11 +26,11 @@ use Rattle.bus_record.specs.declared.record.BusRecord.{BusRecord}
 use Rattle.leaps.specs.Still.{networkRests, quiet, farthest, firstAhead, overWith, alsoAhead, reached, reach, countedOver, leapt}
 
 -- ---- Units.
--- a network end in a state, aligned or not, after 1,000 periods, with T1 due at a period and a reader
-abbrev bus : ℕ → Bool → ℕ → Reader → BusRecord
-bus state aligned t1 reader =
+-- a network end in a state, aligned or not, after 1,000 periods, with T1 and T2 due at periods and a reader
+abbrev bus : ℕ → Bool → ℕ → ℕ → Reader → BusRecord
+bus state aligned t1 t2 reader =
     record {
-      network = record { t1 = t1; t2 = 0; state = state; alignment = record { aligned = aligned; run = 0 } };
+      network = record { t1 = t1; t2 = t2; state = state; alignment = record { aligned = aligned; run = 0 } };
       periods = atPeriod 1000;
       opportunities = record { 0 = 400 };
       reader = reader;
@@ -60,31 +60,36 @@ unfolding reach reached firstAhead alsoAhead overWith farthest quiet readerWaits
 fresh-bus = refl
 
 -- one terminal waits in F3; one in F5, until T3 at period 1,020
-pub in-G1 : far (bus G1 false 0 freshReader) (unit F3 false 0 dchannel.fresh ∷ unit F5 false 1020 dchannel.fresh ∷ []) ≡ 19
+pub in-G1 : far (bus G1 false 0 0 freshReader) (unit F3 false 0 dchannel.fresh ∷ unit F5 false 1020 dchannel.fresh ∷ []) ≡ 19
 unfolding reach reached firstAhead alsoAhead overWith farthest quiet readerWaits networkRests clear rests partRests shownBy infoIn foldFrom
 in-G1 = refl
 
 -- nothing powered in G2, until T1 at period 1,200
-pub in-G2 : far (bus G2 false 1200 freshReader) (terminal.fresh ∷ []) ≡ 199
+pub in-G2 : far (bus G2 false 1200 0 freshReader) (terminal.fresh ∷ []) ≡ 199
 unfolding reach reached firstAhead alsoAhead overWith farthest quiet readerWaits networkRests clear rests partRests shownBy infoIn foldFrom
 in-G2 = refl
 
 -- two terminals activated, C at its end
-pub in-G3 : far (bus G3 true 0 freshReader) (active ∷ terminal.fresh ∷ active ∷ []) ≡ 499
+pub in-G3 : far (bus G3 true 0 0 freshReader) (active ∷ terminal.fresh ∷ active ∷ []) ≡ 499
 unfolding reach reached firstAhead alsoAhead overWith farthest quiet readerWaits networkRests clear rests partRests shownBy infoIn foldFrom atRest
 in-G3 = refl
 
--- not still: C at 10, a frame held, the reader inside a frame, G3 without a terminal that sends, a
--- terminal not aligned, one period left
-pub not-still : far (bus G3 true 0 freshReader) (unit F7 true 0 (counting 10 0) ∷ []) ∷ far (bus G3 true 0 freshReader) (unit F7 true 0 (counting 11 2) ∷ []) ∷ far (bus G3 true 0 openedReader) (active ∷ []) ∷ far (bus G3 true 0 freshReader) (terminal.fresh ∷ []) ∷ far (bus G3 true 0 freshReader) (unit F7 false 0 (counting 11 0) ∷ []) ∷ reach freshRecord [] 1 ∷ [] ≡ replicate 6 0
+-- pending deactivation while a terminal calls, until T2 at period 1,100, and until its T3 at period 1,050
+pub in-G4 : far (bus G4 false 0 1100 freshReader) (unit F3 false 0 dchannel.fresh ∷ unit F4 false 1300 dchannel.fresh ∷ []) ∷ far (bus G4 false 0 1100 freshReader) (unit F4 false 1050 dchannel.fresh ∷ []) ∷ [] ≡ 99 ∷ 49 ∷ []
+unfolding reach reached firstAhead alsoAhead overWith farthest quiet readerWaits networkRests clear rests partRests shownBy infoIn foldFrom
+in-G4 = refl
+
+-- not still: C at 10, a frame held, the reader inside a frame, G3 without a terminal that sends, a terminal not aligned, a call in G1, G4
+-- without a call, one period left
+pub not-still : far (bus G3 true 0 0 freshReader) (unit F7 true 0 (counting 10 0) ∷ []) ∷ far (bus G3 true 0 0 freshReader) (unit F7 true 0 (counting 11 2) ∷ []) ∷ far (bus G3 true 0 0 openedReader) (active ∷ []) ∷ far (bus G3 true 0 0 freshReader) (terminal.fresh ∷ []) ∷ far (bus G3 true 0 0 freshReader) (unit F7 false 0 (counting 11 0) ∷ []) ∷ far (bus G1 false 0 0 freshReader) (unit F4 false 0 dchannel.fresh ∷ []) ∷ far (bus G4 false 0 1100 freshReader) (unit F3 false 0 dchannel.fresh ∷ []) ∷ reach freshRecord [] 1 ∷ [] ≡ replicate 8 0
 unfolding reach reached firstAhead alsoAhead overWith farthest quiet readerWaits networkRests clear rests partRests shownBy infoIn foldFrom atRest
 not-still = refl
 
 -- ---- What a leap makes of the counts: four opportunities a period in G3, none elsewhere.
-pub leap-in-G3 : (leapt 30 (bus G3 true 0 freshReader) .periods .0 ≡ 1030) × (leapt 30 (bus G3 true 0 freshReader) .opportunities .0 ≡ 520)
+pub leap-in-G3 : (leapt 30 (bus G3 true 0 0 freshReader) .periods .0 ≡ 1030) × (leapt 30 (bus G3 true 0 0 freshReader) .opportunities .0 ≡ 520)
 unfolding leapt countedOver
 leap-in-G3 = (refl, refl)
 
-pub leap-outside-G3 : (leapt 30 (bus G1 false 0 freshReader) .periods .0 ≡ 1030) × (leapt 30 (bus G1 false 0 freshReader) .opportunities .0 ≡ 400)
+pub leap-outside-G3 : (leapt 30 (bus G1 false 0 0 freshReader) .periods .0 ≡ 1030) × (leapt 30 (bus G1 false 0 0 freshReader) .opportunities .0 ≡ 400)
 unfolding leapt countedOver
 leap-outside-G3 = (refl, refl)
