@@ -85,12 +85,3 @@ shown-up true true = refl
 shown-up true false = refl
 shown-up false true = refl
 shown-up false false = refl
-
--- a test that is turned round
-pub not-true : (b : Bool) → not b ≡ true → b ≡ false
-not-true true e = cc
-not-true false e = refl
-
-pub not-false : (b : Bool) → not b ≡ false → b ≡ true
-not-false true e = refl
-not-false false e = cc

@@ -5,9 +5,9 @@ use mathlib.Core.List.{List, [], _∷_, _++_, append-nil}
 use Prim.Native.Nat.{ℕ, zero, suc, _+_, _-_}
 use native.Mathlib.Omega.{arith}
 use lib.Dec.{eqb, ltb}
-use borrow.Author.Tests.{eqb-true, eq-eqb, ltb-false}
+use borrow.Author.Tests.{eqb-true, eq-eqb, ltb-false, not-true}
 use Rattle.cases.proofs.ByCases.{by-test, clash, and-left-false, and-right-false}
-use Rattle.cases.proofs.Operators.{and-both, not-true}
+use Rattle.cases.proofs.Operators.{and-both}
 use Rattle.cells.specs.Notes.{noted}
 use Rattle.cells.specs.declared.notes.Notes.{Notes}
 use Rattle.hdlc.specs.Bits.{numberLowFirst, bitOf}

@@ -4,9 +4,9 @@ use mathlib.Core.Bool.{true, false, not, _&&_}
 use Prim.Native.Nat.{ℕ, zero, suc}
 use native.Mathlib.Omega.{arith}
 use lib.Dec.{eqb, ltb}
-use borrow.Author.Tests.{eqb-true, lt-ltb, ltb-true}
+use borrow.Author.Tests.{eqb-true, lt-ltb, ltb-true, not-true}
 use Rattle.cases.proofs.ByCases.{by-test}
-use Rattle.cases.proofs.Operators.{and-both, not-true}
+use Rattle.cases.proofs.Operators.{and-both}
 use Rattle.timing.specs.Counts.{allRun}
 use Rattle.bus_record.specs.NetworkSide.{refusedRun}
 use Rattle.bus_record.specs.declared.side.Ran.{Ran}

@@ -19,11 +19,6 @@ pub and-both : (a b : Bool) → (a && b) ≡ true → (a ≡ true) × (b ≡ tru
 and-both true b h = (refl, h)
 and-both false b h = (h, cc)
 
--- `!a`
-pub not-true : (a : Bool) → not a ≡ true → a ≡ false
-not-true true h = cc
-not-true false h = refl
-
 -- `!a | b`
 pub not-or : (a b : Bool) → (not a || b) ≡ cond a b true
 not-or true b = refl

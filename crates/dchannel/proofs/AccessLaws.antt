@@ -1,6 +1,6 @@
 -- The sentences of document 01, "D access (6.1)", about one terminal's access, each a lemma over every record, for normal levels x1
 -- of class 1 and x2 of class 2.
-use mathlib.Core.Bool.{Bool, true, false, cond, not, true≢false, Bool·beq}
+use mathlib.Core.Bool.{Bool, true, false, cond, true≢false, Bool·beq}
 use mathlib.Core.Path.{_≡_, refl, sym, ap, _∙_, subst}
 use mathlib.Core.Logic.{_↔_, _⊎_, inl, inr}
 use mathlib.Core.List.{List, [], _∷_, _++_}
@@ -10,14 +10,14 @@ use native.Mathlib.Numerals.{add-one}
 use lib.Dec.{ltb, leb, eqb}
 use lib.ListN.{length, getD, take, replicate, length-append}
 use lib.Seq.{getD-at, append-snoc, take-suc}
-use borrow.Author.Tests.{ltb-true, ltb-false, leb-true, leb-false, eqb-true, eqb-false, lt-ltb, le-ltb, le-leb, lt-leb, eq-eqb, ne-eqb}
+use borrow.Author.Tests.{ltb-true, ltb-false, leb-true, leb-false, eqb-true, eqb-false, lt-ltb, le-ltb, le-leb, lt-leb, eq-eqb, ne-eqb, not-true}
 use Rattle.hdlc.specs.Bits.{sameBit}
 use Rattle.hdlc.specs.Image.{image, shortestImage, longestImage, IsBody}
 use Rattle.dchannel.specs.Access.{entered, countAfter, lowAfter, afterE, sending, lowOf, threshold, mayStart, sendsNext, stops, completes, idles, turn, leavesAt, atRest}
 use Rattle.dchannel.specs.Handing.{classNumber, isImageLength, takenUp, handed, left}
 use Rattle.hdlc.specs.Ones.{endingOnes}
 use Rattle.cases.proofs.ByCases.{by-test, both}
-use Rattle.cases.proofs.Operators.{and-both, not-true}
+use Rattle.cases.proofs.Operators.{and-both}
 use Rattle.hdlc.proofs.OnesLaws.{ending-one}
 use Rattle.hdlc.proofs.ImageLaws.{length-image, image-least, image-most}
 use Rattle.dchannel.specs.declared.access.Access.{Access}

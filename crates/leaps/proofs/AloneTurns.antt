@@ -1,33 +1,30 @@
 -- A run of periods in which one terminal sends alone (crate `solo`) is a turn of a run's loop: `specs/Turn.antt`.
 use mathlib.Core.Path.{_≡_, refl, sym, ap, _∙_}
-use mathlib.Core.Bool.{true, false, not, _&&_}
+use mathlib.Core.Bool.{true, _&&_}
 use mathlib.Core.List.{List, [], _∷_}
 use Prim.Native.Nat.{ℕ, zero, suc, _+_, _-_, _≤_, _<_}
 use native.Mathlib.Nat.{suc-inj}
 use native.Mathlib.Omega.{arith}
-use lib.Dec.{eqb}
 use lib.ListN.{length}
-use borrow.Author.Tests.{eqb-true, lt-ltb}
+use borrow.Author.Tests.{lt-ltb}
 use Rattle.cases.proofs.ByCases.{by-test}
-use Rattle.cases.proofs.Operators.{and-both, not-true}
+use Rattle.cases.proofs.Operators.{and-both}
 use Rattle.walks.specs.Over.{mapFrom}
-use Rattle.hdlc.specs.Bits.{sameBit}
-use Rattle.table_6_3.specs.Table63.{G3}
-use Rattle.timing.specs.Counts.{allRun, nextPeriod}
+use Rattle.timing.specs.Counts.{nextPeriod}
 use Rattle.terminal.specs.declared.Terminal.{Terminal}
 use Rattle.listening.specs.Hears.{silenced}
 use Rattle.listening.specs.declared.hears.UnitNotes.{UnitNotes}
 use Rattle.bus_record.specs.NetworkSide.{noNotes, ranWith, ranAfter, refusedRun}
 use Rattle.bus_record.specs.declared.record.BusRecord.{BusRecord}
 use Rattle.bus_record.specs.declared.side.Ran.{Ran}
-use Rattle.solo.specs.Solo.{soloTurned, soloAfterFour, soloGoes, followed, soloSeats, senderIn}
-use Rattle.solo.specs.Alone.{staysAlone, goesAlone, aloneAfter, octetsThen, aloneOn, octetsOn, notYet, aloneRun, aloneRunOctets}
-use Rattle.solo.specs.Search.{allHearAlike, allClear, searched, aloneFor}
+use Rattle.solo.specs.Solo.{soloTurned, soloAfterFour, followed, soloSeats, senderIn}
+use Rattle.solo.specs.Alone.{goesAlone, aloneAfter, octetsThen, aloneOn, octetsOn, notYet, aloneRun, aloneRunOctets}
+use Rattle.solo.specs.Search.{allHearAlike, AllClear, searched, aloneFor}
 use Rattle.solo.specs.declared.alone.Alone.{Alone}
 use Rattle.solo.specs.declared.solo.Solo.{Solo}
 use Rattle.solo.specs.declared.search.Search.{Search}
 use Rattle.solo.proofs.FoundAlone.{found-alone}
-use Rattle.solo.proofs.Period.{period-alone, clear-on}
+use Rattle.solo.proofs.Period.{goes-facts, period-alone, clear-on}
 use Rattle.call_rules.specs.Kept.{Kept, kept}
 use Rattle.call_rules.specs.Ready.{goesOn}
 use Rattle.call_rules.specs.Period.{periodRan, keptRun}
@@ -45,26 +42,13 @@ same-place images s = (refl, refl)
 
 -- ---- What goes on alone goes on.
 module _ (images : List ℕ) (a : Alone) (g : goesAlone images a ≡ true) where
-  facts : (a .ran .reply ≡ 0) × (a .ran .told ≡ false) × (allRun (a .ran .bus .periods) ≡ false)
-  unfolding goesAlone staysAlone
-  facts =
-      let last = a .ran in
-      let bus = last .bus in
-      let told = eqb (last .reply) 0 && not (last .told) in
-      let still = (told && eqb (bus .network .state) G3) && not (bus .hit) in
-      let p = and-both ((still && sameBit (bus .heard) (a .solo .last)) && soloGoes images (a .solo)) (not (allRun (bus .periods))) g in
-      let q = and-both still (sameBit (bus .heard) (a .solo .last)) (and-both (still && sameBit (bus .heard) (a .solo .last)) (soloGoes images (a .solo)) (p .0) .0) in
-      let r = and-both told (eqb (bus .network .state) G3) (and-both (told && eqb (bus .network .state) G3) (not (bus .hit)) (q .0) .0) in
-      let t = and-both (eqb (last .reply) 0) (not (last .told)) (r .0) in
-      (eqb-true (last .reply) 0 (t .0), not-true (last .told) (t .1), not-true (allRun (bus .periods)) (p .1))
-
   goes-so : (left : ℕ) → 0 < left → goesOn (a .ran) left ≡ true
   unfolding goesOn
-  goes-so left some = rw (facts .0, facts .1, facts .2, lt-ltb 0 left some)
+  goes-so left some = let f = goes-facts images a g in rw (f .no-reply, f .none-told, f .more, lt-ltb 0 left some)
 
   next-period : (os : List ℕ) → aloneAfter images a os .ran .bus .periods .0 ≡ a .ran .bus .periods .0 + 1
   unfolding aloneAfter ranAfter ranWith nextPeriod
-  next-period os = rw (facts .2)
+  next-period os = rw (goes-facts images a g .more)
 
 -- ---- The run, from what was found.
 module _ (images letters : List ℕ) (ended : Ran) (end : Kept) (ts : List Terminal) (total : ℕ) (rest : allHearAlike ts ≡ true) where
@@ -79,7 +63,7 @@ module _ (images letters : List ℕ) (ended : Ran) (end : Kept) (ts : List Termi
     seats : soloSeats (a .solo .at) (a .solo .length) 0 ts ≡ true
     sender : senderIn (a .solo .at) 0 ts ≡ true
 
-  one-period : (a : Alone) (os : List ℕ) (ns : List UnitNotes) → GoesAt a os ns → Stands a → goesAlone images a ≡ true → allClear (a .ran .bus .periods .0) 1 ts ≡ true → a .over < total
+  one-period : (a : Alone) (os : List ℕ) (ns : List UnitNotes) → GoesAt a os ns → Stands a → goesAlone images a ≡ true → AllClear (a .ran .bus .periods .0) 1 ts → a .over < total
       → GoesAt (aloneAfter images a os) (octetsThen images a os) none-noted
   unfolding aloneAfter octetsThen stepRan stepTerminals stepOctets stepNotes stepTold stepMoment stepExchanged stepLine
   one-period a os ns i s g c l =
@@ -89,7 +73,7 @@ module _ (images letters : List ℕ) (ended : Ran) (end : Kept) (ts : List Termi
       rw (p .told-is, p .terminals-are, p .notes-are, p .moment-is, fewer) at on
 
   -- and so many; n0 periods from period now0 on no timer is due, and k of them have been run
-  module _ (now0 n0 : ℕ) (c : allClear now0 n0 ts ≡ true) where
+  module _ (now0 n0 : ℕ) (c : AllClear now0 n0 ts) where
     on-alone : (n k : ℕ) (a : Alone) (os : List ℕ) → GoesAt a os none-noted → Stands a → a .ran .reply ≡ 0 → a .ran .bus .periods .0 ≡ now0 + k → k + n ≤ n0 → a .over + n ≤ total
         → GoesAt (aloneOn images n a os) (octetsOn images n a os) none-noted × (aloneOn images n a os .ran .reply ≡ 0) × (aloneOn images n a os .over ≤ total)
     unfolding aloneOn octetsOn aloneAfter ranAfter ranWith
@@ -97,7 +81,7 @@ module _ (images letters : List ℕ) (ended : Ran) (end : Kept) (ts : List Termi
     on-alone (suc n) k a os i s z p l m =
         by-test (goesAlone images a)
         (λ g.
-        let clear-here : allClear (a .ran .bus .periods .0) 1 ts ≡ true = rw p (clear-on now0 n0 k ts (omega arith) c) in
+        let clear-here : AllClear (a .ran .bus .periods .0) 1 ts = rw p (clear-on now0 n0 k ts (omega arith) c) in
         let j = one-period a os none-noted i s g clear-here (omega arith) in
         let q : aloneAfter images a os .ran .bus .periods .0 ≡ now0 + suc k = next-period images a g os ∙ rw p (omega arith) in
         let place = same-place images (a .solo) in
@@ -106,7 +90,7 @@ module _ (images letters : List ℕ) (ended : Ran) (end : Kept) (ts : List Termi
         (λ g. rw g (i, z, omega arith))
 
   -- from the first, where one is run at least
-  module _ (now0 n0 : ℕ) (c : allClear now0 n0 ts ≡ true) (few : n0 ≤ total) where
+  module _ (now0 n0 : ℕ) (c : AllClear now0 n0 ts) (few : n0 ≤ total) where
     first-alone : (n : ℕ) → n ≤ n0 → (a : Alone) (os : List ℕ) (ns : List UnitNotes) → GoesAt a os ns → Stands a → a .over ≡ 0 → a .ran .bus .periods .0 ≡ now0 → 0 < aloneOn images n a os .over
         → GoesAt (aloneOn images n a os) (octetsOn images n a os) none-noted × (aloneOn images n a os .ran .reply ≡ 0) × (aloneOn images n a os .over ≤ total)
     unfolding aloneOn octetsOn aloneAfter ranAfter ranWith
@@ -115,7 +99,7 @@ module _ (images letters : List ℕ) (ended : Ran) (end : Kept) (ts : List Termi
         by-test (goesAlone images a)
         (λ g.
         let here : now0 ≡ now0 + 0 = omega arith in
-        let clear-here : allClear (a .ran .bus .periods .0) 1 ts ≡ true = rw (p, here) (clear-on now0 n0 0 ts (omega arith) c) in
+        let clear-here : AllClear (a .ran .bus .periods .0) 1 ts = rw (p, here) (clear-on now0 n0 0 ts (omega arith) c) in
         let j = one-period a os ns i s g clear-here (omega (arith, z)) in
         let q : aloneAfter images a os .ran .bus .periods .0 ≡ now0 + 1 = next-period images a g os ∙ rw p in
         let place = same-place images (a .solo) in

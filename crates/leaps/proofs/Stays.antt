@@ -1,6 +1,6 @@
 -- What a reach that is not 0 says: every unit stays as it is for so many periods.
 use mathlib.Core.Path.{_≡_, _∙_}
-use mathlib.Core.Bool.{true, not, _&&_, _||_, or-false, or-assoc}
+use mathlib.Core.Bool.{true, _&&_, _||_, or-false, or-assoc}
 use mathlib.Core.Logic.{_⊎_, ⊎-elim}
 use mathlib.Core.List.{List, [], _∷_}
 use Prim.Native.Nat.{ℕ, suc, _+_, _-_, _≤_, _<_}
@@ -11,8 +11,8 @@ use Rattle.cases.proofs.ByCases.{by-test}
 use Rattle.cases.proofs.Operators.{and-both}
 use Rattle.walks.specs.Over.{foldFrom}
 use Rattle.timing.specs.Counts.{mostPeriods}
-use Rattle.timing.specs.Timers.{clear}
-use Rattle.timing.proofs.TimerLaws.{Clear, clear-most, clear-is, clear-next}
+use Rattle.timing.specs.Timers.{Clear, clear}
+use Rattle.timing.proofs.TimerLaws.{clear-most, clear-is, clear-later}
 use Rattle.hearing.specs.declared.heard.Downward.{Downward}
 use Rattle.terminal.specs.declared.Terminal.{Terminal}
 use Rattle.bus.specs.Quick.{shownBy}
@@ -107,7 +107,7 @@ module _ (b : BusRecord) (ts : List Terminal) (left j : ℕ) (some : 0 < j) (h :
 all-next : (line : Downward) (now j : ℕ) (ts : List Terminal) → AllStay line now (suc j) ts → AllStay line (now + 1) j ts
 all-next line now j [] all = tt
 all-next line now j (t ∷ ts) all =
-    (record { hears-alike = all .0 .hears-alike; takes-no-part = all .0 .takes-no-part; t3-clear = clear-next now j (t .t3) (all .0 .t3-clear) }, all-next line now j ts (all .1))
+    (record { hears-alike = all .0 .hears-alike; takes-no-part = all .0 .takes-no-part; t3-clear = clear-later now (suc j) 1 j (t .t3) (omega arith) (all .0 .t3-clear) }, all-next line now j ts (all .1))
 
 pub still-next : (j : ℕ) (b : BusRecord) (ts : List Terminal) → Still (suc j) b ts → Still j (leapt 1 b) ts
 unfolding leapt quiet
@@ -118,7 +118,7 @@ still-next j b ts s =
       quiet-is = s .quiet-is;
       network-rests = s .network-rests;
       terminals-stay = all-next (shownBy (b .network .state)) (b .periods .0) j ts (s .terminals-stay);
-      t1-clear = clear-next (b .periods .0) j (b .network .t1) (s .t1-clear);
-      t2-clear = clear-next (b .periods .0) j (b .network .t2) (s .t2-clear);
+      t1-clear = clear-later (b .periods .0) (suc j) 1 j (b .network .t1) (omega arith) (s .t1-clear);
+      t2-clear = clear-later (b .periods .0) (suc j) 1 j (b .network .t2) (omega arith) (s .t2-clear);
       one-left = omega (arith, s .one-left);
     })

@@ -5,9 +5,9 @@ use mathlib.Core.List.{List, [], _∷_, map}
 use Prim.Native.Nat.{ℕ, suc, _+_, _*_, _<_}
 use native.Mathlib.Omega.{arith}
 use lib.Dec.{eqb, leb}
-use borrow.Author.Tests.{eqb-true, le-leb, lt-leb}
+use borrow.Author.Tests.{eqb-true, le-leb, lt-leb, not-true}
 use Rattle.cases.proofs.ByCases.{by-test, clash}
-use Rattle.cases.proofs.Operators.{and-both, not-true}
+use Rattle.cases.proofs.Operators.{and-both}
 use Rattle.walks.specs.Over.{mapFrom, foldFrom}
 use Rattle.frame.specs.Four.{allFour}
 use Rattle.frame.specs.declared.fields.Four.{Four}
@@ -17,7 +17,8 @@ use Rattle.table_6_2.specs.Table62.{F1, F7}
 use Rattle.table_6_3.specs.Table63.{G1, G2, G3, G4}
 use Rattle.table_6_3.specs.Table63 as table63
 use Rattle.timing.specs.Counts.{mostPeriods, atPeriod, nextPeriod, fourMore}
-use Rattle.timing.proofs.TimerLaws.{Clear, clear-due}
+use Rattle.timing.specs.Timers.{Clear}
+use Rattle.timing.proofs.TimerLaws.{clear-due}
 use Rattle.timing.specs.declared.counts.Periods.{Periods}
 use Rattle.alignment.specs.Alignment.{framedPeriod, unframedPeriod, followed}
 use Rattle.hearing.specs.Heard.{upwardEvent, lossUp}

@@ -5,9 +5,9 @@ use mathlib.Core.List.{[]}
 use Prim.Native.Nat.{ℕ, _≤_}
 use native.Mathlib.Omega.{arith}
 use lib.Dec.{eqb, leb}
-use borrow.Author.Tests.{eqb-true, eqb-false, leb-true}
+use borrow.Author.Tests.{eqb-true, eqb-false, leb-true, not-true}
 use Rattle.cases.proofs.ByCases.{by-test, clash}
-use Rattle.cases.proofs.Operators.{and-both, not-true}
+use Rattle.cases.proofs.Operators.{and-both}
 use Rattle.cells.specs.Notes.{packedNotes}
 use Rattle.cells.specs.Cells.{cellIn}
 use Rattle.dchannel.specs.declared.access.Access.{Access}

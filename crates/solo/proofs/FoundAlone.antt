@@ -1,18 +1,17 @@
 -- What a search that finds a terminal has shown: `found-alone` (specs/Search.antt).
 use mathlib.Core.Path.{_≡_, refl, sym, _∙_}
 use mathlib.Core.Bool.{Bool, true, false, cond, not, _&&_, _||_, or-true}
-use mathlib.Core.Logic.{⊎-elim}
 use mathlib.Core.List.{List, [], _∷_}
-use Prim.Native.Nat.{ℕ, suc, _+_, _-_, _≤_, _<_}
+use Prim.Native.Nat.{ℕ, suc, _-_, _≤_, _<_}
 use native.Mathlib.Omega.{arith}
-use lib.Dec.{eqb, ltb, leb}
-use borrow.Author.Tests.{ltb-false, eqb-true, eq-eqb, ne-eqb, lt-ltb, le-leb}
+use lib.Dec.{eqb, ltb}
+use borrow.Author.Tests.{ltb-false, eqb-true, eq-eqb, ne-eqb, not-true}
 use Rattle.cases.proofs.ByCases.{by-test, clash}
-use Rattle.cases.proofs.Operators.{and-both, not-true}
+use Rattle.cases.proofs.Operators.{and-both}
 use Rattle.cells.specs.Cells.{infoIn}
 use Rattle.table_6_2.specs.Table62.{F1, F7, infoSent}
 use Rattle.table_6_3.specs.Table63.{G3}
-use Rattle.timing.specs.Timers.{clear}
+use Rattle.timing.specs.Timers.{Clear}
 use Rattle.timing.proofs.TimerLaws.{clear-most, clear-is}
 use Rattle.timing.specs.declared.counts.Periods.{Periods}
 use Rattle.terminal.specs.declared.Terminal.{Terminal}
@@ -20,7 +19,7 @@ use Rattle.walks.specs.Over.{mapFrom, foldFrom}
 use Rattle.bus.specs.Quick.{shownBy}
 use Rattle.listening.specs.Hears.{staysInSilence, rests}
 use Rattle.solo.specs.Solo.{followedAccess, followed, soloSeat, soloSeats, senderIn}
-use Rattle.solo.specs.Search.{counting, sendingNow, senderAfter, fitsIn, searchedOne, noSearch, searched, allHearAlike, allClear, FoundAlone}
+use Rattle.solo.specs.Search.{counting, sendingNow, senderAfter, fitsIn, searchedOne, noSearch, searched, allHearAlike, AllClear, FoundAlone}
 use Rattle.solo.specs.declared.solo.Solo.{Solo}
 use Rattle.solo.specs.declared.search.Search.{Search}
 use Rattle.solo.proofs.SoloFour.{followed-in, followed-out}
@@ -39,11 +38,6 @@ rest-quiet t h =
     neither : (b : Bool) → (not b && false) ≡ false
     neither true = refl
     neither false = refl
-
--- ---- The timers.
-clear-one : (now most timer n : ℕ) → n ≤ clear now most timer → (leb timer now || ltb (now + n) timer) ≡ true
-clear-one now most timer n h =
-    ⊎-elim (λ p. rw (le-leb timer now p)) (λ p. rw (lt-ltb (now + n) timer p, or-true (leb timer now))) (clear-is now most timer n h)
 
 -- ---- What one terminal adds.
 record FitsOne (a : Search) (t : Terminal) : Type 0 where
@@ -166,20 +160,20 @@ module _ (now : ℕ) where
     seats : soloSeats (r .solo .at) (r .solo .length) i ts ≡ true
     followed-is : mapFrom (followed (r .solo)) i ts ≡ ts
     rest : allHearAlike ts ≡ true
-    clear : allClear now (r .over) ts ≡ true
+    clear : AllClear now (r .over) ts
 
   none-rest : (r : Search) (i : ℕ) → Rest r i []
-  unfolding soloSeats mapFrom allHearAlike allClear
-  none-rest r i = record { seats = refl; followed-is = refl; rest = refl; clear = refl }
+  unfolding soloSeats mapFrom allHearAlike
+  none-rest r i = record { seats = refl; followed-is = refl; rest = refl; clear = tt }
 
-  one-rest : (r : Search) (i : ℕ) (t : Terminal) (ts : List Terminal) → Placed (r .solo) i t → rests (shownBy G3) t ≡ true → (leb (t .t3) now || ltb (now + r .over) (t .t3)) ≡ true → Rest r (suc i) ts → Rest r i (t ∷ ts)
-  unfolding soloSeats mapFrom allHearAlike allClear
+  one-rest : (r : Search) (i : ℕ) (t : Terminal) (ts : List Terminal) → Placed (r .solo) i t → rests (shownBy G3) t ≡ true → Clear now (r .over) (t .t3) → Rest r (suc i) ts → Rest r i (t ∷ ts)
+  unfolding soloSeats mapFrom allHearAlike
   one-rest r i t ts p quiet clear on =
       record {
         seats = rw (seat-is (r .solo) i t p quiet) (on .seats);
         followed-is = rw (terminal-same (r .solo) i t p, on .followed-is);
         rest = rw quiet (on .rest);
-        clear = rw clear (on .clear);
+        clear = (clear, on .clear);
       }
 
 module _ (period : Periods) where
@@ -191,9 +185,9 @@ module _ (period : Periods) where
     abbrev end : Search
     end = foundFrom (suc i) (searchedOne period i a t) ts
 
-    end-clear : (leb (t .t3) (period .0) || ltb (period .0 + end .over) (t .t3)) ≡ true
+    end-clear : Clear (period .0) (end .over) (t .t3)
     unfolding searchedOne
-    end-clear = clear-one (period .0) (a .over) (t .t3) (end .over) (over-less period (suc i) (searchedOne period i a t) ts)
+    end-clear = clear-is (period .0) (a .over) (t .t3) (end .over) (over-less period (suc i) (searchedOne period i a t) ts)
 
     more : Placed (end .solo) i t → Rest (period .0) end (suc i) ts → Rest (period .0) end i (t ∷ ts)
     more p on = one-rest (period .0) end i t ts p (head-fits period i a t ts h .rest) end-clear on

@@ -1,13 +1,13 @@
 -- A period of a run alone is the period over all terminals: specs/Period.antt.
 use mathlib.Core.Path.{_≡_, refl, ap, _∙_}
-use mathlib.Core.Bool.{Bool, true, false, not, _&&_, _||_}
+use mathlib.Core.Bool.{Bool, true, false, not, _&&_}
 use mathlib.Core.List.{List, [], _∷_}
-use Prim.Native.Nat.{ℕ, suc, _+_, _<_}
+use Prim.Native.Nat.{ℕ, suc, _+_}
 use native.Mathlib.Omega.{arith}
-use lib.Dec.{eqb, ltb, leb}
-use borrow.Author.Tests.{ltb-true, leb-true, eqb-true, ne-eqb, le-leb, lt-ltb}
+use lib.Dec.{eqb}
+use borrow.Author.Tests.{eqb-true, not-true}
 use Rattle.cases.proofs.ByCases.{by-test}
-use Rattle.cases.proofs.Operators.{and-both, not-true}
+use Rattle.cases.proofs.Operators.{and-both}
 use Rattle.hdlc.specs.Bits.{sameBit}
 use Rattle.dchannel.proofs.AccessLaws.{same-equal}
 use Rattle.cells.specs.Cells.{infoIn}
@@ -15,7 +15,8 @@ use Rattle.table_6_2.specs.Table62.{F7}
 use Rattle.table_6_3.specs.Table63.{G3}
 use Rattle.table_6_3.specs.Table63 as table63
 use Rattle.timing.specs.Counts.{allRun, nextPeriod}
-use Rattle.timing.specs.Timers.{due}
+use Rattle.timing.specs.Timers.{Clear}
+use Rattle.timing.proofs.TimerLaws.{clear-due, clear-later}
 use Rattle.timing.specs.declared.counts.Periods.{Periods}
 use Rattle.hearing.specs.declared.heard.Downward.{Downward}
 use Rattle.terminal.specs.declared.Terminal.{Terminal}
@@ -30,32 +31,15 @@ use Rattle.bus_record.specs.Echo.{hitIn, firstMoment, heardDown}
 use Rattle.bus_record.specs.NetworkSide.{noNotes}
 use Rattle.solo.specs.Solo.{soloAfterFour, soloGoes, noLetters, followed}
 use Rattle.solo.specs.Alone.{staysAlone, goesAlone}
-use Rattle.solo.specs.Search.{allHearAlike, allClear}
+use Rattle.solo.specs.Search.{allHearAlike, AllClear}
 use Rattle.solo.specs.Period.{lineHere, PeriodAlone, ClearOn}
 use Rattle.solo.specs.declared.solo.Solo.{Solo}
 use Rattle.solo.specs.declared.alone.Alone.{Alone}
 use Rattle.solo.proofs.SoloFour.{followed-in, followed-out, solo-four}
 
--- ---- Timers.
-clear-one : (now n k timer : ℕ) → k < n → (leb timer now || ltb (now + n) timer) ≡ true → (leb timer (now + k) || ltb ((now + k) + 1) timer) ≡ true
-clear-one now n k timer few h =
-    by-test (leb timer now) (λ t. rw (le-leb timer (now + k) (omega (arith, leb-true timer now t))))
-    (λ t. let past : now + n < timer = ltb-true (now + n) timer (rw t at h) in
-    by-test (leb timer (now + k)) (λ u. rw u) (λ u. rw (u, lt-ltb ((now + k) + 1) timer (omega arith))))
-
 pub clear-on : ClearOn
-unfolding allClear
-clear-on now n k [] few h = refl
-clear-on now n k (t ∷ ts) few h =
-    let both = and-both (leb (t .t3) now || ltb (now + n) (t .t3)) (allClear now n ts) h in
-    rw (clear-one now n k (t .t3) few (both .0)) (clear-on now n k ts few (both .1))
-
-not-due : (now timer : ℕ) → (leb timer now || ltb (now + 1) timer) ≡ true → due timer (now + 1) ≡ false
-unfolding due
-not-due now timer h =
-    let differs : eqb timer (now + 1) ≡ false = by-test (leb timer now) (λ t. ne-eqb timer (now + 1) (λ z. omega (arith, leb-true timer now t)))
-    (λ t. let past : now + 1 < timer = ltb-true (now + 1) timer (rw t at h) in ne-eqb timer (now + 1) (λ z. omega arith)) in
-    by-test (eqb timer 0) (λ t. rw t) (λ t. rw (t, differs))
+clear-on now n k [] few all = tt
+clear-on now n k (t ∷ ts) few all = (clear-later now n k 1 (t .t3) (omega arith) (all .0), clear-on now n k ts few (all .1))
 
 cons-both : {X : Type 0} {x y : X} {xs ys : List X} → x ≡ y → xs ≡ ys → (x ∷ xs) ≡ (y ∷ ys)
 cons-both p q = rw (p, q)
@@ -76,23 +60,22 @@ module _ (period : Periods) (more : allRun period ≡ false) (s : Solo) where
   unfolding nextPeriod
   next-is = rw more
 
-  heard-one : (i : ℕ) (t : Terminal) → rests line t ≡ true → (leb (t .t3) (period .0) || ltb (period .0 + 1) (t .t3)) ≡ true
+  heard-one : (i : ℕ) (t : Terminal) → rests line t ≡ true → Clear (period .0) 1 (t .t3)
       → heardOne line period (followed s i t) ≡ record { terminal = followed s i t; notes = noNotes; told = false }
-  heard-one i t r c = one-rests line period (followed s i t) (same-rest line s i t ∙ r) (rw (same-timer s i t, next-is) (not-due (period .0) (t .t3) c))
+  heard-one i t r c = one-rests line period (followed s i t) (same-rest line s i t ∙ r) (rw (same-timer s i t, next-is) (clear-due (period .0) 0 (t .t3) c))
 
   record Heard (i : ℕ) (ts : List Terminal) : Type 0 where
     terminals-are : mapFrom (terminalAfter line period) i (mapFrom (followed s) i ts) ≡ mapFrom (followed s) i ts
     notes-are : mapFrom (notesAfter line period) i (mapFrom (followed s) i ts) ≡ mapFrom (λ (_ : ℕ) (_ : Terminal). noNotes) i ts
     told-is : foldFrom (toldAfter line period) i false (mapFrom (followed s) i ts) ≡ false
 
-  heard-all : (i : ℕ) (ts : List Terminal) → allHearAlike ts ≡ true → allClear (period .0) 1 ts ≡ true → Heard i ts
-  unfolding mapFrom foldFrom allHearAlike allClear
+  heard-all : (i : ℕ) (ts : List Terminal) → allHearAlike ts ≡ true → AllClear (period .0) 1 ts → Heard i ts
+  unfolding mapFrom foldFrom allHearAlike
   heard-all i [] r c = record { terminals-are = refl; notes-are = refl; told-is = refl }
   heard-all i (t ∷ ts) r c =
       let rest = and-both (rests line t) (allHearAlike ts) r in
-      let clear = and-both (leb (t .t3) (period .0) || ltb (period .0 + 1) (t .t3)) (allClear (period .0) 1 ts) c in
-      let here = heard-one i t (rest .0) (clear .0) in
-      let on = heard-all (suc i) ts (rest .1) (clear .1) in
+      let here = heard-one i t (rest .0) (c .0) in
+      let on = heard-all (suc i) ts (rest .1) (c .1) in
       record {
         terminals-are = cons-both (ap (λ (o : HeardOne). o .terminal) here) (on .terminals-are);
         notes-are = cons-both (ap (λ (o : HeardOne). o .notes) here) (on .notes-are);
@@ -100,14 +83,16 @@ module _ (period : Periods) (more : allRun period ≡ false) (s : Solo) where
       }
 
 -- ---- What is known where a period more is run.
-record Goes (images : List ℕ) (a : Alone) : Type 0 where
+pub record Goes (images : List ℕ) (a : Alone) : Type 0 where
+  pub no-reply : a .ran .reply ≡ 0
+  pub none-told : a .ran .told ≡ false
   in-g3 : a .ran .bus .network .state ≡ G3
   no-hit : a .ran .bus .hit ≡ false
   heard-is : a .ran .bus .heard ≡ a .solo .last
   goes : soloGoes images (a .solo) ≡ true
-  more : allRun (a .ran .bus .periods) ≡ false
+  pub more : allRun (a .ran .bus .periods) ≡ false
 
-goes-facts : (images : List ℕ) (a : Alone) → goesAlone images a ≡ true → Goes images a
+pub goes-facts : (images : List ℕ) (a : Alone) → goesAlone images a ≡ true → Goes images a
 unfolding goesAlone staysAlone
 goes-facts images a h =
     let bus = a .ran .bus in
@@ -118,8 +103,12 @@ goes-facts images a h =
     let h2 = and-both (still && same) (soloGoes images (a .solo)) (h1 .0) in
     let h3 = and-both still same (h2 .0) in
     let h4 = and-both (quiet && eqb (bus .network .state) G3) (not (bus .hit)) (h3 .0) in
+    let h5 = and-both quiet (eqb (bus .network .state) G3) (h4 .0) in
+    let h6 = and-both (eqb (a .ran .reply) 0) (not (a .ran .told)) (h5 .0) in
     record {
-      in-g3 = eqb-true (bus .network .state) G3 (and-both quiet (eqb (bus .network .state) G3) (h4 .0) .1);
+      no-reply = eqb-true (a .ran .reply) 0 (h6 .0);
+      none-told = not-true (a .ran .told) (h6 .1);
+      in-g3 = eqb-true (bus .network .state) G3 (h5 .1);
       no-hit = not-true (bus .hit) (h4 .1);
       heard-is = same-equal (bus .heard) (a .solo .last) (h3 .1);
       goes = h2 .1;

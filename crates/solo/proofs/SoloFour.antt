@@ -5,9 +5,9 @@ use mathlib.Core.List.{List, [], _∷_}
 use Prim.Native.Nat.{ℕ, suc, _+_, _<_}
 use native.Mathlib.Omega.{arith}
 use lib.Dec.{eqb, ltb}
-use borrow.Author.Tests.{lt-ltb, ltb-true, eqb-true, ne-eqb, lt-leb}
+use borrow.Author.Tests.{lt-ltb, ltb-true, eqb-true, ne-eqb, lt-leb, not-true}
 use Rattle.cases.proofs.ByCases.{by-test, clash}
-use Rattle.cases.proofs.Operators.{and-both, not-true}
+use Rattle.cases.proofs.Operators.{and-both}
 use Rattle.frame.specs.Four.{allFour}
 use Rattle.frame.specs.declared.fields.Four.{Four}
 use Rattle.cells.specs.Cells.{infoIn}

@@ -15,7 +15,7 @@ use Rattle.bus_record.specs.NetworkSide.{noNotes}
 use Rattle.bus_record.specs.declared.record.BusRecord.{BusRecord}
 use Rattle.solo.specs.Solo.{soloAfterFour, soloMoment, followed, soloSeats, senderIn}
 use Rattle.solo.specs.Alone.{goesAlone}
-use Rattle.solo.specs.Search.{allHearAlike, allClear}
+use Rattle.solo.specs.Search.{allHearAlike, AllClear}
 use Rattle.solo.specs.declared.alone.Alone.{Alone}
 
 -- the exchange of the period, and the line that is heard
@@ -45,8 +45,8 @@ abbrev pub PeriodAlone : Type 0
 PeriodAlone =
     (images letters : List ℕ) (a : Alone) (ts : List Terminal) → goesAlone images a ≡ true
     → soloSeats (a .solo .at) (a .solo .length) 0 ts ≡ true → senderIn (a .solo .at) 0 ts ≡ true
-    → allHearAlike ts ≡ true → allClear (a .ran .bus .periods .0) 1 ts ≡ true → IsPeriod images letters a ts
+    → allHearAlike ts ≡ true → AllClear (a .ran .bus .periods .0) 1 ts → IsPeriod images letters a ts
 
 -- timers that are clear for n periods are clear at each of them
 abbrev pub ClearOn : Type 0
-ClearOn = (now n k : ℕ) (ts : List Terminal) → k < n → allClear now n ts ≡ true → allClear (now + k) 1 ts ≡ true
+ClearOn = (now n k : ℕ) (ts : List Terminal) → k < n → AllClear now n ts → AllClear (now + k) 1 ts

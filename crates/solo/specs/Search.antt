@@ -3,12 +3,12 @@
 use mathlib.Core.Bool.{Bool, true, false, cond, not, _&&_, _||_}
 use mathlib.Core.List.{List, [], _∷_}
 use mathlib.Core.Path.{_≡_}
-use Prim.Native.Nat.{ℕ, _+_, _-_, _≤_}
-use lib.Dec.{eqb, ltb, leb}
+use Prim.Native.Nat.{ℕ, _≤_}
+use lib.Dec.{eqb, ltb}
 use Rattle.walks.specs.Over.{mapFrom, foldFrom}
 use Rattle.table_6_2.specs.Table62.{F7}
 use Rattle.table_6_3.specs.Table63.{G3}
-use Rattle.timing.specs.Timers.{clear}
+use Rattle.timing.specs.Timers.{Clear, clear}
 use Rattle.timing.specs.declared.counts.Periods.{Periods}
 use Rattle.terminal.specs.declared.Terminal.{Terminal}
 use Rattle.bus.specs.Quick.{shownBy}
@@ -69,9 +69,9 @@ allHearAlike [] = true
 allHearAlike (t ∷ ts) = rests (shownBy G3) t && allHearAlike ts
 
 -- T3 is due at the start of none of the n periods after period `now`
-unfoldable pub allClear : ℕ → ℕ → List Terminal → Bool
-allClear now n [] = true
-allClear now n (t ∷ ts) = (leb (t .t3) now || ltb (now + n) (t .t3)) && allClear now n ts
+abbrev pub AllClear : ℕ → ℕ → List Terminal → Type 0
+AllClear now n [] = Unit
+AllClear now n (t ∷ ts) = Clear now n (t .t3) × AllClear now n ts
 
 -- the terminals are as the run has them at its start, each in its place; all rest, and no timer is due while it lasts
 pub record IsAlone (now most : ℕ) (r : Search) (ts : List Terminal) : Type 0 where
@@ -79,7 +79,7 @@ pub record IsAlone (now most : ℕ) (r : Search) (ts : List Terminal) : Type 0 w
   pub sender : senderIn (r .solo .at) 0 ts ≡ true
   pub followed-is : mapFrom (followed (r .solo)) 0 ts ≡ ts
   pub rest : allHearAlike ts ≡ true
-  pub clear : allClear now (r .over) ts ≡ true
+  pub clear : AllClear now (r .over) ts
   pub few : r .over ≤ most
 
 abbrev pub FoundAlone : Type 0

@@ -2,16 +2,12 @@
 use mathlib.Core.Path.{_≡_}
 use mathlib.Core.Bool.{false}
 use mathlib.Core.Logic.{_⊎_, inl, inr, ⊎-elim}
-use Prim.Native.Nat.{ℕ, suc, _+_, _-_, _≤_, _<_}
+use Prim.Native.Nat.{ℕ, suc, _+_, _-_, _≤_}
 use native.Mathlib.Omega.{arith}
 use lib.Dec.{eqb, ltb, leb}
 use borrow.Author.Tests.{ltb-true, ltb-false, leb-true, leb-false, ne-eqb}
 use Rattle.cases.proofs.ByCases.{by-test}
-use Rattle.timing.specs.Timers.{due, clear}
-
--- a timer that is due at none of the next j starts
-abbrev pub Clear : ℕ → ℕ → ℕ → Type 0
-Clear now j timer = (timer ≤ now) ⊎ (now + j < timer)
+use Rattle.timing.specs.Timers.{due, Clear, clear}
 
 pub clear-most : (now most timer : ℕ) → clear now most timer ≤ most
 unfolding clear
@@ -39,7 +35,7 @@ unfolding due
 clear-due now j timer c =
     by-test (eqb timer 0) (λ t. rw t) (λ t. rw t (ne-eqb timer (now + 1) (λ z. ⊎-elim (λ p. omega arith) (λ p. omega arith) c)))
 
--- one period later
-pub clear-next : (now j timer : ℕ) → Clear now (suc j) timer → Clear (now + 1) j timer
-clear-next now j timer (inl p) = inl (omega arith)
-clear-next now j timer (inr p) = inr (omega arith)
+-- k periods later
+pub clear-later : (now n k j timer : ℕ) → k + j ≤ n → Clear now n timer → Clear (now + k) j timer
+clear-later now n k j timer l (inl p) = inl (omega arith)
+clear-later now n k j timer l (inr p) = inr (omega arith)

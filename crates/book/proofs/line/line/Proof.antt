@@ -2,8 +2,7 @@
 use mathlib.Core.Path.{sym, _∙_}
 use native.Mathlib.Omega.{arith}
 use borrow.Author.Needs.{needs}
-use borrow.Author.Tests.{leb-true}
-use Rattle.walks.proofs.Loop.{not-true, not-false}
+use borrow.Author.Tests.{leb-true, not-true, not-false}
 use Rattle.book.proofs.Lines.{full-line, end-line, given-line}
 use Rattle.book.proofs.line.line.Statement.{statement}
 use Rattle.book.proofs.line.line.Tie as tie

@@ -2,8 +2,7 @@
 use mathlib.Core.Path.{sym, _∙_}
 use mathlib.Core.Bool.{true}
 use borrow.Author.Needs.{needs}
-use borrow.Author.Tests.{leb-true}
-use Rattle.walks.proofs.Loop.{not-true, not-false}
+use borrow.Author.Tests.{leb-true, not-true, not-false}
 use Rattle.call_rules.specs.Kept.{found}
 use Rattle.report.specs.Ahead.{ROOM, OVER}
 use Rattle.book.proofs.Moving.{turns, step-over, step-full, step-heading}

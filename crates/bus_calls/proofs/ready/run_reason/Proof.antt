@@ -3,8 +3,8 @@ use mathlib.Core.Bool.{Bool, true, false, not, _&&_}
 use mathlib.Core.Path.{_≡_, sym, _∙_, ap}
 use Prim.Native.Nat.{ℕ}
 use lib.Dec.{eqb, leb}
-use Rattle.walks.proofs.Loop.{not-true, not-false}
 use borrow.Author.Needs.{needs}
+use borrow.Author.Tests.{not-true, not-false}
 use Rattle.call_rules.specs.Ready.{lentFits, runReason}
 use Rattle.bus_calls.proofs.ready.run_reason.Statement.{statement}
 use Rattle.bus_calls.proofs.ready.run_reason.Tie as tie

@@ -1,7 +1,8 @@
 -- `heard_down` meets its contract: without a hit the line is not built; under one it is, and is a line.
 use mathlib.Core.Path.{refl, _∙_}
 use Rattle.bus_record.specs.Echo.{heardDown}
-use Rattle.bus_record.proofs.EchoLaws.{heard-under, line-is, never-refused, not-true, not-false}
+use borrow.Author.Tests.{not-true, not-false}
+use Rattle.bus_record.proofs.EchoLaws.{heard-under, line-is, never-refused}
 use borrow.Author.Needs.{needs}
 use Rattle.bus_record.proofs.echo.heard_down.Statement.{statement}
 use Rattle.bus_record.proofs.echo.heard_down.Tie as tie

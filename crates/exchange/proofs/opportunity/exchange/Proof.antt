@@ -1,6 +1,7 @@
 -- `exchange::opportunity::exchange` meets its contract: a walk of its MIR with the lemmas of crate `walks`. All that it knows of the functions it calls are
 -- their contracts; that nothing changes where no terminal takes part is the law `left-at-rest`. Assumes nothing.
-use Rattle.walks.proofs.Walk.{_≡_, refl, sym, _∙_, ap, ℕ, Bool, true, false, not, List, [], _∷_, length, URA, Val, SProp, ent, emp, via, id⊢, fst∗, Memory, Routine, Heap, Tables, WpFn, Atoms, Fun, factI, givenOf, tables, tablesOf, Given, ⋆, _$_, !, no-more, and-then, Is, u8, bool, Room, onEntry, Meets, tripleOf, Contract, Triple, entered, cited, walkOf, loc, part, leaves, sets, of-opd, returns-if, typed, bool-kind, Spot, spot, word, lends-at, shows-at, hands-at, Param, plain-of, lfts-at, shares-at, args-at, vals-of, lfts-of, shares-of, args-of, itemsOf, reborrows, Call, calls-giving, enters-with, returns-with, mut-way, shr-way, plain-way, Ways-of, stays-of, meets-by, not-false}
+use Rattle.walks.proofs.Walk.{_≡_, refl, sym, _∙_, ap, ℕ, Bool, true, false, not, List, [], _∷_, length, URA, Val, SProp, ent, emp, via, id⊢, fst∗, Memory, Routine, Heap, Tables, WpFn, Atoms, Fun, factI, givenOf, tables, tablesOf, Given, ⋆, _$_, !, no-more, and-then, Is, u8, bool, Room, onEntry, Meets, tripleOf, Contract, Triple, entered, cited, walkOf, loc, part, leaves, sets, of-opd, returns-if, typed, bool-kind, Spot, spot, word, lends-at, shows-at, hands-at, Param, plain-of, lfts-at, shares-at, args-at, vals-of, lfts-of, shares-of, args-of, itemsOf, reborrows, Call, calls-giving, enters-with, returns-with, mut-way, shr-way, plain-way, Ways-of, stays-of, meets-by}
+use borrow.Author.Tests.{not-false}
 use denote.Struct.Laws as LL
 use Rattle.terminal.specs.declared.Terminal.{Terminal}
 use Rattle.terminal.proofs.Terminal as T

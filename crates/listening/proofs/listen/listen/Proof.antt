@@ -1,7 +1,7 @@
 -- `listening::listen::listen` meets its contract: a walk of its MIR with the lemmas of crate `walks`, over two slices of structs, with a bool gathered. All that it knows of `hear_one` is its contract. Assumes nothing.
-use Rattle.walks.proofs.Walk.{_≡_, refl, sym, _∙_, ap, subst, ℕ, _+_, _<_, Bool, true, false, not, List, [], _∷_, eqb, lit<, length, getD, set, URA, named, w64, Val, vbool, vint, SProp, ent, emp, via, id⊢, fst∗, Memory, Routine, Heap, Tables, WpFn, Atoms, Fun, factI, givenOf, tables, tablesOf, Given, ⋆, _$_, !, move, rewrite, lit, false-lit, of-opd, no-more, and-then, bin, Is, Room, onEntry, Meets, tripleOf, Contract, Triple, entered, cited, walkOf, upto, upto-length, upto-within, upto-all, one-more, acc, acc-all, one-gathered, filled, filled-length, filled-all, one-filled, Holds, free, has, loc, part, sets, sets-last, leaves, returns-if, blurs, bool-kind, typed, lent, loads, stores, Spot, spot, word, lends-at, Param, plain-of, lfts-at, shares-at, args-at, vals-of, lfts-of, shares-of, args-of, itemsOf, Call, calls-giving, enters-with, returns-with, mut-way, plain-way, Ways-of, stays-of, meets-by, whiles, next-fits, not-true, not-false}
+use Rattle.walks.proofs.Walk.{_≡_, refl, sym, _∙_, ap, subst, ℕ, _+_, _<_, Bool, true, false, not, List, [], _∷_, eqb, lit<, length, getD, set, URA, named, w64, Val, vbool, vint, SProp, ent, emp, via, id⊢, fst∗, Memory, Routine, Heap, Tables, WpFn, Atoms, Fun, factI, givenOf, tables, tablesOf, Given, ⋆, _$_, !, move, rewrite, lit, false-lit, of-opd, no-more, and-then, bin, Is, Room, onEntry, Meets, tripleOf, Contract, Triple, entered, cited, walkOf, upto, upto-length, upto-within, upto-all, one-more, acc, acc-all, one-gathered, filled, filled-length, filled-all, one-filled, Holds, free, has, loc, part, sets, sets-last, leaves, returns-if, blurs, bool-kind, typed, lent, loads, stores, Spot, spot, word, lends-at, Param, plain-of, lfts-at, shares-at, args-at, vals-of, lfts-of, shares-of, args-of, itemsOf, Call, calls-giving, enters-with, returns-with, mut-way, plain-way, Ways-of, stays-of, meets-by, whiles, next-fits}
 use mathlib.Core.Bool.{_||_}
-use borrow.Author.Tests.{eqb-true}
+use borrow.Author.Tests.{eqb-true, not-true, not-false}
 use denote.Struct.Laws as LL
 use Rattle.listening.proofs.Structs.{terminals, unit-notes, steps, lines, periods}
 use Rattle.terminal.specs.declared.Terminal.{Terminal}

@@ -1,9 +1,9 @@
-use mathlib.Core.Bool.{Bool, true, false, cond, not}
+use mathlib.Core.Bool.{Bool, true, false, cond}
 use mathlib.Core.Logic.{⊎-elim}
-use mathlib.Core.Path.{_≡_, refl, sym, _∙_}
+use mathlib.Core.Path.{_≡_, sym, _∙_}
 use Prim.Native.Nat.{ℕ, _-_, _*_, _/_, _%_, _≤_}
 use native.Mathlib.Omega.{arith}
-use borrow.Author.Tests.{lt-ltb, le-ltb, le-leb, lt-leb, eq-eqb, ne-eqb}
+use borrow.Author.Tests.{lt-ltb, le-ltb, le-leb, lt-leb, eq-eqb, ne-eqb, not-true, not-false}
 use Rattle.hdlc.specs.Image.{longestBody}
 use Rattle.reader.specs.declared.Reader.{Reader}
 use Rattle.reader.specs.declared.ReaderAnswer.the-variants.{Heard}
@@ -13,14 +13,6 @@ use Rattle.reader.proofs.Reader.answer_to.Statement.{statement}
 use Rattle.reader.proofs.Reader.answer_to.Tie as tie
 use Rattle.reader.proofs.Reader.answer_to.Reads as reads
 use Rattle.reader.proofs.Reader.answer_to.Lts as lts
-
-not-true : (b : Bool) → not b ≡ true → b ≡ false
-not-true true e = sym e
-not-true false e = refl
-
-not-false : (b : Bool) → not b ≡ false → b ≡ true
-not-false true e = refl
-not-false false e = sym e
 
 -- the flag's own bits among those counted, or the 1s that break a frame off
 own-is : (c : lts.Joined3 reads.Pre reads.Post)
