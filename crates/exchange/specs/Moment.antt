@@ -13,6 +13,10 @@ use Rattle.bus.specs.Quick.{sentE}
 use Rattle.exchange.specs.declared.moment.Letters.{Letters}
 use Rattle.exchange.specs.declared.moment.Moment.{Moment}
 
+-- the letters at the four E where there is no hit
+abbrev pub noLetters : Letters
+noLetters = record { first = keepLetter; second = keepLetter; third = keepLetter; fourth = keepLetter }
+
 -- the exchange as its first E comes
 abbrev pub firstMoment : ℕ → Letters → Bool → Moment
 firstMoment state letters heardD =

@@ -6,14 +6,14 @@ use mathlib.Core.Bool.{Bool, true, false, cond, not, _&&_, _||_}
 use mathlib.Core.List.{List, [], _∷_}
 use Prim.Native.Nat.{ℕ}
 use lib.Dec.{eqb}
-use Rattle.combining.specs.Hit.{keepLetter, struckBit}
+use Rattle.combining.specs.Hit.{struckBit}
 use Rattle.cells.specs.Cells.{infoIn}
 use Rattle.table_6_2.specs.Table62.{F7, infoSent}
 use Rattle.dchannel.specs.Access.{normal2, atRest}
 use Rattle.terminal.specs.declared.Terminal.{Terminal}
 use Rattle.walks.specs.Over.{foldFrom}
 use Rattle.bus.specs.Quick.{sentE}
-use Rattle.exchange.specs.Moment.{firstMoment}
+use Rattle.exchange.specs.Moment.{noLetters, firstMoment}
 use Rattle.exchange.specs.Opportunities.{momentAfterFour, terminalsAfterFour}
 use Rattle.exchange.specs.declared.moment.Letters.{Letters}
 use Rattle.exchange.specs.declared.moment.Moment.{Moment}
@@ -72,7 +72,7 @@ mayRest m = isFirst m && onesSent m
 abbrev pub restMoment : ℕ → Letters → Bool → Bool → Moment
 restMoment state letters calling frames =
     record {
-      letters = record { first = keepLetter; second = keepLetter; third = keepLetter; fourth = keepLetter };
+      letters = noLetters;
       ds = record { first = true; second = not calling; third = true; fourth = true };
       state = state;
       place = 0;

@@ -15,7 +15,7 @@ use Rattle.bus.specs.Bus.Hit.{none, given}
 use Rattle.bus.specs.Exchange.{Sender, seatsOf, dComes, opportunitiesOf, exchanged}
 use Rattle.bus.specs.Event.{among}
 use Rattle.bus.specs.Exchange.{anyInfo1, anyInfo3}
-use Rattle.exchange.specs.Moment.{firstMoment}
+use Rattle.exchange.specs.Moment.{noLetters, firstMoment}
 use Rattle.exchange.specs.Part.{seatIn}
 use Rattle.exchange.specs.Opportunities.{momentAfterFour, terminalsAfterFour}
 use Rattle.exchange.specs.declared.moment.Letters.{Letters}
@@ -23,7 +23,7 @@ use Rattle.exchange.specs.declared.moment.Moment.{Moment}
 
 -- the letters of a hit at the four E
 unfoldable pub lettersOf : Hit → Letters
-lettersOf none = record { first = keepLetter; second = keepLetter; third = keepLetter; fourth = keepLetter }
+lettersOf none = noLetters
 lettersOf (given letters) =
     record {
       first = getD letters (eIndex 0) keepLetter;

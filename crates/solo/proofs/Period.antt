@@ -22,6 +22,7 @@ use Rattle.hearing.specs.declared.heard.Downward.{Downward}
 use Rattle.terminal.specs.declared.Terminal.{Terminal}
 use Rattle.walks.specs.Over.{mapFrom, foldFrom}
 use Rattle.bus.specs.Quick.{shownBy}
+use Rattle.exchange.specs.Moment.{noLetters}
 use Rattle.exchange.specs.Moment as exchange
 use Rattle.exchange.specs.Shown.{lettersOf}
 use Rattle.listening.specs.Hears.{rests, heardOne, terminalAfter, notesAfter, toldAfter}
@@ -29,7 +30,7 @@ use Rattle.listening.specs.declared.hears.HeardOne.{HeardOne}
 use Rattle.listening.proofs.Rests.{one-rests}
 use Rattle.bus_record.specs.Echo.{hitIn, firstMoment, heardDown}
 use Rattle.bus_record.specs.NetworkSide.{noNotes}
-use Rattle.solo.specs.Solo.{soloAfterFour, soloGoes, noLetters, followed}
+use Rattle.solo.specs.Solo.{soloAfterFour, soloGoes, followed}
 use Rattle.solo.specs.Alone.{staysAlone, goesAlone}
 use Rattle.solo.specs.Search.{allHearAlike, AllClear}
 use Rattle.solo.specs.Period.{lineHere, PeriodAlone, ClearOn}

@@ -23,12 +23,12 @@ use Rattle.terminal.specs.declared.Terminal.{Terminal}
 use Rattle.walks.specs.Over.{mapFrom, foldFrom}
 use Rattle.bus.specs.Quick.{sentE}
 use Rattle.bus.specs.Exchange.{turned, turnOf, dOf}
-use Rattle.exchange.specs.Moment.{begun, also, combinedD, ended}
+use Rattle.exchange.specs.Moment.{noLetters, begun, also, combinedD, ended}
 use Rattle.exchange.specs.Part.{imageBit, seatIn, turnedIn, doneIn, goneThrough}
 use Rattle.exchange.specs.Opportunities.{momentAfter, terminalsAfter, momentAfterFour, terminalsAfterFour}
 use Rattle.exchange.specs.declared.moment.Moment.{Moment}
 use Rattle.exchange.proofs.Images.{image-at}
-use Rattle.solo.specs.Solo.{countedAt, soloBit, soloTurned, soloTurns, soloAfterFour, soloBits, soloGoes, noLetters, momentOf, followedAccess, followed, soloSeat, soloSeats, senderIn, FourAlone, SoloFour}
+use Rattle.solo.specs.Solo.{countedAt, soloBit, soloTurned, soloTurns, soloAfterFour, soloBits, soloGoes, momentOf, followedAccess, followed, soloSeat, soloSeats, senderIn, FourAlone, SoloFour}
 use Rattle.solo.specs.declared.solo.Solo.{Solo}
 
 -- ---- The D access, at a C below the lowest threshold.

@@ -6,7 +6,6 @@ use mathlib.Core.Path.{_≡_}
 use Prim.Native.Nat.{ℕ, suc, _+_}
 use lib.Dec.{eqb, ltb}
 use Rattle.frame.specs.declared.fields.Four.{Four}
-use Rattle.combining.specs.Hit.{keepLetter}
 use Rattle.cells.specs.Cells.{infoIn}
 use Rattle.table_6_2.specs.Table62.{F7, infoSent}
 use Rattle.table_6_3.specs.Table63 as table63
@@ -14,10 +13,9 @@ use Rattle.dchannel.specs.Access.{normal1, normal2, countAfter}
 use Rattle.dchannel.specs.declared.access.Access.{Access}
 use Rattle.terminal.specs.declared.Terminal.{Terminal}
 use Rattle.walks.specs.Over.{mapFrom}
-use Rattle.exchange.specs.Moment.{firstMoment}
+use Rattle.exchange.specs.Moment.{noLetters, firstMoment}
 use Rattle.exchange.specs.Part.{imageBit}
 use Rattle.exchange.specs.Opportunities.{momentAfterFour, terminalsAfterFour}
-use Rattle.exchange.specs.declared.moment.Letters.{Letters}
 use Rattle.exchange.specs.declared.moment.Moment.{Moment}
 use Rattle.solo.specs.declared.solo.Solo.{Solo}
 use Rattle.solo.specs.declared.solo.SoloStep.{SoloStep}
@@ -65,9 +63,6 @@ abbrev pub soloStep : List ℕ → Solo → SoloStep
 soloStep images s = record { solo = soloAfterFour images s; ds = soloBits images s; goes = soloGoes images s }
 
 -- ---- The exchange that they leave: no hit, no frame completed, no INFO 1; the last E is the third D.
-abbrev pub noLetters : Letters
-noLetters = record { first = keepLetter; second = keepLetter; third = keepLetter; fourth = keepLetter }
-
 unfoldable pub momentOf : ℕ → Four → Moment
 momentOf state ds =
     record {
