@@ -1,6 +1,6 @@
 -- What refusals 1, 2 and 9 leave: the record and what is lent with it are in order, and a period can be run. The bus that they show is then
 -- in its range (crate `bus`, specs/Ranges.antt).
-use mathlib.Core.Path.{_≡_, refl, sym, ap, _∙_}
+use mathlib.Core.Path.{_≡_, refl, sym, _∙_}
 use mathlib.Core.Bool.{Bool, true, false, cond, _&&_}
 use mathlib.Core.List.{List, [], _∷_}
 use Prim.Native.Nat.{ℕ, zero, suc, _*_, _≤_, _<_}
@@ -9,6 +9,7 @@ use lib.Dec.{eqb, ltb, leb}
 use lib.ListN.{length, getD}
 use borrow.Author.Tests.{eqb-true, eq-eqb, leb-true, le-leb, lt-ltb}
 use Rattle.cases.proofs.Operators.{and-both}
+use Rattle.walks.proofs.Over.{length-mapped}
 use Rattle.walks.specs.Over.{mapFrom, foldFrom}
 use Rattle.hdlc.specs.Image.{longestBody}
 use Rattle.timing.specs.Counts.{mostPeriods, periodsInRange, opportunitiesInRange, allRun}
@@ -148,11 +149,6 @@ unfolding allInRange
 all-fit [] h = refl
 all-fit (s ∷ ss) h = rw (h 0) (all-fit ss (λ j. h (suc j)))
 
-length-seats : (images : List ℕ) (i : ℕ) (ts : List Terminal) → length (mapFrom (seatIn images) i ts) ≡ length ts
-unfolding mapFrom
-length-seats images i [] = refl
-length-seats images i (t ∷ ts) = ap suc (length-seats images (suc i) ts)
-
 hit-in : (pending : Bool) (letters : List ℕ) → areLetters letters ≡ true → hitInRange (hitIn pending letters) ≡ true
 unfolding hitIn
 hit-in true letters h = h
@@ -166,6 +162,6 @@ bus-in-range k o =
       opportunities-fit = o .opportunities-fit;
       network-fits = o .network-fits;
       hit-fits = hit-in (k .bus .hit) (k .letters) (o .letters-fit);
-      eight = length-seats (k .images) 0 (k .terminals) ∙ o .eight;
+      eight = length-mapped (seatIn (k .images)) 0 (k .terminals) ∙ o .eight;
       terminals-fit = fits-at (k .images) 0 (k .terminals) (o .terminals-fit);
     }

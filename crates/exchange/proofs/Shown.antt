@@ -14,6 +14,7 @@ use Rattle.frame.specs.Four.{padded}
 use Rattle.frame.specs.Down.{eIndex}
 use Rattle.combining.specs.Hit.{keepLetter, struckBit}
 use Rattle.hdlc.specs.Bits.{numberLowFirst}
+use Rattle.walks.proofs.Over.{length-mapped}
 use Rattle.walks.specs.Over.{mapFrom, foldFrom}
 use Rattle.terminal.specs.declared.Terminal.{Terminal}
 use Rattle.bus.specs.Bus.{Seat, Hit, Bus}
@@ -234,11 +235,6 @@ unfolding numberLowFirst seated
 none-done class [] = refl
 none-done class (s ∷ ss) = rw (none-done class ss)
 
-length-seats : (images : List ℕ) (i : ℕ) (ts : List Terminal) → length (seatsFrom images i ts) ≡ length ts
-unfolding mapFrom
-length-seats images i [] = refl
-length-seats images i (t ∷ ts) = rw (length-seats images (suc i) ts)
-
 codes-first : (images : List ℕ) (b : Bus) (ts : List Terminal) → length ts ≡ 8 → b .seats ≡ seatsFrom images 0 ts → Codes images (anyInfo1 (b .seats)) (anyInfo3 (b .seats)) 0 (firstOf b) (begins b) ts
 unfolding begins doneOctet
 codes-first images b ts eight is =
@@ -251,7 +247,7 @@ codes-first images b ts eight is =
       done1-is = sym (none-done 1 (b .seats));
       done2-is = sym (none-done 2 (b .seats));
       seats-are = seats-seated (b .seats) ∙ is;
-      eight = rw (length-map, is, length-seats images 0 ts) eight;
+      eight = rw (length-map, is, length-mapped (seatIn images) 0 ts) eight;
       in-step = in-step-begins b;
       info1-is = rw seats-seated;
       info3-is = rw seats-seated;

@@ -1,11 +1,10 @@
 -- A run of periods in which one terminal sends alone (crate `solo`) is a turn of a run's loop: `specs/Turn.antt`.
-use mathlib.Core.Path.{_≡_, refl, sym, ap, _∙_}
+use mathlib.Core.Path.{_≡_, refl, ap, _∙_}
 use mathlib.Core.Bool.{true, _&&_}
 use mathlib.Core.List.{List, [], _∷_}
 use Prim.Native.Nat.{ℕ, zero, suc, _+_, _-_, _≤_, _<_}
-use native.Mathlib.Nat.{suc-inj}
 use native.Mathlib.Omega.{arith}
-use lib.ListN.{length}
+use lib.ListN.{length, replicate}
 use borrow.Author.Tests.{lt-ltb}
 use Rattle.cases.proofs.ByCases.{by-test}
 use Rattle.cases.proofs.Operators.{and-both}
@@ -53,7 +52,7 @@ module _ (images : List ℕ) (a : Alone) (g : goesAlone images a ≡ true) where
 -- ---- The run, from what was found.
 module _ (images letters : List ℕ) (ended : Ran) (end : Kept) (ts : List Terminal) (total : ℕ) (rest : allHearAlike ts ≡ true) where
   abbrev none-noted : List UnitNotes
-  none-noted = mapFrom (λ (_ : ℕ) (_ : Terminal). noNotes) 0 ts
+  none-noted = replicate (length ts) noNotes
 
   -- with so many periods run
   abbrev GoesAt : Alone → List ℕ → List UnitNotes → Type 0
@@ -125,12 +124,10 @@ none-run images (suc n) bus s os z =
     (λ g. rw g)
 
 -- ---- The turn.
-all-alike : {S B : Type 0} (x : UnitNotes) (i : ℕ) (ss : List S) (bs : List B) → length ss ≡ length bs → mapFrom (λ (_ : ℕ) (_ : S). x) i ss ≡ mapFrom (λ (_ : ℕ) (_ : B). x) i bs
+all-silenced : (i : ℕ) (ns : List UnitNotes) → mapFrom silenced i ns ≡ replicate (length ns) noNotes
 unfolding mapFrom
-all-alike x i [] [] e = refl
-all-alike x i [] (b ∷ bs) e = absurd (omega arith)
-all-alike x i (y ∷ ys) [] e = absurd (omega arith)
-all-alike x i (y ∷ ys) (b ∷ bs) e = ap (λ (ns : List UnitNotes). x ∷ ns) (all-alike x (suc i) ys bs (suc-inj e))
+all-silenced i [] = refl
+all-silenced i (n ∷ ns) = ap (λ (zs : List UnitNotes). noNotes ∷ zs) (all-silenced (suc i) ns)
 
 module _ (left : ℕ) (k : Kept) where
   abbrev found : Search
@@ -158,5 +155,5 @@ module _ (left : ℕ) (k : Kept) where
       let i : Going (k .images) (k .letters) (ranOn (left - 1) (periodRan k) (keptRun k)) (keptOn (left - 1) (periodRan k) (keptRun k)) (refusedRun 0 (k .bus)) (left - 0) (mapFrom (followed (found .solo)) 0 (k .terminals)) (k .octets) (k .notes) = rw (alone .followed-is, none) (from-first left k some h) in
       let r = first-alone (k .images) (k .letters) (ranOn (left - 1) (periodRan k) (keptRun k)) (keptOn (left - 1) (periodRan k) (keptRun k)) (k .terminals) left (alone .rest) (k .bus .periods .0) (found .over) (alone .clear) (alone .few) (aloneFor found) (omega (arith, q .2)) (notYet (k .bus) (found .solo)) (k .octets) (k .notes) i (record { seats = alone .seats; sender = alone .sender }) refl refl ran in
       let one : 1 + (run .over - 1) ≡ run .over = omega (arith, ran) in
-      let silent = all-alike noNotes 0 (k .notes) (k .terminals) (o .notes-fit ∙ sym (o .eight)) in
+      let silent : mapFrom silenced 0 (k .notes) ≡ replicate (length (k .terminals)) noNotes = all-silenced 0 (k .notes) ∙ rw (o .notes-fit, o .eight) in
       rw silent (shown-turn left k some h (run .ran) (run .over - 1) _ _ _ (r .1) (rw one (r .2)) (rw one (r .0)))

@@ -1,8 +1,8 @@
 -- Leaps. A loop over `step` that leaps from a still bus runs the periods of a run (crate `call_rules`, RunLoop.antt); and the law `leap`:
 -- `specs/Leap.antt`.
-use mathlib.Core.Path.{_≡_, refl, sym, ap, _∙_}
-use mathlib.Core.Bool.{true, false, not, _&&_}
-use mathlib.Core.List.{List, [], _∷_, map}
+use mathlib.Core.Path.{_≡_, refl, sym, _∙_}
+use mathlib.Core.Bool.{true, false, _&&_}
+use mathlib.Core.List.{List}
 use Prim.Native.Nat.{ℕ, zero, suc, _+_, _-_, _*_, _≤_, _<_}
 use native.Mathlib.Omega.{arith}
 use lib.Dec.{eqb, leb}
@@ -25,7 +25,7 @@ use Rattle.call_rules.proofs.InOrder.{InOrder, in-order, order-reply, one-left}
 use Rattle.call_rules.proofs.RunSingle.{goes-facts}
 use Rattle.call_rules.proofs.RunLoop.{goes-reply, Going, going-first, going-on, going-ends}
 use Rattle.leaps.specs.Still.{reach, countedOver, leapt}
-use Rattle.leaps.specs.Leap.{Leaps, Leap}
+use Rattle.leaps.specs.Leap.{Leap}
 use Rattle.leaps.proofs.Stays.{Still, reach-less, reach-still, still-next}
 use Rattle.leaps.proofs.StillPeriod.{still-ran, still-terminals, still-octets, still-notes}
 
@@ -85,7 +85,7 @@ module _ (images letters : List ℕ) (ended : Ran) (end : Kept) (ts : List Termi
   GoesFrom last left ns = Going images letters ended end last left ts os ns
 
   abbrev none-noted : List UnitNotes
-  none-noted = map (λ (t : Terminal). noNotes) ts
+  none-noted = replicate (length ts) noNotes
 
   -- one
   over-one : (j : ℕ) (last : Ran) (left : ℕ) (ns : List UnitNotes) → GoesFrom last left ns → goesOn last left ≡ true → Still (suc j) (last .bus) ts
@@ -148,10 +148,6 @@ module _ (images letters : List ℕ) (ended : Ran) (end : Kept) (ts : List Termi
         (λ t. let e : far ≡ suc (far - 1) = omega (arith, eqb-false far 0 t) in rw e (after-leap (far - 1) e (leapt (suc (far - 1)) (last .bus)) refl))
 
 -- ---- The law.
-map-none : (ts : List Terminal) → map (λ (t : Terminal). noNotes) ts ≡ replicate (length ts) noNotes
-map-none [] = refl
-map-none (t ∷ ts) = ap (λ (ns : List UnitNotes). noNotes ∷ ns) (map-none ts)
-
 pub leap : Leap
 unfolding refusedRun goesOn
 leap left zero k r some h = absurd (omega arith)
@@ -166,5 +162,5 @@ leap left (suc j) k r some h =
     over (k .images) (k .letters) (ran (suc j) k) (keptAfter (suc j) k) (k .terminals) (k .octets) j (refusedRun 0 (k .bus)) (suc j) (k .notes) first
     (rw (lt-ltb 0 (suc j) some, more)) (o .opportunities-fit) s (omega arith) in
     let none : suc j - suc j ≡ 0 = omega arith in
-    let e = going-ends (k .images) (k .letters) (ran (suc j) k) (keptAfter (suc j) k) (refusedRun 0 (leapt (suc j) (k .bus))) (suc j - suc j) (k .terminals) (k .octets) (map (λ (t : Terminal). noNotes) (k .terminals)) last (rw none) in
-    record { ran-is = sym (e .0); kept-is = sym (e .1) ∙ rw (map-none (k .terminals), o .eight) }
+    let e = going-ends (k .images) (k .letters) (ran (suc j) k) (keptAfter (suc j) k) (refusedRun 0 (leapt (suc j) (k .bus))) (suc j - suc j) (k .terminals) (k .octets) (replicate (length (k .terminals)) noNotes) last (rw none) in
+    record { ran-is = sym (e .0); kept-is = sym (e .1) ∙ rw (o .eight) }

@@ -1,14 +1,14 @@
 -- A period of a still bus, as the code goes through it: it hands back no notes and changes nothing but the counts.
-use mathlib.Core.Path.{_≡_, refl, ap, _∙_}
+use mathlib.Core.Path.{_≡_, refl}
 use mathlib.Core.Bool.{Bool, true, false, cond, not, _&&_, _||_, or-false}
-use mathlib.Core.List.{List, [], _∷_, map}
+use mathlib.Core.List.{List, [], _∷_}
 use Prim.Native.Nat.{ℕ, suc, _+_, _*_, _<_}
 use native.Mathlib.Omega.{arith}
 use lib.Dec.{eqb, leb}
+use lib.ListN.{length, replicate}
 use borrow.Author.Tests.{eqb-true, le-leb, lt-leb, not-true}
 use Rattle.cases.proofs.ByCases.{by-test, clash}
 use Rattle.cases.proofs.Operators.{and-both}
-use Rattle.walks.specs.Over.{mapFrom, foldFrom}
 use Rattle.frame.specs.Four.{allFour}
 use Rattle.frame.specs.declared.fields.Four.{Four}
 use Rattle.cells.specs.Notes.{packedNotes, noted}
@@ -32,10 +32,8 @@ use Rattle.bus.specs.Quick.{sentE, shownBy, shownFrom}
 use Rattle.exchange.specs.Rest.{partRests, allRest, anyCalling, anyFrames, restMoment, RestsThrough}
 use Rattle.exchange.specs.Shown.{lettersOf}
 use Rattle.exchange.proofs.Resting.{rest-four}
-use Rattle.listening.specs.Hears.{rests, heardOne, terminalAfter, notesAfter, toldAfter}
-use Rattle.listening.specs.declared.hears.UnitNotes.{UnitNotes}
-use Rattle.listening.specs.declared.hears.HeardOne.{HeardOne}
-use Rattle.listening.proofs.Rests.{one-rests}
+use Rattle.listening.specs.Hears.{rests}
+use Rattle.listening.proofs.Rests.{AllRest, Unchanged, all-rest}
 use Rattle.bus_record.specs.Echo.{hitIn, firstMoment, heardDown}
 use Rattle.bus_record.specs.Reading.{quietReading, readerWaits, readIn, octetsIn}
 use Rattle.bus_record.proofs.SpokenLaws.{four-ones}
@@ -43,7 +41,7 @@ use Rattle.bus_record.specs.NetworkSide.{leavesG3, readerAfter, hears, timers, 
 use Rattle.bus_record.specs.declared.record.BusRecord.{BusRecord}
 use Rattle.call_rules.specs.Step.{stepMoment, stepExchanged, stepLine, stepTerminals, stepNotes, stepTold, stepRan, stepOctets}
 use Rattle.leaps.specs.Still.{networkRests, quiet, countedOver, leapt}
-use Rattle.leaps.proofs.Stays.{Stays, AllStay, Still}
+use Rattle.leaps.proofs.Stays.{AllStay, Still}
 
 -- ---- Timers.
 next-is : (p : Periods) → p .0 < mostPeriods → nextPeriod p ≡ atPeriod (p .0 + 1)
@@ -163,25 +161,9 @@ module _ (state : ℕ) (p : Periods) (j : ℕ) (l : p .0 < mostPeriods) where
   take-no-part [] all = refl
   take-no-part (t ∷ ts) all = rw (e-sent state t (all .0 .hears-alike) (all .0 .takes-no-part), take-no-part ts (all .1))
 
-  hear-nothing : (t : Terminal) → Stays (shownBy state) (p .0) (suc j) t → heardOne (shownBy state) p t ≡ record { terminal = t; notes = noNotes; told = false }
-  hear-nothing t h = one-rests (shownBy state) p t (h .hears-alike) (rw (next-is p l) (clear-due (p .0) j (t .t3) (h .t3-clear)))
-
-  terminals-stay : (i : ℕ) (ts : List Terminal) → AllHere ts → mapFrom (terminalAfter (shownBy state) p) i ts ≡ ts
-  unfolding mapFrom
-  terminals-stay i [] all = refl
-  terminals-stay i (t ∷ ts) all =
-      ap (λ (h : HeardOne). h .terminal ∷ mapFrom (terminalAfter (shownBy state) p) (suc i) ts) (hear-nothing t (all .0)) ∙ ap (λ (zs : List Terminal). t ∷ zs) (terminals-stay (suc i) ts (all .1))
-
-  no-notes : (i : ℕ) (ts : List Terminal) → AllHere ts → mapFrom (notesAfter (shownBy state) p) i ts ≡ map (λ (t : Terminal). noNotes) ts
-  unfolding mapFrom
-  no-notes i [] all = refl
-  no-notes i (t ∷ ts) all =
-      ap (λ (h : HeardOne). h .notes ∷ mapFrom (notesAfter (shownBy state) p) (suc i) ts) (hear-nothing t (all .0)) ∙ ap (λ (zs : List UnitNotes). noNotes ∷ zs) (no-notes (suc i) ts (all .1))
-
-  none-told : (i : ℕ) (ts : List Terminal) → AllHere ts → foldFrom (toldAfter (shownBy state) p) i false ts ≡ false
-  unfolding foldFrom
-  none-told i [] all = refl
-  none-told i (t ∷ ts) all = rw (hear-nothing t (all .0)) (none-told (suc i) ts (all .1))
+  all-rest-here : (ts : List Terminal) → AllHere ts → AllRest (shownBy state) p ts
+  all-rest-here [] all = tt
+  all-rest-here (t ∷ ts) all = ((all .0 .hears-alike, rw (next-is p l) (clear-due (p .0) j (t .t3) (all .0 .t3-clear))), all-rest-here ts (all .1))
 
 -- ---- The whole.
 module _ (images octets letters : List ℕ) (j : ℕ) (b : BusRecord) (ts : List Terminal) (s : Still (suc j) b ts) where
@@ -217,17 +199,21 @@ module _ (images octets letters : List ℕ) (j : ℕ) (b : BusRecord) (ts : List
   unfolding stepLine heardDown
   line-is = rw (parts .0)
 
+  -- no terminal hears anything new
+  heard : Unchanged (shownBy state) (b .periods) 0 ts
+  heard = all-rest (shownBy state) (b .periods) 0 ts (all-rest-here state (b .periods) j run ts (s .terminals-stay))
+
   pub still-terminals : stepTerminals b ts images letters ≡ ts
   unfolding stepTerminals
-  still-terminals = rw (line-is, exchanged-is) (terminals-stay state (b .periods) j run 0 ts (s .terminals-stay))
+  still-terminals = rw (line-is, exchanged-is) (heard .terminals-are)
 
-  pub still-notes : stepNotes b ts images letters ≡ map (λ (t : Terminal). noNotes) ts
+  pub still-notes : stepNotes b ts images letters ≡ replicate (length ts) noNotes
   unfolding stepNotes
-  still-notes = rw (line-is, exchanged-is) (no-notes state (b .periods) j run 0 ts (s .terminals-stay))
+  still-notes = rw (line-is, exchanged-is) (heard .notes-are)
 
   told-is : stepTold b ts images letters ≡ false
   unfolding stepTold
-  told-is = rw (line-is, exchanged-is) (none-told state (b .periods) j run 0 ts (s .terminals-stay))
+  told-is = rw (line-is, exchanged-is) (heard .told-is)
 
   -- the four D heard; in G3 all are 1
   abbrev ds : Four

@@ -1,13 +1,15 @@
 -- A terminal that rests, and whose timer is not due at the next period's start, is as it was after both, and has no notes.
-use mathlib.Core.Path.{_≡_, refl, sym, _∙_}
+use mathlib.Core.Path.{_≡_, refl, sym, ap, _∙_}
 use mathlib.Core.Bool.{Bool, true, false, not, _&&_}
-use mathlib.Core.List.{[]}
-use Prim.Native.Nat.{ℕ, _≤_}
+use mathlib.Core.List.{List, [], _∷_}
+use Prim.Native.Nat.{ℕ, suc, _≤_}
 use native.Mathlib.Omega.{arith}
 use lib.Dec.{eqb, leb}
+use lib.ListN.{length, replicate}
 use borrow.Author.Tests.{eqb-true, eqb-false, leb-true, not-true}
 use Rattle.cases.proofs.ByCases.{by-test, clash}
 use Rattle.cases.proofs.Operators.{and-both}
+use Rattle.walks.specs.Over.{mapFrom, foldFrom}
 use Rattle.cells.specs.Notes.{packedNotes}
 use Rattle.cells.specs.Cells.{cellIn}
 use Rattle.dchannel.specs.declared.access.Access.{Access}
@@ -21,7 +23,8 @@ use Rattle.hearing.specs.declared.heard.Downward.{Downward}
 use Rattle.terminal.specs.Terminal.{unchanged, acts, happens, aligned, heardAs, hears, timer, ready, checked}
 use Rattle.terminal.specs.declared.Terminal.{Terminal}
 use Rattle.terminal.specs.declared.TerminalStep.{TerminalStep}
-use Rattle.listening.specs.Hears.{staysInSilence, rests, heardStep, timedStep, hasNote, heardOne}
+use Rattle.listening.specs.Hears.{staysInSilence, rests, heardStep, timedStep, hasNote, heardOne, terminalAfter, notesAfter, toldAfter, noNotes}
+use Rattle.listening.specs.declared.hears.HeardOne.{HeardOne}
 
 -- one of the three states
 silence-is {ℓ} : {X : Type ℓ} (state : ℕ) → staysInSilence state ≡ true → (state ≡ F3 → X) → (state ≡ F4 → X) → (state ≡ F5 → X) → X
@@ -96,7 +99,32 @@ module _ (line : Downward) (now : Periods) (t : Terminal) (r : rests line t ≡ 
   unfolding heardOne hasNote
   one-rests = rw (hearing-rests .1, timing-rests .0, timing-rests .1)
 
--- The same, as the code finds it.
+-- ---- All terminals: each rests, with no timer due.
+abbrev pub AllRest : Downward → Periods → List Terminal → Type 0
+AllRest line now [] = Unit
+AllRest line now (t ∷ ts) = ((rests line t ≡ true) × (due (t .t3) (nextPeriod now .0) ≡ false)) × AllRest line now ts
+
+pub record Unchanged (line : Downward) (now : Periods) (i : ℕ) (ts : List Terminal) : Type 0 where
+  pub terminals-are : mapFrom (terminalAfter line now) i ts ≡ ts
+  pub notes-are : mapFrom (notesAfter line now) i ts ≡ replicate (length ts) noNotes
+  pub told-is : foldFrom (toldAfter line now) i false ts ≡ false
+
+cons-both : {X : Type 0} {x y : X} {xs ys : List X} → x ≡ y → xs ≡ ys → (x ∷ xs) ≡ (y ∷ ys)
+cons-both p q = rw (p, q)
+
+pub all-rest : (line : Downward) (now : Periods) (i : ℕ) (ts : List Terminal) → AllRest line now ts → Unchanged line now i ts
+unfolding mapFrom foldFrom
+all-rest line now i [] all = record { terminals-are = refl; notes-are = refl; told-is = refl }
+all-rest line now i (t ∷ ts) all =
+    let here = one-rests line now t (all .0 .0) (all .0 .1) in
+    let on = all-rest line now (suc i) ts (all .1) in
+    record {
+      terminals-are = cons-both (ap (λ (h : HeardOne). h .terminal) here) (on .terminals-are);
+      notes-are = cons-both (ap (λ (h : HeardOne). h .notes) here) (on .notes-are);
+      told-is = ap (λ (b : Bool). foldFrom (toldAfter line now) (suc i) b ts) (ap (λ (h : HeardOne). h .told) here) ∙ on .told-is;
+    }
+
+-- ---- One, as the code finds it.
 pub rested : (line : Downward) (now : Periods) (t : Terminal) {next : Periods} {r d : Bool} → next ≡ nextPeriod now → r ≡ rests line t → r ≡ true → d ≡ due (t .t3) (next .0) → not d ≡ true →
     record { terminal = t; notes = record { heard = packedNotes []; timed = packedNotes [] }; told = false } ≡ heardOne line now t
 rested line now t {next} {r} {d} n p q e f = sym (one-rests line now t (sym p ∙ q) (rw n at (sym e ∙ not-true d f)))

@@ -1,5 +1,5 @@
 -- A period of a run alone is the period over all terminals: specs/Period.antt.
-use mathlib.Core.Path.{_≡_, refl, ap, _∙_}
+use mathlib.Core.Path.{_≡_, _∙_}
 use mathlib.Core.Bool.{Bool, true, false, not, _&&_}
 use mathlib.Core.List.{List, [], _∷_}
 use Prim.Native.Nat.{ℕ, suc, _+_}
@@ -15,21 +15,19 @@ use Rattle.table_6_2.specs.Table62.{F7}
 use Rattle.table_6_3.specs.Table63.{G3}
 use Rattle.table_6_3.specs.Table63 as table63
 use Rattle.timing.specs.Counts.{allRun, nextPeriod}
-use Rattle.timing.specs.Timers.{Clear}
 use Rattle.timing.proofs.TimerLaws.{clear-due, clear-later}
 use Rattle.timing.specs.declared.counts.Periods.{Periods}
 use Rattle.hearing.specs.declared.heard.Downward.{Downward}
 use Rattle.terminal.specs.declared.Terminal.{Terminal}
-use Rattle.walks.specs.Over.{mapFrom, foldFrom}
+use Rattle.walks.specs.Over.{mapFrom}
+use Rattle.walks.proofs.Over.{length-mapped}
 use Rattle.bus.specs.Quick.{shownBy}
 use Rattle.exchange.specs.Moment.{noLetters}
 use Rattle.exchange.specs.Moment as exchange
 use Rattle.exchange.specs.Shown.{lettersOf}
-use Rattle.listening.specs.Hears.{rests, heardOne, terminalAfter, notesAfter, toldAfter}
-use Rattle.listening.specs.declared.hears.HeardOne.{HeardOne}
-use Rattle.listening.proofs.Rests.{one-rests}
+use Rattle.listening.specs.Hears.{rests}
+use Rattle.listening.proofs.Rests.{AllRest, all-rest}
 use Rattle.bus_record.specs.Echo.{hitIn, firstMoment, heardDown}
-use Rattle.bus_record.specs.NetworkSide.{noNotes}
 use Rattle.solo.specs.Solo.{soloAfterFour, soloGoes, followed}
 use Rattle.solo.specs.Alone.{staysAlone, goesAlone}
 use Rattle.solo.specs.Search.{allHearAlike, AllClear}
@@ -41,9 +39,6 @@ use Rattle.solo.proofs.SoloFour.{followed-in, followed-out, solo-four}
 pub clear-on : ClearOn
 clear-on now n k [] few all = tt
 clear-on now n k (t ∷ ts) few all = (clear-later now n k 1 (t .t3) (omega arith) (all .0), clear-on now n k ts few (all .1))
-
-cons-both : {X : Type 0} {x y : X} {xs ys : List X} → x ≡ y → xs ≡ ys → (x ∷ xs) ≡ (y ∷ ys)
-cons-both p q = rw (p, q)
 
 -- ---- The hearing: all rest, and no timer is due.
 same-rest : (line : Downward) (s : Solo) (i : ℕ) (t : Terminal) → rests line (followed s i t) ≡ rests line t
@@ -61,27 +56,12 @@ module _ (period : Periods) (more : allRun period ≡ false) (s : Solo) where
   unfolding nextPeriod
   next-is = rw more
 
-  heard-one : (i : ℕ) (t : Terminal) → rests line t ≡ true → Clear (period .0) 1 (t .t3)
-      → heardOne line period (followed s i t) ≡ record { terminal = followed s i t; notes = noNotes; told = false }
-  heard-one i t r c = one-rests line period (followed s i t) (same-rest line s i t ∙ r) (rw (same-timer s i t, next-is) (clear-due (period .0) 0 (t .t3) c))
-
-  record Heard (i : ℕ) (ts : List Terminal) : Type 0 where
-    terminals-are : mapFrom (terminalAfter line period) i (mapFrom (followed s) i ts) ≡ mapFrom (followed s) i ts
-    notes-are : mapFrom (notesAfter line period) i (mapFrom (followed s) i ts) ≡ mapFrom (λ (_ : ℕ) (_ : Terminal). noNotes) i ts
-    told-is : foldFrom (toldAfter line period) i false (mapFrom (followed s) i ts) ≡ false
-
-  heard-all : (i : ℕ) (ts : List Terminal) → allHearAlike ts ≡ true → AllClear (period .0) 1 ts → Heard i ts
-  unfolding mapFrom foldFrom allHearAlike
-  heard-all i [] r c = record { terminals-are = refl; notes-are = refl; told-is = refl }
-  heard-all i (t ∷ ts) r c =
+  all-rest-here : (i : ℕ) (ts : List Terminal) → allHearAlike ts ≡ true → AllClear (period .0) 1 ts → AllRest line period (mapFrom (followed s) i ts)
+  unfolding mapFrom allHearAlike
+  all-rest-here i [] r c = tt
+  all-rest-here i (t ∷ ts) r c =
       let rest = and-both (rests line t) (allHearAlike ts) r in
-      let here = heard-one i t (rest .0) (c .0) in
-      let on = heard-all (suc i) ts (rest .1) (c .1) in
-      record {
-        terminals-are = cons-both (ap (λ (o : HeardOne). o .terminal) here) (on .terminals-are);
-        notes-are = cons-both (ap (λ (o : HeardOne). o .notes) here) (on .notes-are);
-        told-is = ap (λ (b : Bool). foldFrom (toldAfter line period) (suc i) b (mapFrom (followed s) (suc i) ts)) (ap (λ (o : HeardOne). o .told) here) ∙ on .told-is;
-      }
+      ((same-rest line s i t ∙ rest .0, rw (same-timer s i t, next-is) (clear-due (period .0) 0 (t .t3) (c .0))), all-rest-here (suc i) ts (rest .1) (c .1))
 
 -- ---- What is known where a period more is run.
 pub record Goes (images : List ℕ) (a : Alone) : Type 0 where
@@ -133,10 +113,11 @@ pub period-alone : PeriodAlone
 period-alone images letters a ts on seats sender rest clear =
     let g = goes-facts images a on in
     let four = solo-four images (a .ran .bus .network .state) (a .solo) ts (info-is images letters a ts g) seats sender (g .goes) in
-    let heard = heard-all (a .ran .bus .periods) (g .more) (soloAfterFour images (a .solo)) 0 ts rest clear in
+    let after = soloAfterFour images (a .solo) in
+    let heard = all-rest (shownBy G3) (a .ran .bus .periods) 0 (mapFrom (followed after) 0 ts) (all-rest-here (a .ran .bus .periods) (g .more) after 0 ts rest clear) in
     record {
       moment-is = rw (first-is images letters a ts g) (four .moment-is);
       terminals-are = rw (line-is images letters a ts g, first-is images letters a ts g, four .terminals-are) (heard .terminals-are);
-      notes-are = rw (line-is images letters a ts g, first-is images letters a ts g, four .terminals-are) (heard .notes-are);
+      notes-are = rw (line-is images letters a ts g, first-is images letters a ts g, four .terminals-are) (heard .notes-are ∙ rw (length-mapped (followed after) 0 ts));
       told-is = rw (line-is images letters a ts g, first-is images letters a ts g, four .terminals-are) (heard .told-is);
     }

@@ -4,6 +4,7 @@ use mathlib.Core.Bool.{true, false}
 use mathlib.Core.List.{List}
 use mathlib.Core.Path.{_≡_}
 use Prim.Native.Nat.{ℕ, _+_, _<_}
+use lib.ListN.{length, replicate}
 use Rattle.walks.specs.Over.{mapFrom, foldFrom}
 use Rattle.hearing.specs.declared.heard.Downward.{Downward}
 use Rattle.terminal.specs.declared.Terminal.{Terminal}
@@ -38,7 +39,7 @@ lineHere images letters a ts = lineOver (a .ran .bus) images letters (terminalsH
 pub record IsPeriod (images letters : List ℕ) (a : Alone) (ts : List Terminal) : Type 0 where
   pub moment-is : exchangeOver (a .ran .bus) images letters (terminalsHere a ts) ≡ soloMoment images (a .ran .bus .network .state) (a .solo)
   pub terminals-are : mapFrom (terminalAfter (lineHere images letters a ts) (a .ran .bus .periods)) 0 (exchangedHere images letters a ts) ≡ mapFrom (followed (soloAfterFour images (a .solo))) 0 ts
-  pub notes-are : mapFrom (notesAfter (lineHere images letters a ts) (a .ran .bus .periods)) 0 (exchangedHere images letters a ts) ≡ mapFrom (λ (_ : ℕ) (_ : Terminal). noNotes) 0 ts
+  pub notes-are : mapFrom (notesAfter (lineHere images letters a ts) (a .ran .bus .periods)) 0 (exchangedHere images letters a ts) ≡ replicate (length ts) noNotes
   pub told-is : foldFrom (toldAfter (lineHere images letters a ts) (a .ran .bus .periods)) 0 false (exchangedHere images letters a ts) ≡ false
 
 abbrev pub PeriodAlone : Type 0

@@ -20,6 +20,12 @@ past-is (suc j) k = past-is j (suc k) ∙ omega arith
 past-zero : (j : ℕ) → past j 0 ≡ j
 past-zero j = past-is j 0 ∙ omega arith
 
+-- as many as there were
+pub length-mapped : {S B : Type 0} (f : ℕ → S → B) (k : ℕ) (ys : List S) → length (mapFrom f k ys) ≡ length ys
+unfolding mapFrom
+length-mapped f k [] = refl
+length-mapped f k (y ∷ ys) = ap suc (length-mapped f (suc k) ys)
+
 module _ {S : Type 0} (f : ℕ → S → S) where
   -- the first j elements went through f
   abbrev pub upto : ℕ → ℕ → List S → List S
