@@ -5,7 +5,7 @@ use mathlib.Core.List.{List, []}
 use Prim.Native.Nat.{ℕ}
 use lib.Dec.{eqb, ltb}
 use Rattle.cells.specs.Notes.{packedNotes}
-use Rattle.table_6_3.specs.Table63.{G3}
+use Rattle.table_6_3.specs.Table63.{G1, G2, G3, G4}
 use Rattle.timing.specs.Counts.{nextPeriod, fourMore}
 use Rattle.timing.specs.declared.counts.Periods.{Periods}
 use Rattle.timing.specs.declared.counts.Opportunities.{Opportunities}
@@ -47,6 +47,19 @@ networkListens line period n =
       notes = record { heard = hears line period n .notes; timed = timers line period n .notes };
       left = leavesG3 (n .state) (hears line period n .network .state) || leavesG3 (hears line period n .network .state) (timers line period n .network .state);
     }
+
+-- whether it hears what it has heard before, so that nothing happens: in G1 and G2 unaligned no pulse, in G3 aligned INFO 3, in G4 unaligned
+-- INFO 1 (proofs/NetworkRests.antt)
+unfoldable pub networkRests : Upward → Network → Bool
+networkRests line n =
+    eqb (n .alignment .run) 0
+    && cond (eqb (n .state) G3)
+    (((n .alignment .aligned && line .pulse) && line .framed) && not (line .info1))
+    (not (n .alignment .aligned)
+    && cond (line .pulse) ((not (line .framed) && line .info1) && eqb (n .state) G4) (eqb (n .state) G1 || eqb (n .state) G2))
+
+abbrev pub nothingHeard : Network → NetworkHeard
+nothingHeard n = record { network = n; notes = noNotes; left = false }
 
 -- "four for each period whose lines leave the network end in G3"
 unfoldable pub countedAfter : ℕ → Opportunities → Opportunities

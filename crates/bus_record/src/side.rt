@@ -1,7 +1,7 @@
 // The network end's side of a period: it reads D, hears the upward line, and then come the timers due at the next one's start.
 ghost use mathlib.Core.Path.{_≡_};
 ghost use Rattle.bus.specs.Quick.{shownFrom};
-ghost use Rattle.bus_record.specs.NetworkSide.{readerAfter, networkListens, countedAfter, ranWith, ranAfter, octetsAfter, refusedRun};
+ghost use Rattle.bus_record.specs.NetworkSide.{readerAfter, networkRests, networkListens, countedAfter, ranWith, ranAfter, octetsAfter, refusedRun};
 use super::reading::Spoken;
 use super::reading::read_in;
 use super::record::BusRecord;
@@ -11,9 +11,13 @@ use hearing::heard::Upward;
 use listening::hears::UnitNotes;
 use network::Network;
 use reader::Reader;
+use table_6_3::G1;
+use table_6_3::G2;
 use table_6_3::G3;
+use table_6_3::G4;
 use timing::counts::Opportunities;
 use timing::counts::Periods;
+use timing::timers::due;
 
 // What a run of periods gives: the record; the last period's notes of unit 0, of the reader (its code, 0 for none, and the length of the
 // heard body) and of frames completed (bit i for terminal i + 1); whether that period has a note; and 0 or the number of the refusal.
@@ -37,7 +41,7 @@ pub struct NetworkHeard {
 }
 
 // What the terminals' line shows: any terminal that sends INFO 1, any that sends INFO 3.
-fn shown_from(calling: bool, frames: bool) -> Upward
+pub fn shown_from(calling: bool, frames: bool) -> Upward
     ensures { λ r. ⌜ r ≡ shownFrom calling frames ⌝ }
 {
     Upward {
@@ -47,13 +51,43 @@ fn shown_from(calling: bool, frames: bool) -> Upward
     }
 }
 
+// Whether the network end hears what it has heard before: in G1 and G2 unaligned no pulse, in G3 aligned INFO 3, in G4 unaligned INFO 1.
+pub fn network_rests(network: Network, line: Upward) -> bool
+    ensures { λ r. ⌜ r ≡ networkRests line network ⌝ }
+{
+    let state = network.state;
+    let aligned = network.alignment.aligned;
+    if network.alignment.run != 0 {
+        return false;
+    }
+    if state == G3 {
+        return aligned & line.pulse & line.framed & !line.info1;
+    }
+    if line.pulse {
+        return !aligned & (!line.framed & line.info1 & (state == G4));
+    }
+    !aligned & ((state == G1) | (state == G2))
+}
+
 // The network end hears the line of a period; then comes the start of the next.
 fn network_listens(network: Network, line: Upward, period: Periods) -> NetworkHeard
     ensures { λ r. ⌜ r ≡ networkListens line period network ⌝ }
 {
+    let next = period.next_period();
+    let timer_due = due(network.t1, next) | due(network.t2, next);
+    if network_rests(network, line) & !timer_due {
+        return NetworkHeard {
+            network,
+            notes: UnitNotes {
+                heard: NO_NOTES,
+                timed: NO_NOTES,
+            },
+            left: false,
+        };
+    }
     let heard = network.hear(line, period);
     let after = heard.network;
-    let timed = after.timer_due(period.next_period());
+    let timed = after.timer_due(next);
     let last = timed.network;
     let first = heard.notes;
     let second = timed.notes;

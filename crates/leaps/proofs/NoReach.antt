@@ -9,8 +9,10 @@ use Rattle.timing.proofs.TimerLaws.{clear-none}
 use Rattle.terminal.specs.declared.Terminal.{Terminal}
 use Rattle.exchange.specs.Rest.{partRests}
 use Rattle.listening.specs.Hears.{rests}
+use Rattle.bus.specs.Quick.{shownFrom}
+use Rattle.bus_record.specs.NetworkSide.{networkRests}
 use Rattle.bus_record.specs.declared.record.BusRecord.{BusRecord}
-use Rattle.leaps.specs.Still.{networkRests, firstAhead, overWith, alsoAhead, reached, reach}
+use Rattle.leaps.specs.Still.{firstAhead, overWith, alsoAhead, reached, reach}
 use Rattle.leaps.specs.declared.ahead.Ahead.{Ahead}
 
 -- from 0 there is no way on
@@ -26,4 +28,4 @@ unfolding reach reached
 reach-none b ts left h =
     let z = none-over 0 (firstAhead b left) ts h in
     let a = foldFrom alsoAhead 0 (firstAhead b left) ts in
-    by-test (networkRests (a .calling) (a .frames) (b .network)) (λ u. rw (u, z)) (λ u. rw u)
+    by-test (networkRests (shownFrom (a .calling) (a .frames)) (b .network)) (λ u. rw (u, z)) (λ u. rw u)

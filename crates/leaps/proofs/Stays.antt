@@ -15,11 +15,12 @@ use Rattle.timing.specs.Timers.{Clear, clear}
 use Rattle.timing.proofs.TimerLaws.{clear-most, clear-is, clear-later}
 use Rattle.hearing.specs.declared.heard.Downward.{Downward}
 use Rattle.terminal.specs.declared.Terminal.{Terminal}
-use Rattle.bus.specs.Quick.{shownBy}
+use Rattle.bus.specs.Quick.{shownBy, shownFrom}
 use Rattle.exchange.specs.Rest.{partRests, anyCalling, anyFrames}
 use Rattle.listening.specs.Hears.{rests}
+use Rattle.bus_record.specs.NetworkSide.{networkRests}
 use Rattle.bus_record.specs.declared.record.BusRecord.{BusRecord}
-use Rattle.leaps.specs.Still.{networkRests, quiet, farthest, firstAhead, overWith, alsoAhead, reached, reach, leapt}
+use Rattle.leaps.specs.Still.{quiet, farthest, firstAhead, overWith, alsoAhead, reached, reach, leapt}
 use Rattle.leaps.specs.declared.ahead.Ahead.{Ahead}
 
 -- ---- The terminals.
@@ -57,7 +58,7 @@ gathered-sent i a (t ∷ ts) = let g = gathered-sent (suc i) (alsoAhead i a t) t
 -- ---- All units.
 pub record Still (j : ℕ) (b : BusRecord) (ts : List Terminal) : Type 0 where
   pub quiet-is : quiet b ≡ true
-  pub network-rests : networkRests (anyCalling ts) (anyFrames ts) (b .network) ≡ true
+  pub network-rests : networkRests (shownFrom (anyCalling ts) (anyFrames ts)) (b .network) ≡ true
   pub terminals-stay : AllStay (shownBy (b .network .state)) (b .periods .0) j ts
   pub t1-clear : Clear (b .periods .0) j (b .network .t1)
   pub t2-clear : Clear (b .periods .0) j (b .network .t2)
@@ -70,10 +71,10 @@ module _ (b : BusRecord) (ts : List Terminal) (left j : ℕ) (some : 0 < j) (h :
   abbrev all : Ahead
   all = foldFrom alsoAhead 0 (firstAhead b left) ts
 
-  rests-so : (networkRests (all .calling) (all .frames) (b .network) ≡ true) × (j ≤ all .over)
+  rests-so : (networkRests (shownFrom (all .calling) (all .frames)) (b .network) ≡ true) × (j ≤ all .over)
   unfolding reach reached
   rests-so =
-      by-test (networkRests (all .calling) (all .frames) (b .network)) (λ u. (u, rw u at h)) (λ u. let z : j ≤ 0 = rw u at h in absurd (omega arith))
+      by-test (networkRests (shownFrom (all .calling) (all .frames)) (b .network)) (λ u. (u, rw u at h)) (λ u. let z : j ≤ 0 = rw u at h in absurd (omega arith))
 
   abbrev far : AllStay (firstAhead b left .line) (firstAhead b left .now .0) j ts × (j ≤ firstAhead b left .over)
   far = gathered-stay j some 0 (firstAhead b left) ts (rests-so .1)

@@ -1,6 +1,6 @@
 -- A period of a still bus, as the code goes through it: it hands back no notes and changes nothing but the counts.
 use mathlib.Core.Path.{_≡_, refl}
-use mathlib.Core.Bool.{Bool, true, false, cond, not, _&&_, _||_, or-false}
+use mathlib.Core.Bool.{Bool, true, false, cond, not, _&&_, _||_}
 use mathlib.Core.List.{List, [], _∷_}
 use Prim.Native.Nat.{ℕ, suc, _+_, _*_, _<_}
 use native.Mathlib.Omega.{arith}
@@ -11,22 +11,18 @@ use Rattle.cases.proofs.ByCases.{by-test, clash}
 use Rattle.cases.proofs.Operators.{and-both}
 use Rattle.frame.specs.Four.{allFour}
 use Rattle.frame.specs.declared.fields.Four.{Four}
-use Rattle.cells.specs.Notes.{packedNotes, noted}
-use Rattle.cells.specs.Cells.{cellIn, infoIn}
+use Rattle.cells.specs.Cells.{infoIn}
 use Rattle.table_6_2.specs.Table62.{F1, F7}
 use Rattle.table_6_3.specs.Table63.{G1, G2, G3, G4}
 use Rattle.table_6_3.specs.Table63 as table63
 use Rattle.timing.specs.Counts.{mostPeriods, atPeriod, nextPeriod, fourMore}
-use Rattle.timing.specs.Timers.{Clear}
+use Rattle.timing.specs.Timers.{due}
 use Rattle.timing.proofs.TimerLaws.{clear-due}
 use Rattle.timing.specs.declared.counts.Periods.{Periods}
-use Rattle.alignment.specs.Alignment.{framedPeriod, unframedPeriod, followed}
-use Rattle.hearing.specs.Heard.{upwardEvent, lossUp}
 use Rattle.hearing.specs.declared.heard.Downward.{Downward}
-use Rattle.network.specs.Network.{unchanged, acts, happens, andThen, aligned, t1Due, t2Due, checked, ready}
+use Rattle.network.specs.Network.{aligned}
 use Rattle.network.specs.Network as network
 use Rattle.network.specs.declared.Network.{Network}
-use Rattle.network.specs.declared.NetworkStep.{NetworkStep}
 use Rattle.terminal.specs.declared.Terminal.{Terminal}
 use Rattle.bus.specs.Quick.{sentE, shownBy, shownFrom}
 use Rattle.exchange.specs.Rest.{partRests, allRest, anyCalling, anyFrames, restMoment, RestsThrough}
@@ -37,10 +33,11 @@ use Rattle.listening.proofs.Rests.{AllRest, Unchanged, all-rest}
 use Rattle.bus_record.specs.Echo.{hitIn, firstMoment, heardDown}
 use Rattle.bus_record.specs.Reading.{quietReading, readerWaits, readIn, octetsIn}
 use Rattle.bus_record.proofs.SpokenLaws.{four-ones}
-use Rattle.bus_record.specs.NetworkSide.{leavesG3, readerAfter, hears, timers, networkListens, countedAfter, anyNote, ranWith, ranAfter, octetsAfter, noNotes, refusedRun}
+use Rattle.bus_record.proofs.NetworkRests.{rested, listens-rests}
+use Rattle.bus_record.specs.NetworkSide.{readerAfter, networkRests, countedAfter, anyNote, ranWith, ranAfter, octetsAfter, noNotes, refusedRun}
 use Rattle.bus_record.specs.declared.record.BusRecord.{BusRecord}
 use Rattle.call_rules.specs.Step.{stepMoment, stepExchanged, stepLine, stepTerminals, stepNotes, stepTold, stepRan, stepOctets}
-use Rattle.leaps.specs.Still.{networkRests, quiet, countedOver, leapt}
+use Rattle.leaps.specs.Still.{quiet, countedOver, leapt}
 use Rattle.leaps.proofs.Stays.{AllStay, Still}
 
 -- ---- Timers.
@@ -48,87 +45,26 @@ next-is : (p : Periods) → p .0 < mostPeriods → nextPeriod p ≡ atPeriod (p 
 unfolding nextPeriod
 next-is p l = rw (lt-leb mostPeriods (p .0) l)
 
--- ---- The network end: hearing, then its timers.
-module _ (now t1 t2 : ℕ) where
-  abbrev with : ℕ → ℕ → Bool → Network
-  with state run al = record { t1 = t1; t2 = t2; state = state; alignment = record { aligned = al; run = run } }
+-- ---- The network end.
+-- in G3 no terminal sends INFO 1 ..
+none-calls : (c f : Bool) (n : Network) → networkRests (shownFrom c f) n ≡ true → eqb (n .state) G3 ≡ true → c ≡ false
+unfolding shownFrom
+none-calls false f n h t = refl
+none-calls true false n h t = clash false (and-both (n .alignment .aligned && true) false (and-both _ false (rested (shownFrom true false) n h .in-it t) .0) .1) refl
+none-calls true true n h t = clash false (and-both (n .alignment .aligned && true) false (and-both _ true (rested (shownFrom true true) n h .in-it t) .0) .1) refl
 
-  in-G3 : (state run : ℕ) (al c f : Bool) → state ≡ G3 → run ≡ 0 → ((al && f) && not c) ≡ true → network.hears (shownFrom c f) now (with state run al) ≡ unchanged 0 (with state run al)
-  unfolding network.hears network.heardAs happens acts andThen aligned followed framedPeriod upwardEvent lossUp cellIn shownFrom noted
-  in-G3 state run true false true p q h = rw (p, q)
-  in-G3 state run true true true p q h = clash false h refl
-  in-G3 state run true c false p q h = clash false h refl
-  in-G3 state run false c f p q h = clash false h refl
-
-  outside : (state run : ℕ) (al c f : Bool) → ((c && eqb state G4) || (not c && (eqb state G1 || eqb state G2))) ≡ true → run ≡ 0 → (not al && not f) ≡ true → network.hears (shownFrom c f) now (with state run al) ≡ unchanged 0 (with state run al)
-  unfolding network.hears network.heardAs happens acts andThen aligned followed framedPeriod unframedPeriod upwardEvent lossUp cellIn shownFrom noted
-  outside state run false true false p q h = let u : eqb state G4 ≡ true = rw (or-false (eqb state G4)) at p in rw (eqb-true state G4 u, q)
-  outside state run false false false p q h =
-      by-test (eqb state G1) (λ t. rw (eqb-true state G1 t, q)) (λ t. let u : eqb state G2 ≡ true = rw t at p in rw (eqb-true state G2 u, q))
-  outside state run true c f p q h = clash false h refl
-  outside state run false c true p q h = clash false h refl
-
-module _ (c f : Bool) (n : Network) (h : networkRests c f n ≡ true) where
-  -- no run under way; in G3, or outside it
-  record Rested : Type 0 where
-    no-run : n .alignment .run ≡ 0
-    in-it : eqb (n .state) G3 ≡ true → ((n .alignment .aligned && f) && not c) ≡ true
-    out-of-it : eqb (n .state) G3 ≡ false → ((not (n .alignment .aligned) && not f) ≡ true) × (((c && eqb (n .state) G4) || (not c && (eqb (n .state) G1 || eqb (n .state) G2))) ≡ true)
-
-  rested : Rested
-  unfolding networkRests
-  rested =
-      let p = and-both (eqb (n .alignment .run) 0) _ h in
-      record {
-        no-run = eqb-true (n .alignment .run) 0 (p .0);
-        in-it = λ t. rw t at (p .1);
-        out-of-it = λ t. and-both (not (n .alignment .aligned) && not f) _ (rw t at (p .1));
-      }
-
-  hears-nothing : (now : ℕ) → network.hears (shownFrom c f) now n ≡ unchanged 0 n
-  hears-nothing now =
-      by-test (eqb (n .state) G3)
-      (λ t. in-G3 now (n .t1) (n .t2) (n .state) (n .alignment .run) (n .alignment .aligned) c f (eqb-true (n .state) G3 t) (rested .no-run) (rested .in-it t))
-      (λ t. let q = rested .out-of-it t in outside now (n .t1) (n .t2) (n .state) (n .alignment .run) (n .alignment .aligned) c f (q .1) (rested .no-run) (q .0))
-
-  -- in G3 no terminal sends INFO 1
-  none-calls : eqb (n .state) G3 ≡ true → c ≡ false
-  none-calls t = not-true c (and-both (n .alignment .aligned && f) (not c) (rested .in-it t) .1)
-
--- where one sends INFO 1, so that D25 is 0, the E after it is as after a D of 1
-third-e : (c f : Bool) (n : Network) → networkRests c f n ≡ true → sentE (n .state) (not c) ≡ sentE (n .state) true
-unfolding sentE infoIn
+-- .. and where one sends INFO 1, so that D25 is 0, the E after it is as after a D of 1
+third-e : (c f : Bool) (n : Network) → networkRests (shownFrom c f) n ≡ true → sentE (n .state) (not c) ≡ sentE (n .state) true
+unfolding sentE infoIn shownFrom
 third-e false f n h = refl
 third-e true f n h =
     by-test (eqb (n .state) G3)
     (λ t. clash true refl (none-calls true f n h t))
-    (λ t. let u : eqb (n .state) G4 ≡ true = rw (or-false (eqb (n .state) G4)) at (rested true f n h .out-of-it t .1) in rw (eqb-true (n .state) G4 u))
-
-none-due : (now j : ℕ) (n : Network) → Clear now (suc j) (n .t1) → Clear now (suc j) (n .t2) → network.timers (now + 1) n ≡ unchanged 0 n
-unfolding network.timers andThen t1Due t2Due noted
-none-due now j n a b = rw (clear-due now j (n .t1) a, clear-due now j (n .t2) b)
-
--- a call that is a step which changes nothing, in range or not
-checked-nothing : (step : ℕ → Network → NetworkStep) (p : Periods) (n : Network) → step (p .0) n ≡ unchanged 0 n
-    → (checked step p n .network ≡ n) × (checked step p n .notes ≡ packedNotes [])
-unfolding checked
-checked-nothing step p n h = by-test (ready p n) (λ u. (rw (u, h), rw (u, h))) (λ u. (rw u, rw u))
-
-leaves-none : (s : ℕ) → leavesG3 s s ≡ false
-leaves-none s = by-test (eqb s G3) (λ t. rw t) (λ t. rw t)
-
-module _ (c f : Bool) (p : Periods) (j : ℕ) (n : Network) (l : p .0 < mostPeriods) (r : networkRests c f n ≡ true) (a : Clear (p .0) (suc j) (n .t1)) (b : Clear (p .0) (suc j) (n .t2)) where
-  hearing : (hears (shownFrom c f) p n .network ≡ n) × (hears (shownFrom c f) p n .notes ≡ packedNotes [])
-  unfolding hears
-  hearing = checked-nothing (network.hears (shownFrom c f)) p n (hears-nothing c f n r (p .0))
-
-  timing : (timers (shownFrom c f) p n .network ≡ n) × (timers (shownFrom c f) p n .notes ≡ packedNotes [])
-  unfolding timers
-  timing = rw (hearing .0, next-is p l) (checked-nothing network.timers (atPeriod (p .0 + 1)) n (none-due (p .0) j n a b))
-
-  listens : networkListens (shownFrom c f) p n ≡ record { network = n; notes = noNotes; left = false }
-  unfolding networkListens
-  listens = rw (timing .0, hearing .1, timing .1, hearing .0, leaves-none (n .state))
+    (λ t. rw (in-G4 f (rested (shownFrom true f) n h .out-of-it t)))
+  where
+    in-G4 : (g : Bool) → cond (shownFrom true g .pulse) ((not (shownFrom true g .framed) && shownFrom true g .info1) && eqb (n .state) G4) (eqb (n .state) G1 || eqb (n .state) G2) ≡ true → n .state ≡ G4
+    in-G4 false u = eqb-true (n .state) G4 u
+    in-G4 true u = clash false u refl
 
 -- ---- The terminals.
 -- one in F7 that rests hears A at 1
@@ -245,4 +181,6 @@ module _ (images octets letters : List ℕ) (j : ℕ) (b : BusRecord) (ts : List
   unfolding stepRan ranAfter ranWith refusedRun leapt anyNote readerAfter
   still-ran =
       let l : leb (b .periods .0 + 1) mostPeriods ≡ true = le-leb (b .periods .0 + 1) mostPeriods (omega (arith, s .one-left)) in
-      rw (moment-is, told-is, read-is, listens (anyCalling ts) (anyFrames ts) (b .periods) j (b .network) run (s .network-rests) (s .t1-clear) (s .t2-clear), next-is (b .periods) run, counted-is, l, parts .0, parts .1)
+      let d1 : due (b .network .t1) (nextPeriod (b .periods) .0) ≡ false = rw (next-is (b .periods) run) (clear-due (b .periods .0) j (b .network .t1) (s .t1-clear)) in
+      let d2 : due (b .network .t2) (nextPeriod (b .periods) .0) ≡ false = rw (next-is (b .periods) run) (clear-due (b .periods .0) j (b .network .t2) (s .t2-clear)) in
+      rw (moment-is, told-is, read-is, listens-rests (shownFrom (anyCalling ts) (anyFrames ts)) (b .periods) (b .network) (s .network-rests) d1 d2, next-is (b .periods) run, counted-is, l, parts .0, parts .1)

@@ -17,13 +17,14 @@ use Rattle.terminal.specs.Terminal as terminal
 use Rattle.terminal.specs.declared.Terminal.{Terminal}
 use Rattle.reader.specs.Counters.{freshReader, openedReader}
 use Rattle.reader.specs.declared.Reader.{Reader}
-use Rattle.bus.specs.Quick.{shownBy}
+use Rattle.bus.specs.Quick.{shownBy, shownFrom}
 use Rattle.exchange.specs.Rest.{partRests}
 use Rattle.listening.specs.Hears.{rests}
 use Rattle.bus_record.specs.Reading.{readerWaits}
+use Rattle.bus_record.specs.NetworkSide.{networkRests}
 use Rattle.bus_record.specs.Record.{freshRecord}
 use Rattle.bus_record.specs.declared.record.BusRecord.{BusRecord}
-use Rattle.leaps.specs.Still.{networkRests, quiet, farthest, firstAhead, overWith, alsoAhead, reached, reach, countedOver, leapt}
+use Rattle.leaps.specs.Still.{quiet, farthest, firstAhead, overWith, alsoAhead, reached, reach, countedOver, leapt}
 
 -- ---- Units.
 -- a network end in a state, aligned or not, after 1,000 periods, with T1 and T2 due at periods and a reader
@@ -56,33 +57,33 @@ far b ts = reach b ts 500
 -- ---- How far.
 -- nothing powered: all periods but the last
 pub fresh-bus : far freshRecord (replicate 8 terminal.fresh) ≡ 499
-unfolding reach reached firstAhead alsoAhead overWith farthest quiet readerWaits networkRests clear rests partRests shownBy infoIn foldFrom
+unfolding reach reached firstAhead alsoAhead overWith farthest quiet readerWaits networkRests shownFrom clear rests partRests shownBy infoIn foldFrom
 fresh-bus = refl
 
 -- one terminal waits in F3; one in F5, until T3 at period 1,020
 pub in-G1 : far (bus G1 false 0 0 freshReader) (unit F3 false 0 dchannel.fresh ∷ unit F5 false 1020 dchannel.fresh ∷ []) ≡ 19
-unfolding reach reached firstAhead alsoAhead overWith farthest quiet readerWaits networkRests clear rests partRests shownBy infoIn foldFrom
+unfolding reach reached firstAhead alsoAhead overWith farthest quiet readerWaits networkRests shownFrom clear rests partRests shownBy infoIn foldFrom
 in-G1 = refl
 
 -- nothing powered in G2, until T1 at period 1,200
 pub in-G2 : far (bus G2 false 1200 0 freshReader) (terminal.fresh ∷ []) ≡ 199
-unfolding reach reached firstAhead alsoAhead overWith farthest quiet readerWaits networkRests clear rests partRests shownBy infoIn foldFrom
+unfolding reach reached firstAhead alsoAhead overWith farthest quiet readerWaits networkRests shownFrom clear rests partRests shownBy infoIn foldFrom
 in-G2 = refl
 
 -- two terminals activated, C at its end
 pub in-G3 : far (bus G3 true 0 0 freshReader) (active ∷ terminal.fresh ∷ active ∷ []) ≡ 499
-unfolding reach reached firstAhead alsoAhead overWith farthest quiet readerWaits networkRests clear rests partRests shownBy infoIn foldFrom atRest
+unfolding reach reached firstAhead alsoAhead overWith farthest quiet readerWaits networkRests shownFrom clear rests partRests shownBy infoIn foldFrom atRest
 in-G3 = refl
 
 -- pending deactivation while a terminal calls, until T2 at period 1,100, and until its T3 at period 1,050
 pub in-G4 : far (bus G4 false 0 1100 freshReader) (unit F3 false 0 dchannel.fresh ∷ unit F4 false 1300 dchannel.fresh ∷ []) ∷ far (bus G4 false 0 1100 freshReader) (unit F4 false 1050 dchannel.fresh ∷ []) ∷ [] ≡ 99 ∷ 49 ∷ []
-unfolding reach reached firstAhead alsoAhead overWith farthest quiet readerWaits networkRests clear rests partRests shownBy infoIn foldFrom
+unfolding reach reached firstAhead alsoAhead overWith farthest quiet readerWaits networkRests shownFrom clear rests partRests shownBy infoIn foldFrom
 in-G4 = refl
 
 -- not still: C at 10, a frame held, the reader inside a frame, G3 without a terminal that sends, a terminal not aligned, a call in G1, G4
 -- without a call, one period left
 pub not-still : far (bus G3 true 0 0 freshReader) (unit F7 true 0 (counting 10 0) ∷ []) ∷ far (bus G3 true 0 0 freshReader) (unit F7 true 0 (counting 11 2) ∷ []) ∷ far (bus G3 true 0 0 openedReader) (active ∷ []) ∷ far (bus G3 true 0 0 freshReader) (terminal.fresh ∷ []) ∷ far (bus G3 true 0 0 freshReader) (unit F7 false 0 (counting 11 0) ∷ []) ∷ far (bus G1 false 0 0 freshReader) (unit F4 false 0 dchannel.fresh ∷ []) ∷ far (bus G4 false 0 1100 freshReader) (unit F3 false 0 dchannel.fresh ∷ []) ∷ reach freshRecord [] 1 ∷ [] ≡ replicate 8 0
-unfolding reach reached firstAhead alsoAhead overWith farthest quiet readerWaits networkRests clear rests partRests shownBy infoIn foldFrom atRest
+unfolding reach reached firstAhead alsoAhead overWith farthest quiet readerWaits networkRests shownFrom clear rests partRests shownBy infoIn foldFrom atRest
 not-still = refl
 
 -- ---- What a leap makes of the counts: four opportunities a period in G3, none elsewhere.

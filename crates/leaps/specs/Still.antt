@@ -8,30 +8,21 @@ use lib.Dec.{eqb, leb}
 use Rattle.walks.specs.Over.{foldFrom}
 use Rattle.cells.specs.Cells.{infoIn}
 use Rattle.table_6_2.specs.Table62.{infoSent}
-use Rattle.table_6_3.specs.Table63.{G1, G2, G3, G4}
+use Rattle.table_6_3.specs.Table63.{G3}
 use Rattle.timing.specs.Counts.{mostPeriods, atPeriod}
 use Rattle.timing.specs.Timers.{clear}
 use Rattle.timing.specs.declared.counts.Opportunities.{Opportunities}
 use Rattle.network.specs.declared.Network.{Network}
 use Rattle.terminal.specs.declared.Terminal.{Terminal}
-use Rattle.bus.specs.Quick.{shownBy}
+use Rattle.bus.specs.Quick.{shownBy, shownFrom}
 use Rattle.exchange.specs.Rest.{partRests}
 use Rattle.listening.specs.Hears.{rests}
 use Rattle.bus_record.specs.Reading.{readerWaits}
+use Rattle.bus_record.specs.NetworkSide.{networkRests}
 use Rattle.bus_record.specs.declared.record.BusRecord.{BusRecord}
 use Rattle.leaps.specs.declared.ahead.Ahead.{Ahead}
 
 -- ---- The network end.
-
--- it hears what it has heard before, where terminals send INFO 1, and INFO 3: in G1 and G2 unaligned no pulse, in G3 aligned INFO 3, in G4
--- unaligned INFO 1
-unfoldable pub networkRests : Bool → Bool → Network → Bool
-networkRests calling frames n =
-    eqb (n .alignment .run) 0
-    && cond (eqb (n .state) G3)
-    ((n .alignment .aligned && frames) && not calling)
-    ((not (n .alignment .aligned) && not frames)
-    && ((calling && eqb (n .state) G4) || (not calling && (eqb (n .state) G1 || eqb (n .state) G2))))
 
 -- no hit is pending, D was 1, and in G3 the reader waits
 unfoldable pub quiet : BusRecord → Bool
@@ -57,8 +48,9 @@ alsoAhead i a t =
     let info = infoIn infoSent (t .state) in
     record { over = overWith a t; now = a .now; line = a .line; calling = a .calling || eqb info 1; frames = a .frames || eqb info 3 }
 
+-- the network end hears what it has heard before
 unfoldable pub reached : Network → Ahead → ℕ
-reached n a = cond (networkRests (a .calling) (a .frames) n) (a .over) 0
+reached n a = cond (networkRests (shownFrom (a .calling) (a .frames)) n) (a .over) 0
 
 -- as far as the bus is found still, with so many periods left to run; 0 where it is not
 unfoldable pub reach : BusRecord → List Terminal → ℕ → ℕ

@@ -5,15 +5,14 @@ ghost use Rattle.leaps.specs.Still as spec;
 use bus_record::echo::shown_by;
 use bus_record::reading::waits;
 use bus_record::record::BusRecord;
+use bus_record::side::network_rests;
+use bus_record::side::shown_from;
 use exchange::rest::part_rests;
 use hearing::heard::Downward;
 use listening::hears::rests;
 use network::Network;
 use table_6_2::info_sent;
-use table_6_3::G1;
-use table_6_3::G2;
 use table_6_3::G3;
-use table_6_3::G4;
 use terminal::Terminal;
 use timing::counts::MOST_PERIODS;
 use timing::counts::Periods;
@@ -38,20 +37,6 @@ fn quiet(bus: BusRecord) -> bool
 {
     let reader = bus.reader;
     !bus.hit & bus.heard & ((bus.network.state != G3) | waits(reader))
-}
-
-// Whether the network end hears what it has heard before; the bools are whether any terminal sends INFO 1, and INFO 3.
-fn network_rests(network: Network, calling: bool, frames: bool) -> bool
-    ensures { λ r. ⌜ r ≡ spec.networkRests calling frames network ⌝ }
-{
-    let state = network.state;
-    let aligned = network.alignment.aligned;
-    let run = network.alignment.run;
-    if state == G3 {
-        return (run == 0) & (aligned & frames & !calling);
-    }
-    let stays = (calling & (state == G4)) | (!calling & ((state == G1) | (state == G2)));
-    (run == 0) & (!aligned & !frames & stays)
 }
 
 // One less, or 0.
@@ -125,7 +110,7 @@ impl Ahead {
     pub fn reached(self, network: Network) -> u32
         ensures { λ r. ⌜ r ≡ spec.reached network self ⌝ }
     {
-        if network_rests(network, self.calling, self.frames) {
+        if network_rests(network, shown_from(self.calling, self.frames)) {
             self.over
         } else {
             0
