@@ -22,6 +22,7 @@ pub struct Turn {
     pub over: u32,
 }
 
+// A turn of these two.
 fn turned(ran: Ran, over: u32) -> Turn
     ensures { λ r. ⌜ (r .ran ≡ ran) × (r .over ≡ over) ⌝ }
 {

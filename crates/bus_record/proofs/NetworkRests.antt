@@ -20,15 +20,15 @@ use Rattle.network.specs.Network.{unchanged, acts, happens, andThen, aligned, t
 use Rattle.network.specs.Network as network
 use Rattle.network.specs.declared.Network.{Network}
 use Rattle.network.specs.declared.NetworkStep.{NetworkStep}
-use Rattle.bus_record.specs.NetworkSide.{leavesG3, hears, timers, networkListens, networkRests, nothingHeard}
+use Rattle.bus_record.specs.NetworkSide.{leavesG3, hears, timers, networkListens, restsInG3, restsElsewhere, networkRests, nothingHeard}
 
 -- ---- What is known of one that rests.
 module _ (line : Upward) (n : Network) (h : networkRests line n ≡ true) where
   pub record Rested : Type 0 where
     pub no-run : n .alignment .run ≡ 0
-    pub in-it : eqb (n .state) G3 ≡ true → (((n .alignment .aligned && line .pulse) && line .framed) && not (line .info1)) ≡ true
+    pub in-it : eqb (n .state) G3 ≡ true → restsInG3 line (n .alignment .aligned) ≡ true
     pub unaligned : eqb (n .state) G3 ≡ false → n .alignment .aligned ≡ false
-    pub out-of-it : eqb (n .state) G3 ≡ false → cond (line .pulse) ((not (line .framed) && line .info1) && eqb (n .state) G4) (eqb (n .state) G1 || eqb (n .state) G2) ≡ true
+    pub out-of-it : eqb (n .state) G3 ≡ false → restsElsewhere line (n .state) ≡ true
 
   pub rested : Rested
   unfolding networkRests
@@ -49,7 +49,10 @@ module _ (now t1 t2 : ℕ) where
   abbrev Nothing : Upward → ℕ → ℕ → Bool → Type 0
   Nothing line state run al = network.hears line now (with state run al) ≡ unchanged 0 (with state run al)
 
-  in-G3 : (state run : ℕ) (al p f i : Bool) → state ≡ G3 → run ≡ 0 → (((al && p) && f) && not i) ≡ true → Nothing (record { pulse = p; framed = f; info1 = i }) state run al
+  abbrev shows : Bool → Bool → Bool → Upward
+  shows p f i = record { pulse = p; framed = f; info1 = i }
+
+  in-G3 : (state run : ℕ) (al p f i : Bool) → state ≡ G3 → run ≡ 0 → restsInG3 (shows p f i) al ≡ true → Nothing (shows p f i) state run al
   unfolding network.hears network.heardAs happens acts andThen aligned followed framedPeriod upwardEvent lossUp cellIn noted
   in-G3 state run true true true false g z h = rw (g, z)
   in-G3 state run true true true true g z h = clash false h refl
@@ -57,7 +60,7 @@ module _ (now t1 t2 : ℕ) where
   in-G3 state run true false f i g z h = clash false h refl
   in-G3 state run false p f i g z h = clash false h refl
 
-  outside : (state run : ℕ) (al p f i : Bool) → al ≡ false → run ≡ 0 → cond p ((not f && i) && eqb state G4) (eqb state G1 || eqb state G2) ≡ true → Nothing (record { pulse = p; framed = f; info1 = i }) state run al
+  outside : (state run : ℕ) (al p f i : Bool) → al ≡ false → run ≡ 0 → restsElsewhere (shows p f i) state ≡ true → Nothing (shows p f i) state run al
   unfolding network.hears network.heardAs happens acts andThen aligned followed framedPeriod unframedPeriod upwardEvent lossUp cellIn noted
   outside state run true p f i u z h = clash true refl u
   outside state run false true false true u z h = rw (eqb-true state G4 h, z)

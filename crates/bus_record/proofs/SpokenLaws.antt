@@ -1,4 +1,4 @@
--- What a bit more leaves of what the reader has said, by its answer.
+-- What a bit more leaves of what the reader has said, by its answer; and four 1s, where it waits (`four-ones`).
 use mathlib.Core.Bool.{Bool, true, false, not, _&&_}
 use mathlib.Core.List.{List, [], _∷_}
 use mathlib.Core.Logic.{⊎-elim}

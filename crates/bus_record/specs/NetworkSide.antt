@@ -1,10 +1,9 @@
 -- The network end's side of a period: it reads D, hears the upward line, and then come the timers due at the next one's start.
 -- This is how the code goes; crate `call_rules`' law `step-shown` holds it to document 01's period.
 use mathlib.Core.Bool.{Bool, false, cond, not, _&&_, _||_}
-use mathlib.Core.List.{List, []}
+use mathlib.Core.List.{List}
 use Prim.Native.Nat.{ℕ}
 use lib.Dec.{eqb, ltb}
-use Rattle.cells.specs.Notes.{packedNotes}
 use Rattle.table_6_3.specs.Table63.{G1, G2, G3, G4}
 use Rattle.timing.specs.Counts.{nextPeriod, fourMore}
 use Rattle.timing.specs.declared.counts.Periods.{Periods}
@@ -50,13 +49,16 @@ networkListens line period n =
 
 -- whether it hears what it has heard before, so that nothing happens: in G1 and G2 unaligned no pulse, in G3 aligned INFO 3, in G4 unaligned
 -- INFO 1 (proofs/NetworkRests.antt)
+abbrev pub restsInG3 : Upward → Bool → Bool
+restsInG3 line al = ((al && line .pulse) && line .framed) && not (line .info1)
+
+abbrev pub restsElsewhere : Upward → ℕ → Bool
+restsElsewhere line state = cond (line .pulse) ((not (line .framed) && line .info1) && eqb state G4) (eqb state G1 || eqb state G2)
+
 unfoldable pub networkRests : Upward → Network → Bool
 networkRests line n =
     eqb (n .alignment .run) 0
-    && cond (eqb (n .state) G3)
-    (((n .alignment .aligned && line .pulse) && line .framed) && not (line .info1))
-    (not (n .alignment .aligned)
-    && cond (line .pulse) ((not (line .framed) && line .info1) && eqb (n .state) G4) (eqb (n .state) G1 || eqb (n .state) G2))
+    && cond (eqb (n .state) G3) (restsInG3 line (n .alignment .aligned)) (not (n .alignment .aligned) && restsElsewhere line (n .state))
 
 abbrev pub nothingHeard : Network → NetworkHeard
 nothingHeard n = record { network = n; notes = noNotes; left = false }

@@ -28,6 +28,11 @@ clash b p q = absurd (let z : _≡_ {A = ℕ} 0 1 = cc in omega arith)
 pub below : (n m : ℕ) → n ≤ m → eqb n m ≡ false → n < m
 below n m l e = by-test (ltb n m) (ltb-true n m) (λ t. clash (eqb n m) (eq-eqb n m (omega (arith, ltb-false n m t))) e)
 
+-- a number that is there only behind a test
+pub behind : (t : Bool) (n j : ℕ) → 0 < j → j ≤ cond t n 0 → (t ≡ true) × (j ≤ n)
+behind true n j some h = (refl, h)
+behind false n j some h = absurd (omega arith)
+
 -- two tests that both have to hold
 pub and-left : (a b : Bool) → (a && b) ≡ true → a ≡ true
 and-left true b e = refl

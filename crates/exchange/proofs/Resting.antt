@@ -22,7 +22,7 @@ use Rattle.bus.specs.Exchange.{turnOf, turned, dOf}
 use Rattle.exchange.specs.Moment.{firstMoment, begun, also, combinedD, ended}
 use Rattle.exchange.specs.Part.{seatIn, turnedIn, doneIn, goneThrough}
 use Rattle.exchange.specs.Opportunities.{momentAfter, terminalsAfter, momentAfterFour, terminalsAfterFour}
-use Rattle.exchange.specs.Rest.{partRests, allRest, anyCalling, anyFrames, noneRest, alsoRests, restOf, eSent, onesSent, isFirst, mayRest, restMoment, RestsThrough, RestFour}
+use Rattle.exchange.specs.Rest.{partRests, allRest, anyCalling, anyFrames, noneGone, alsoRests, restOf, eSent, onesSent, isFirst, mayRest, restMoment, RestsThrough, RestFour}
 use Rattle.exchange.specs.declared.moment.Letters.{Letters}
 use Rattle.exchange.specs.declared.moment.Moment.{Moment}
 use Rattle.exchange.specs.declared.rest.Rest.{Rest}
@@ -126,7 +126,7 @@ gathered i r (t ∷ ts) = gathered (suc i) (alsoRests i r t) ts ∙ rw (also-sti
 
 pub rest-is : (ts : List Terminal) → restOf ts ≡ record { still = allRest true ts && not (anyCalling ts); frames = anyFrames ts }
 unfolding restOf
-rest-is ts = gathered 0 noneRest ts
+rest-is ts = gathered 0 noneGone ts
 
 -- ---- An exchange whose E are all 1.
 pub ones-rest : (state : ℕ) (letters : Letters) (heardD : Bool) (ts : List Terminal)

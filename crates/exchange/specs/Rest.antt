@@ -38,14 +38,15 @@ anyFrames [] = false
 anyFrames (t ∷ ts) = eqb (infoIn infoSent (t .state)) 3 || anyFrames ts
 
 -- ---- As the code gathers it, for an E of 1 and where none sends INFO 1.
-abbrev pub noneRest : Rest
-noneRest = record { still = true; frames = false }
+-- no terminal gone through
+abbrev pub noneGone : Rest
+noneGone = record { still = true; frames = false }
 
 abbrev pub alsoRests : ℕ → Rest → Terminal → Rest
 alsoRests i r t = record { still = (r .still && partRests true t) && not (eqb (infoIn infoSent (t .state)) 1); frames = r .frames || eqb (infoIn infoSent (t .state)) 3 }
 
 unfoldable pub restOf : List Terminal → Rest
-restOf ts = foldFrom alsoRests 0 noneRest ts
+restOf ts = foldFrom alsoRests 0 noneGone ts
 
 -- the E that terminals hear after a hit's letter, where this was the last D heard
 abbrev pub eSent : ℕ → ℕ → Bool → Bool
@@ -58,13 +59,13 @@ onesSent m =
     && eSent (m .state) (m .letters .third) true)
     && eSent (m .state) (m .letters .fourth) true
 
--- whether no opportunity has gone yet
+-- whether this is an exchange as its first E comes
 unfoldable pub isFirst : Moment → Bool
 isFirst m =
     (((((((((m .ds .first && m .ds .second) && m .ds .third) && m .ds .fourth) && eqb (m .place) 0) && eqb (m .done1) 0) && eqb (m .done2) 0)
     && m .e) && m .d) && not (m .calling)) && not (m .frames)
 
--- so that it is enough to look at the terminals
+-- whether it is enough to look at the terminals
 unfoldable pub mayRest : Moment → Bool
 mayRest m = isFirst m && onesSent m
 

@@ -170,7 +170,8 @@ impl Moment {
         }
     }
 
-    // Whether the four opportunities must be gone through: one has gone already, or some E is 0 though D is 1.
+    // Whether the four opportunities must be gone through: one has gone already, or some E is 0, be it for the last D heard, the network
+    // end's state or a hit.
     pub fn must_turn(self) -> bool
         ensures { λ r. ⌜ r ≡ not (rest.mayRest self) ⌝ }
     {

@@ -1,6 +1,6 @@
 // An exchange in which no terminal takes part.
 ghost use mathlib.Core.Path.{_≡_};
-ghost use Rattle.exchange.specs.Rest.{partRests, noneRest, alsoRests, restOf};
+ghost use Rattle.exchange.specs.Rest.{partRests, noneGone, alsoRests, restOf};
 ghost use mathlib.Core.Bool.{true};
 use table_6_2::F7;
 use table_6_2::info_sent;
@@ -23,7 +23,7 @@ pub fn part_rests(terminal: Terminal) -> bool
 impl Rest {
     // No terminal gone through.
     fn start() -> Self
-        ensures { λ r. ⌜ r ≡ noneRest ⌝ }
+        ensures { λ r. ⌜ r ≡ noneGone ⌝ }
     {
         Rest {
             still: true,

@@ -6,7 +6,7 @@ use Prim.Native.Nat.{ℕ, zero, suc, _+_, _-_, _≤_, _<_}
 use native.Mathlib.Omega.{arith}
 use lib.ListN.{length, replicate}
 use borrow.Author.Tests.{lt-ltb}
-use Rattle.cases.proofs.ByCases.{by-test}
+use Rattle.cases.proofs.ByCases.{by-test, behind}
 use Rattle.cases.proofs.Operators.{and-both}
 use Rattle.walks.specs.Over.{mapFrom}
 use Rattle.timing.specs.Counts.{nextPeriod}
@@ -62,6 +62,10 @@ module _ (images letters : List ℕ) (ended : Ran) (end : Kept) (ts : List Termi
     seats : soloSeats (a .solo .at) (a .solo .length) 0 ts ≡ true
     sender : senderIn (a .solo .at) 0 ts ≡ true
 
+  stands-on : (a : Alone) (os : List ℕ) → Stands a → Stands (aloneAfter images a os)
+  unfolding aloneAfter
+  stands-on a os s = let place = same-place images (a .solo) in record { seats = rw (place .0, place .1) (s .seats); sender = rw (place .0) (s .sender) }
+
   one-period : (a : Alone) (os : List ℕ) (ns : List UnitNotes) → GoesAt a os ns → Stands a → goesAlone images a ≡ true → AllClear (a .ran .bus .periods .0) 1 ts → a .over < total
       → GoesAt (aloneAfter images a os) (octetsThen images a os) none-noted
   unfolding aloneAfter octetsThen stepRan stepTerminals stepOctets stepNotes stepTold stepMoment stepExchanged stepLine
@@ -83,8 +87,7 @@ module _ (images letters : List ℕ) (ended : Ran) (end : Kept) (ts : List Termi
         let clear-here : AllClear (a .ran .bus .periods .0) 1 ts = rw p (clear-on now0 n0 k ts (omega arith) c) in
         let j = one-period a os none-noted i s g clear-here (omega arith) in
         let q : aloneAfter images a os .ran .bus .periods .0 ≡ now0 + suc k = next-period images a g os ∙ rw p (omega arith) in
-        let place = same-place images (a .solo) in
-        let t : Stands (aloneAfter images a os) = record { seats = rw (place .0, place .1) (s .seats); sender = rw (place .0) (s .sender) } in
+        let t = stands-on a os s in
         rw g (on-alone n (suc k) (aloneAfter images a os) (octetsThen images a os) j t refl q (omega arith) (omega arith)))
         (λ g. rw g (i, z, omega arith))
 
@@ -101,8 +104,7 @@ module _ (images letters : List ℕ) (ended : Ran) (end : Kept) (ts : List Termi
         let clear-here : AllClear (a .ran .bus .periods .0) 1 ts = rw (p, here) (clear-on now0 n0 0 ts (omega arith) c) in
         let j = one-period a os ns i s g clear-here (omega (arith, z)) in
         let q : aloneAfter images a os .ran .bus .periods .0 ≡ now0 + 1 = next-period images a g os ∙ rw p in
-        let place = same-place images (a .solo) in
-        let t : Stands (aloneAfter images a os) = record { seats = rw (place .0, place .1) (s .seats); sender = rw (place .0) (s .sender) } in
+        let t = stands-on a os s in
         rw g (on-alone now0 n0 c n 1 (aloneAfter images a os) (octetsThen images a os) j t refl q (omega arith) (omega (arith, z))))
         (λ g. let none : 0 < a .over = rw g at some in absurd (omega (arith, z)))
 
@@ -139,9 +141,9 @@ module _ (left : ℕ) (k : Kept) where
   from-search : 0 < aloneFor found → (found .fits ≡ true) × (found .sends ≡ true) × (aloneFor found ≡ found .over)
   unfolding aloneFor
   from-search some =
-      by-test (found .fits && found .sends)
-      (λ t. let p = and-both (found .fits) (found .sends) t in (p .0, p .1, rw t))
-      (λ t. let none : 0 < 0 = rw t at some in absurd (omega arith))
+      let t = behind (found .fits && found .sends) (found .over) (aloneFor found) some (omega arith) .0 in
+      let p = and-both (found .fits) (found .sends) t in
+      (p .0, p .1, rw t)
 
   pub alone-turns : 0 < aloneFor found → 0 < run .over →
       Turns left k (run .ran) (run .over - 1)

@@ -7,7 +7,7 @@ use Prim.Native.Nat.{ℕ, suc, _+_, _-_, _≤_, _<_}
 use native.Mathlib.Omega.{arith}
 use lib.Dec.{leb}
 use borrow.Author.Tests.{le-leb}
-use Rattle.cases.proofs.ByCases.{by-test}
+use Rattle.cases.proofs.ByCases.{behind}
 use Rattle.cases.proofs.Operators.{and-both}
 use Rattle.walks.specs.Over.{foldFrom}
 use Rattle.timing.specs.Counts.{mostPeriods}
@@ -37,9 +37,9 @@ module _ (j : ℕ) (some : 0 < j) where
   with-one : (a : Ahead) (t : Terminal) → j ≤ overWith a t → (rests (a .line) t ≡ true) × (partRests true t ≡ true) × (j ≤ clear (a .now .0) (a .over) (t .t3))
   unfolding overWith
   with-one a t h =
-      by-test (rests (a .line) t && partRests true t)
-      (λ u. let p = and-both (rests (a .line) t) (partRests true t) u in (p .0, p .1, rw u at h))
-      (λ u. let z : j ≤ 0 = rw u at h in absurd (omega arith))
+      let b = behind _ _ j some h in
+      let p = and-both (rests (a .line) t) (partRests true t) (b .0) in
+      (p .0, p .1, b .1)
 
   pub gathered-stay : (i : ℕ) (a : Ahead) (ts : List Terminal) → j ≤ foldFrom alsoAhead i a ts .over → AllStay (a .line) (a .now .0) j ts × (j ≤ a .over)
   unfolding foldFrom alsoAhead
@@ -73,15 +73,14 @@ module _ (b : BusRecord) (ts : List Terminal) (left j : ℕ) (some : 0 < j) (h :
 
   rests-so : (networkRests (shownFrom (all .calling) (all .frames)) (b .network) ≡ true) × (j ≤ all .over)
   unfolding reach reached
-  rests-so =
-      by-test (networkRests (shownFrom (all .calling) (all .frames)) (b .network)) (λ u. (u, rw u at h)) (λ u. let z : j ≤ 0 = rw u at h in absurd (omega arith))
+  rests-so = behind _ _ j some h
 
   abbrev far : AllStay (firstAhead b left .line) (firstAhead b left .now .0) j ts × (j ≤ firstAhead b left .over)
   far = gathered-stay j some 0 (firstAhead b left) ts (rests-so .1)
 
   own : (quiet b ≡ true) × (j ≤ clear now (clear now (clear now (left - 1) mostPeriods) (b .network .t1)) (b .network .t2))
   unfolding firstAhead farthest
-  own = by-test (quiet b) (λ u. (u, rw u at (far .1))) (λ u. let z : j ≤ 0 = rw u at (far .1) in absurd (omega arith))
+  own = behind _ _ j some (far .1)
 
   second : j ≤ clear now (clear now (left - 1) mostPeriods) (b .network .t1)
   second = omega (arith, own .1, clear-most now (clear now (clear now (left - 1) mostPeriods) (b .network .t1)) (b .network .t2))

@@ -17,7 +17,7 @@ use Rattle.table_6_3.specs.Table63.{G1, G2, G3, G4}
 use Rattle.table_6_3.specs.Table63 as table63
 use Rattle.timing.specs.Counts.{mostPeriods, atPeriod, nextPeriod, fourMore}
 use Rattle.timing.specs.Timers.{due}
-use Rattle.timing.proofs.TimerLaws.{clear-due}
+use Rattle.timing.proofs.TimerLaws.{next-is, clear-due}
 use Rattle.timing.specs.declared.counts.Periods.{Periods}
 use Rattle.hearing.specs.declared.heard.Downward.{Downward}
 use Rattle.network.specs.Network.{aligned}
@@ -34,16 +34,11 @@ use Rattle.bus_record.specs.Echo.{hitIn, firstMoment, heardDown}
 use Rattle.bus_record.specs.Reading.{quietReading, readerWaits, readIn, octetsIn}
 use Rattle.bus_record.proofs.SpokenLaws.{four-ones}
 use Rattle.bus_record.proofs.NetworkRests.{rested, listens-rests}
-use Rattle.bus_record.specs.NetworkSide.{readerAfter, networkRests, countedAfter, anyNote, ranWith, ranAfter, octetsAfter, noNotes, refusedRun}
+use Rattle.bus_record.specs.NetworkSide.{readerAfter, restsElsewhere, networkRests, countedAfter, anyNote, ranWith, ranAfter, octetsAfter, noNotes, refusedRun}
 use Rattle.bus_record.specs.declared.record.BusRecord.{BusRecord}
 use Rattle.call_rules.specs.Step.{stepMoment, stepExchanged, stepLine, stepTerminals, stepNotes, stepTold, stepRan, stepOctets}
 use Rattle.leaps.specs.Still.{quiet, countedOver, leapt}
 use Rattle.leaps.proofs.Stays.{AllStay, Still}
-
--- ---- Timers.
-next-is : (p : Periods) → p .0 < mostPeriods → nextPeriod p ≡ atPeriod (p .0 + 1)
-unfolding nextPeriod
-next-is p l = rw (lt-leb mostPeriods (p .0) l)
 
 -- ---- The network end.
 -- in G3 no terminal sends INFO 1 ..
@@ -62,7 +57,7 @@ third-e true f n h =
     (λ t. clash true refl (none-calls true f n h t))
     (λ t. rw (in-G4 f (rested (shownFrom true f) n h .out-of-it t)))
   where
-    in-G4 : (g : Bool) → cond (shownFrom true g .pulse) ((not (shownFrom true g .framed) && shownFrom true g .info1) && eqb (n .state) G4) (eqb (n .state) G1 || eqb (n .state) G2) ≡ true → n .state ≡ G4
+    in-G4 : (g : Bool) → restsElsewhere (shownFrom true g) (n .state) ≡ true → n .state ≡ G4
     in-G4 false u = eqb-true (n .state) G4 u
     in-G4 true u = clash false u refl
 
@@ -99,7 +94,7 @@ module _ (state : ℕ) (p : Periods) (j : ℕ) (l : p .0 < mostPeriods) where
 
   all-rest-here : (ts : List Terminal) → AllHere ts → AllRest (shownBy state) p ts
   all-rest-here [] all = tt
-  all-rest-here (t ∷ ts) all = ((all .0 .hears-alike, rw (next-is p l) (clear-due (p .0) j (t .t3) (all .0 .t3-clear))), all-rest-here ts (all .1))
+  all-rest-here (t ∷ ts) all = ((all .0 .hears-alike, clear-due p j (t .t3) l (all .0 .t3-clear)), all-rest-here ts (all .1))
 
 -- ---- The whole.
 module _ (images octets letters : List ℕ) (j : ℕ) (b : BusRecord) (ts : List Terminal) (s : Still (suc j) b ts) where
@@ -181,6 +176,6 @@ module _ (images octets letters : List ℕ) (j : ℕ) (b : BusRecord) (ts : List
   unfolding stepRan ranAfter ranWith refusedRun leapt anyNote readerAfter
   still-ran =
       let l : leb (b .periods .0 + 1) mostPeriods ≡ true = le-leb (b .periods .0 + 1) mostPeriods (omega (arith, s .one-left)) in
-      let d1 : due (b .network .t1) (nextPeriod (b .periods) .0) ≡ false = rw (next-is (b .periods) run) (clear-due (b .periods .0) j (b .network .t1) (s .t1-clear)) in
-      let d2 : due (b .network .t2) (nextPeriod (b .periods) .0) ≡ false = rw (next-is (b .periods) run) (clear-due (b .periods .0) j (b .network .t2) (s .t2-clear)) in
+      let d1 = clear-due (b .periods) j (b .network .t1) run (s .t1-clear) in
+      let d2 = clear-due (b .periods) j (b .network .t2) run (s .t2-clear) in
       rw (moment-is, told-is, read-is, listens-rests (shownFrom (anyCalling ts) (anyFrames ts)) (b .periods) (b .network) (s .network-rests) d1 d2, next-is (b .periods) run, counted-is, l, parts .0, parts .1)

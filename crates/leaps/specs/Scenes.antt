@@ -1,8 +1,9 @@
 -- Scenes of still buses, each computed: how far they are still, and what a leap makes of their counts.
-use mathlib.Core.Bool.{Bool, true, false}
+use mathlib.Core.Bool.{Bool, true, false, _&&_}
 use mathlib.Core.List.{List, [], _∷_}
 use mathlib.Core.Path.{_≡_, refl}
 use Prim.Native.Nat.{ℕ}
+use lib.Dec.{eqb}
 use lib.ListN.{replicate}
 use Rattle.walks.specs.Over.{foldFrom}
 use Rattle.cells.specs.Cells.{infoIn}
@@ -43,6 +44,10 @@ bus state aligned t1 t2 reader =
 abbrev counting : ℕ → ℕ → Access
 counting count held = record { length = 0; sent = 0; count = count; held = held; low1 = true; low2 = false; last = true }
 
+-- after one of class 2
+abbrev low : Access
+low = record { length = 0; sent = 0; count = 11; held = 0; low1 = false; low2 = true; last = true }
+
 -- a terminal in a state with that access, aligned or not, and with T3 due at a period
 abbrev unit : ℕ → Bool → ℕ → Access → Terminal
 unit state aligned t3 access = record { t3 = t3; access = access; state = state; alignment = record { aligned = aligned; run = 0 } }
@@ -54,40 +59,94 @@ active = unit F7 true 0 (counting 11 0)
 abbrev far : BusRecord → List Terminal → ℕ
 far b ts = reach b ts 500
 
--- ---- How far.
--- nothing powered: all periods but the last
-pub fresh-bus : far freshRecord (replicate 8 terminal.fresh) ≡ 499
-unfolding reach reached firstAhead alsoAhead overWith farthest quiet readerWaits networkRests shownFrom clear rests partRests shownBy infoIn foldFrom
-fresh-bus = refl
+-- a bus in G3, and that bus with a hit pending, and after a D of 0
+abbrev in-G3 : BusRecord
+in-G3 = bus G3 true 0 0 freshReader
 
--- one terminal waits in F3; one in F5, until T3 at period 1,020
-pub in-G1 : far (bus G1 false 0 0 freshReader) (unit F3 false 0 dchannel.fresh ∷ unit F5 false 1020 dchannel.fresh ∷ []) ≡ 19
-unfolding reach reached firstAhead alsoAhead overWith farthest quiet readerWaits networkRests shownFrom clear rests partRests shownBy infoIn foldFrom
-in-G1 = refl
+abbrev hit-pending : BusRecord
+hit-pending =
+    record {
+      network = in-G3 .network;
+      periods = in-G3 .periods;
+      opportunities = in-G3 .opportunities;
+      reader = in-G3 .reader;
+      heard = true;
+      hit = true;
+    }
 
--- nothing powered in G2, until T1 at period 1,200
-pub in-G2 : far (bus G2 false 1200 0 freshReader) (terminal.fresh ∷ []) ≡ 199
-unfolding reach reached firstAhead alsoAhead overWith farthest quiet readerWaits networkRests shownFrom clear rests partRests shownBy infoIn foldFrom
-in-G2 = refl
+abbrev after-0 : BusRecord
+after-0 =
+    record {
+      network = in-G3 .network;
+      periods = in-G3 .periods;
+      opportunities = in-G3 .opportunities;
+      reader = in-G3 .reader;
+      heard = false;
+      hit = false;
+    }
 
--- two terminals activated, C at its end
-pub in-G3 : far (bus G3 true 0 0 freshReader) (active ∷ terminal.fresh ∷ active ∷ []) ≡ 499
+-- and one that has 100 periods left in all
+abbrev at-the-end : BusRecord
+at-the-end =
+    record {
+      network = in-G3 .network;
+      periods = atPeriod 3999900;
+      opportunities = in-G3 .opportunities;
+      reader = in-G3 .reader;
+      heard = true;
+      hit = false;
+    }
+
+-- a bus in G4 until T2 at period 1,100
+abbrev in-G4 : BusRecord
+in-G4 = bus G4 false 0 1100 freshReader
+
+-- ---- How far: a row is how far a bus is found still, and how far it should be.
+abbrev still : List (ℕ × ℕ)
+still =
+    -- nothing powered: all periods but the last
+    (far freshRecord (replicate 8 terminal.fresh), 499)
+    -- in G1, one terminal waits in F3; one in F5, until T3 at period 1,020
+    ∷ (far (bus G1 false 0 0 freshReader) (unit F3 false 0 dchannel.fresh ∷ unit F5 false 1020 dchannel.fresh ∷ []), 19)
+    -- nothing powered in G2, until T1 at period 1,200
+    ∷ (far (bus G2 false 1200 0 freshReader) (terminal.fresh ∷ []), 199)
+    -- in G3, two terminals activated, C at its end; up to the last period that a bus can run
+    ∷ (far in-G3 (active ∷ terminal.fresh ∷ active ∷ []), 499)
+    ∷ (far at-the-end (active ∷ []), 99)
+    -- in G4 a terminal calls: until T2, and until its own T3 at period 1,050
+    ∷ (far in-G4 (unit F3 false 0 dchannel.fresh ∷ unit F4 false 1300 dchannel.fresh ∷ []), 99)
+    ∷ (far in-G4 (unit F4 false 1050 dchannel.fresh ∷ []), 49)
+    ∷ []
+
+abbrev not-still : List (ℕ × ℕ)
+not-still =
+    -- C at 10; a frame held; class 2 at its low level
+    (far in-G3 (unit F7 true 0 (counting 10 0) ∷ []), 0)
+    ∷ (far in-G3 (unit F7 true 0 (counting 11 2) ∷ []), 0)
+    ∷ (far in-G3 (unit F7 true 0 low ∷ []), 0)
+    -- the reader inside a frame; a hit pending; the last D at 0
+    ∷ (far (bus G3 true 0 0 openedReader) (active ∷ []), 0)
+    ∷ (far hit-pending (active ∷ []), 0)
+    ∷ (far after-0 (active ∷ []), 0)
+    -- G3 without a terminal that sends INFO 3; with one that is not aligned
+    ∷ (far in-G3 (terminal.fresh ∷ []), 0)
+    ∷ (far in-G3 (unit F7 false 0 (counting 11 0) ∷ []), 0)
+    -- a call in G1; G4 without a call; one period left
+    ∷ (far (bus G1 false 0 0 freshReader) (unit F4 false 0 dchannel.fresh ∷ []), 0)
+    ∷ (far in-G4 (unit F3 false 0 dchannel.fresh ∷ []), 0)
+    ∷ (reach freshRecord [] 1, 0)
+    ∷ []
+
+abbrev each : List (ℕ × ℕ) → Bool
+each [] = true
+each (row ∷ rows) = eqb (row .0) (row .1) && each rows
+
+pub how-far : (each still ≡ true) × (each not-still ≡ true)
 unfolding reach reached firstAhead alsoAhead overWith farthest quiet readerWaits networkRests shownFrom clear rests partRests shownBy infoIn foldFrom atRest
-in-G3 = refl
-
--- pending deactivation while a terminal calls, until T2 at period 1,100, and until its T3 at period 1,050
-pub in-G4 : far (bus G4 false 0 1100 freshReader) (unit F3 false 0 dchannel.fresh ∷ unit F4 false 1300 dchannel.fresh ∷ []) ∷ far (bus G4 false 0 1100 freshReader) (unit F4 false 1050 dchannel.fresh ∷ []) ∷ [] ≡ 99 ∷ 49 ∷ []
-unfolding reach reached firstAhead alsoAhead overWith farthest quiet readerWaits networkRests shownFrom clear rests partRests shownBy infoIn foldFrom
-in-G4 = refl
-
--- not still: C at 10, a frame held, the reader inside a frame, G3 without a terminal that sends, a terminal not aligned, a call in G1, G4
--- without a call, one period left
-pub not-still : far (bus G3 true 0 0 freshReader) (unit F7 true 0 (counting 10 0) ∷ []) ∷ far (bus G3 true 0 0 freshReader) (unit F7 true 0 (counting 11 2) ∷ []) ∷ far (bus G3 true 0 0 openedReader) (active ∷ []) ∷ far (bus G3 true 0 0 freshReader) (terminal.fresh ∷ []) ∷ far (bus G3 true 0 0 freshReader) (unit F7 false 0 (counting 11 0) ∷ []) ∷ far (bus G1 false 0 0 freshReader) (unit F4 false 0 dchannel.fresh ∷ []) ∷ far (bus G4 false 0 1100 freshReader) (unit F3 false 0 dchannel.fresh ∷ []) ∷ reach freshRecord [] 1 ∷ [] ≡ replicate 8 0
-unfolding reach reached firstAhead alsoAhead overWith farthest quiet readerWaits networkRests shownFrom clear rests partRests shownBy infoIn foldFrom atRest
-not-still = refl
+how-far = (refl, refl)
 
 -- ---- What a leap makes of the counts: four opportunities a period in G3, none elsewhere.
-pub leap-in-G3 : (leapt 30 (bus G3 true 0 0 freshReader) .periods .0 ≡ 1030) × (leapt 30 (bus G3 true 0 0 freshReader) .opportunities .0 ≡ 520)
+pub leap-in-G3 : (leapt 30 in-G3 .periods .0 ≡ 1030) × (leapt 30 in-G3 .opportunities .0 ≡ 520)
 unfolding leapt countedOver
 leap-in-G3 = (refl, refl)
 

@@ -29,13 +29,13 @@ unfoldable pub quiet : BusRecord → Bool
 quiet b = (not (b .hit) && b .heard) && cond (eqb (b .network .state) G3) (readerWaits (b .reader)) true
 
 -- its own timers, and the number of periods left: one of them stays to be run after the step. The last period that a bus can run bounds it
--- as a timer does.
+-- as a timer does. 0 where the bus is not quiet.
 unfoldable pub farthest : BusRecord → ℕ → ℕ
 farthest b left =
     let now = b .periods .0 in
     cond (quiet b) (clear now (clear now (clear now (left - 1) mostPeriods) (b .network .t1)) (b .network .t2)) 0
 
--- ---- All units.
+-- ---- All units: the network end first, and then the terminals.
 unfoldable pub firstAhead : BusRecord → ℕ → Ahead
 firstAhead b left = record { over = farthest b left; now = b .periods; line = shownBy (b .network .state); calling = false; frames = false }
 

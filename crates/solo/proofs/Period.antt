@@ -5,7 +5,7 @@ use mathlib.Core.List.{List, [], _∷_}
 use Prim.Native.Nat.{ℕ, suc, _+_}
 use native.Mathlib.Omega.{arith}
 use lib.Dec.{eqb}
-use borrow.Author.Tests.{eqb-true, not-true}
+use borrow.Author.Tests.{eqb-true, leb-false, not-true}
 use Rattle.cases.proofs.ByCases.{by-test}
 use Rattle.cases.proofs.Operators.{and-both}
 use Rattle.hdlc.specs.Bits.{sameBit}
@@ -14,7 +14,7 @@ use Rattle.cells.specs.Cells.{infoIn}
 use Rattle.table_6_2.specs.Table62.{F7}
 use Rattle.table_6_3.specs.Table63.{G3}
 use Rattle.table_6_3.specs.Table63 as table63
-use Rattle.timing.specs.Counts.{allRun, nextPeriod}
+use Rattle.timing.specs.Counts.{mostPeriods, allRun}
 use Rattle.timing.proofs.TimerLaws.{clear-due, clear-later}
 use Rattle.timing.specs.declared.counts.Periods.{Periods}
 use Rattle.hearing.specs.declared.heard.Downward.{Downward}
@@ -52,16 +52,12 @@ module _ (period : Periods) (more : allRun period ≡ false) (s : Solo) where
   abbrev line : Downward
   line = shownBy G3
 
-  next-is : nextPeriod period .0 ≡ period .0 + 1
-  unfolding nextPeriod
-  next-is = rw more
-
   all-rest-here : (i : ℕ) (ts : List Terminal) → allHearAlike ts ≡ true → AllClear (period .0) 1 ts → AllRest line period (mapFrom (followed s) i ts)
   unfolding mapFrom allHearAlike
   all-rest-here i [] r c = tt
   all-rest-here i (t ∷ ts) r c =
       let rest = and-both (rests line t) (allHearAlike ts) r in
-      ((same-rest line s i t ∙ rest .0, rw (same-timer s i t, next-is) (clear-due (period .0) 0 (t .t3) (c .0))), all-rest-here (suc i) ts (rest .1) (c .1))
+      ((same-rest line s i t ∙ rest .0, rw (same-timer s i t) (clear-due period 0 (t .t3) (leb-false mostPeriods (period .0) more) (c .0))), all-rest-here (suc i) ts (rest .1) (c .1))
 
 -- ---- What is known where a period more is run.
 pub record Goes (images : List ℕ) (a : Alone) : Type 0 where

@@ -52,7 +52,7 @@ pub period : (soloGoes images (search one-sends .solo) ≡ true) × (soloAfterFo
 unfolding searched searchedOne senderAfter fitsIn clear rests shownBy infoIn foldFrom soloGoes soloTurns soloTurned soloAfterFour countedAt countAfter soloBit imageBit packedBit bitOf
 period = (refl, refl, refl)
 
--- at a C of 7 the third would start
+-- at a C of 7 the one that waits would start
 pub not-at-7 : soloGoes images (search (holding 9 7 0 ∷ holding 0 7 0 ∷ []) .solo) ≡ false
 unfolding searched searchedOne senderAfter fitsIn clear rests shownBy infoIn foldFrom soloGoes soloTurns soloTurned countedAt countAfter soloBit imageBit packedBit bitOf
 not-at-7 = refl
