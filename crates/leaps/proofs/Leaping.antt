@@ -13,7 +13,6 @@ use Rattle.table_6_3.specs.Table63.{G3}
 use Rattle.timing.specs.Counts.{mostPeriods, allRun}
 use Rattle.terminal.specs.declared.Terminal.{Terminal}
 use Rattle.listening.specs.declared.hears.UnitNotes.{UnitNotes}
-use Rattle.bus.specs.Bus.{terminals}
 use Rattle.bus_record.specs.NetworkSide.{noNotes, refusedRun}
 use Rattle.bus_record.specs.declared.record.BusRecord.{BusRecord}
 use Rattle.bus_record.specs.declared.side.Ran.{Ran}

@@ -1,6 +1,6 @@
 -- What a reach that is not 0 says: every unit stays as it is for so many periods.
 use mathlib.Core.Path.{_≡_, _∙_}
-use mathlib.Core.Bool.{true, _&&_, _||_, or-false, or-assoc}
+use mathlib.Core.Bool.{true, _||_, or-false, or-assoc}
 use mathlib.Core.Logic.{_⊎_, ⊎-elim}
 use mathlib.Core.List.{List, [], _∷_}
 use Prim.Native.Nat.{ℕ, suc, _+_, _-_, _≤_, _<_}

@@ -1,27 +1,24 @@
 -- A period of a still bus, as the code goes through it: it hands back no notes and changes nothing but the counts.
 use mathlib.Core.Path.{_≡_, refl}
-use mathlib.Core.Bool.{Bool, true, false, cond, not, _&&_, _||_}
+use mathlib.Core.Bool.{Bool, true, false, cond, not, _&&_}
 use mathlib.Core.List.{List, [], _∷_}
 use Prim.Native.Nat.{ℕ, suc, _+_, _*_, _<_}
 use native.Mathlib.Omega.{arith}
 use lib.Dec.{eqb, leb}
 use lib.ListN.{length, replicate}
-use borrow.Author.Tests.{eqb-true, le-leb, lt-leb, not-true}
+use borrow.Author.Tests.{eqb-true, le-leb, not-true}
 use Rattle.cases.proofs.ByCases.{by-test, clash}
 use Rattle.cases.proofs.Operators.{and-both}
 use Rattle.frame.specs.Four.{allFour}
 use Rattle.frame.specs.declared.fields.Four.{Four}
 use Rattle.cells.specs.Cells.{infoIn}
 use Rattle.table_6_2.specs.Table62.{F1, F7}
-use Rattle.table_6_3.specs.Table63.{G1, G2, G3, G4}
+use Rattle.table_6_3.specs.Table63.{G3, G4}
 use Rattle.table_6_3.specs.Table63 as table63
-use Rattle.timing.specs.Counts.{mostPeriods, atPeriod, nextPeriod, fourMore}
-use Rattle.timing.specs.Timers.{due}
+use Rattle.timing.specs.Counts.{mostPeriods, fourMore}
 use Rattle.timing.proofs.TimerLaws.{next-is, clear-due}
 use Rattle.timing.specs.declared.counts.Periods.{Periods}
 use Rattle.hearing.specs.declared.heard.Downward.{Downward}
-use Rattle.network.specs.Network.{aligned}
-use Rattle.network.specs.Network as network
 use Rattle.network.specs.declared.Network.{Network}
 use Rattle.terminal.specs.declared.Terminal.{Terminal}
 use Rattle.bus.specs.Quick.{sentE, shownBy, shownFrom}
