@@ -5,9 +5,9 @@ use mathlib.Core.Path.{_≡_, refl, sym, ap, _∙_}
 use Prim.Native.Nat.{ℕ, _+_, _≤_}
 use native.Mathlib.Omega.{arith}
 use lib.Dec.{eqb}
-use lib.ListN.{length, take, drop, length-append, length-take, length-drop}
+use lib.ListN.{length, take, drop, length-append, length-take}
 use lib.Seq.{length-take-le, take-append-add, take-append-le}
-use borrow.Rule.Slice.PartMut.{midOf, postOf, putMid, same-len-mid}
+use borrow.Rule.Slice.PartMut.{midOf, postOf, putMid}
 use Rattle.report.specs.Ahead.{TEXT}
 use Rattle.driver.specs.Turn.{Fills}
 
@@ -26,25 +26,12 @@ not-asked most text have why whole other there =
 
 -- k octets behind what is in hand were offered, and n have come at their front
 module _ (text got : List ℕ) (most have k n why : ℕ) (whole : Bool) (asked : why ≡ TEXT) (there : have ≤ length text)
-    (same : length got ≡ length (midOf have k text)) (few : n ≤ length (midOf have k (putMid have k text got))) (least : k ≤ most) where
+    (same : length got ≡ length (midOf have k text)) (some : n ≤ length got) (least : k ≤ most) where
   abbrev after : List ℕ
   after = postOf have k text
 
   front : length (take have text) ≡ have
   front = length-take-le have text there
-
-  some : n ≤ length got
-  some =
-      omega (
-        arith,
-        same,
-        few,
-        same-len-mid have k text got same,
-        length-take k (drop have text),
-        length-drop have text,
-        length-take k (drop have (putMid have k text got)),
-        length-drop have (putMid have k text got),
-      )
 
   behind : take (have + n) (putMid have k text got) ≡ take have text ++ take n got
   behind =
@@ -55,7 +42,7 @@ module _ (text got : List ℕ) (most have k n why : ℕ) (whole : Bool) (asked :
   read-behind =
       record {
         part = take n got;
-        few = omega (arith, length-take-le n got some, few, length-take k (drop have (putMid have k text got)), least);
+        few = omega (arith, length-take-le n got some, some, same, length-take k (drop have text), least);
         behind = behind;
         within = omega (arith, length-append (take have text) (got ++ after), length-append got after, front, some);
         asked = λ _. ap (λ (m : ℕ). eqb m 0) (sym (length-take-le n got some));

@@ -7,7 +7,7 @@ use super::fill::fill;
 use book::go_on::go_on;
 use book::progress::Progress;
 use book_reader::rest::keep;
-use libc::STDOUT_FILENO;
+use streams::write::write_out;
 
 // What is kept between turns: how far the book has come, the octets of it in hand, why the last call has stopped, whether no more of the
 // book comes, and whether a write has failed.
@@ -20,7 +20,7 @@ pub(crate) struct Held {
 }
 
 // Reads where text is needed, calls, writes out what stands in the room, and keeps the text not yet taken. Whether the write has failed is
-// what `write_all` answers: no statement speaks of it. No call is refused here (`Going`), so the reply, which is 0, is not looked at.
+// what `write_out` answers: no statement speaks of it. No call is refused here (`Going`), so the reply, which is 0, is not looked at.
 pub(crate) fn turn(
     h: Held,
     text: &mut [u8],
@@ -47,7 +47,7 @@ pub(crate) fn turn(
         f.whole,
     );
     let wrote = w.wrote;
-    let is_written = io::write_all(STDOUT_FILENO, &room[..wrote]);
+    let taken = write_out(&room[..wrote]);
     let left = keep(text, w.taken, have);
     let progress = w.progress;
     Held {
@@ -55,6 +55,6 @@ pub(crate) fn turn(
         have: left,
         why: w.why,
         whole: f.whole,
-        failed: !is_written,
+        failed: taken < wrote,
     }
 }

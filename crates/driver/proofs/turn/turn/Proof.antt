@@ -23,22 +23,22 @@ slice-aggregate-go-on c =
 go-on-requires : tie.Need-go-on-requires
 go-on-requires c κs = search needs
 
-slice-reshare-prefix-write-all : tie.Need-slice-reshare-prefix-write-all
-slice-reshare-prefix-write-all c =
+slice-reshare-prefix-write-out : tie.Need-slice-reshare-prefix-write-out
+slice-reshare-prefix-write-out c =
     let w = c .before .before .before .before .before .before .before .before in
     let f = w .before .before .before .before .before .before .before .before .before in
     let s = f .before .before .before .before .before .before .before in
     wrote-fits _ _ _ _ _ _ _ (s .pre .0) _ _ _ (f .fill .ensures) _ _ _ _ _ (w .go-on .ensures)
 
-slice-aggregate-write-all : tie.Need-slice-aggregate-write-all
-slice-aggregate-write-all c =
+slice-aggregate-write-out : tie.Need-slice-aggregate-write-out
+slice-aggregate-write-out c =
     let w = c .before .before .before .before .before .before .before .before .before in
     let f = w .before .before .before .before .before .before .before .before .before in
     let s = f .before .before .before .before .before .before .before in
     sym (length-take-le _ _ (wrote-fits _ _ _ _ _ _ _ (s .pre .0) _ _ _ (f .fill .ensures) _ _ _ _ _ (w .go-on .ensures)))
 
-write-all-requires : tie.Need-write-all-requires
-write-all-requires c κs = search needs
+write-out-requires : tie.Need-write-out-requires
+write-out-requires c κs = search needs
 
 keep-requires : tie.Need-keep-requires
 keep-requires c κs = search needs
@@ -80,9 +80,9 @@ turn-spec =
     slice-reshare-prefix-go-on
     slice-aggregate-go-on
     go-on-requires
-    slice-reshare-prefix-write-all
-    slice-aggregate-write-all
-    write-all-requires
+    slice-reshare-prefix-write-out
+    slice-aggregate-write-out
+    write-out-requires
     keep-requires
     same-length
     same-length-2
