@@ -1,7 +1,7 @@
 // The S bus engine for C: frames on the line, a bus stepped period by period, and reports made from bench books.
 //
 // An S bus (JT-I430) has one network end, which is unit 0, terminals 1 to 8, and the line between them. Time is counted in periods: one frame of
-// 48 bits, 250 microseconds. docs/BENCH.md tells the bench room what events and notes mean; host.c is a program to copy from.
+// 48 bits, 250 microseconds.
 //
 // LENT OCTETS. A call takes numbers and slices, and a slice is two arguments: a pointer to octets, and their number.
 // - NULL with the length 0 is a slice of no octets. Any other pointer must be good for so many octets; none needs alignment.
@@ -12,11 +12,11 @@
 // their numbers, and the first that holds gives the number. Only the three calls that tell a length return something else.
 //
 // NO STATE. The library keeps nothing between calls, allocates nothing, reads and writes no file. A bus is its octets: a copy of them is another
-// bus, which goes on from the same moment. Any thread may call on its own octets.
+// bus, which goes on from the same moment. Any thread may call on its own octets. A call needs about 5 KB of stack, and does not recurse.
 //
 // NUMBERS in octets have their low-order octet first.
 //
-// It is linked from libsbus.a, for x86-64 with the System V calling convention (Linux).
+// It is linked from libsbus.a, for x86-64 with the System V calling convention (Linux). This header is C99, and C++ takes it too.
 #ifndef SBUS_H
 #define SBUS_H
 
@@ -147,8 +147,8 @@ uint32_t sbus_run(uint8_t *bus, size_t bus_length, uint8_t *notes, size_t notes_
 uint32_t sbus_counts(const uint8_t *bus, size_t bus_length, uint8_t *counts, size_t counts_length);
 
 // Tells what a unit is doing. Octet 0 of `seen` is its state (unit 0: 1 to 4 for G1 to G4; a terminal: 1 to 8 for F1 to F8), 1 whether it is aligned
-// (0 or 1); of a terminal also 2 the class of the frame that it holds (0 none), 3 and 4 the bits of that frame's image, 5 and 6 the bits of it
-// that have left in the sending under way (0: none is under way). For unit 0 these are 0. Octets behind them are left as they are.
+// (0 or 1); of a terminal also 2 the class of the frame that it holds (0 none), 3 and 4 how many bits that frame's image has, 5 and 6 how many of
+// them have left in the sending under way (0: none is under way). For unit 0 these are 0. Octets behind them are left as they are.
 // 0; 1: no bus; 2: seen under 7 octets; 3: the unit is above 8.
 uint32_t sbus_unit(const uint8_t *bus, size_t bus_length, uint32_t unit, uint8_t *seen, size_t seen_length);
 
