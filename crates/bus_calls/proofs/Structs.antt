@@ -1,8 +1,6 @@
 -- The structs of the walks, each once: its laws as a `Kind`, and of a slice's element also its size and what stands past the end.
 use mathlib.Core.Path.{refl}
 use Rattle.walks.proofs.Slices.{Kind, Element, struct-kind}
-use Rattle.frame.proofs.fields.Four as Four
-use Rattle.frame.proofs.fields.Four.Laws as Four′
 use Rattle.cells.proofs.notes.Notes as Notes
 use Rattle.cells.proofs.notes.Notes.Laws as Notes′
 use Rattle.timing.proofs.counts.Periods as Periods
@@ -25,9 +23,6 @@ use Rattle.bus_event.proofs.event.Told.Laws as Told′
 
 abbrev pub terminals : Element T.the-row
 terminals = record { kind = struct-kind T.the-type T′.the-laws T′.the-plain T′.the-copy T′.mir refl; blank = fresh; size = 24; size-is = refl; size-fits = tt }
-
-abbrev pub fours : Kind Four.the-row
-fours = struct-kind Four.the-type Four′.the-laws Four′.the-plain Four′.the-copy Four′.mir refl
 
 abbrev pub buses : Kind Bus.the-row
 buses = struct-kind Bus.the-type Bus′.the-laws Bus′.the-plain Bus′.the-copy Bus′.mir refl

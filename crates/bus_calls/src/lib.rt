@@ -1,5 +1,6 @@
 // The calls on a bus: its record by value, the eight terminal records lent as one slice.
 pub mod event;
+mod fields;
 pub mod ready;
 pub mod run;
 pub mod step;

@@ -1,9 +1,8 @@
 -- `bus_calls::step::step` meets its contract: a walk of its MIR with the lemmas of crate `walks`. The terminals are lent again to the exchange and,
 -- with the notes, to the hearing; the octets to the network end's side. All that it knows of what it calls are their contracts. Assumes nothing.
-use Rattle.walks.proofs.Walk.{_≡_, refl, sym, _∙_, ℕ, Bool, List, [], _∷_, length, URA, Val, SProp, ent, emp, id⊢, Memory, Routine, Heap, Tables, WpFn, Atoms, Fun, factI, givenOf, tables, tablesOf, Given, ⋆, _$_, !, no-more, and-then, Is, u8, bool, Room, onEntry, Meets, tripleOf, Contract, Triple, entered, cited, needs, walkOf, loc, part, leaves, bool-kind, typed, Spot, spot, word, lends-at, hands-at, Param, plain-of, lfts-at, shares-at, args-at, vals-of, lfts-of, shares-of, args-of, itemsOf, reborrows, Call, calls-giving, enters-with, returns-with, mut-way, shr-way, plain-way, Ways-of, stays-of, meets-by}
-use denote.Struct.Laws as LL
+use Rattle.walks.proofs.Walk.{_≡_, refl, sym, _∙_, ℕ, Bool, List, [], _∷_, length, URA, Val, SProp, ent, emp, id⊢, Memory, Routine, Heap, Tables, WpFn, Atoms, Fun, factI, givenOf, tables, tablesOf, Given, ⋆, _$_, !, no-more, and-then, Is, u8, bool, Room, onEntry, Meets, tripleOf, Contract, Triple, entered, cited, needs, walkOf, loc, leaves, bool-kind, typed, Spot, spot, word, lends-at, hands-at, Param, plain-of, lfts-at, shares-at, args-at, vals-of, lfts-of, shares-of, args-of, itemsOf, reborrows, Call, calls-giving, enters-with, returns-with, mut-way, shr-way, plain-way, Ways-of, stays-of, meets-by}
 use borrow.Author.Tests.{eq-eqb}
-use Rattle.frame.proofs.fields.Four as F
+use Rattle.timing.specs.declared.counts.Periods.{Periods}
 use Rattle.timing.proofs.counts.Periods as P
 use Rattle.hearing.specs.declared.heard.Downward.{Downward}
 use Rattle.hearing.proofs.heard.Downward as D
@@ -13,7 +12,6 @@ use Rattle.exchange.specs.Opportunities.{momentAfterFour, terminalsAfterFour}
 use Rattle.exchange.specs.declared.moment.Moment.{Moment}
 use Rattle.exchange.proofs.Structs.{moments}
 use Rattle.exchange.proofs.moment.Moment as Mo
-use Rattle.exchange.proofs.moment.Moment.Laws as Mo′
 use Rattle.listening.specs.Hears.{allTold, allTerminals, allNotes}
 use Rattle.listening.specs.declared.hears.UnitNotes.{UnitNotes}
 use Rattle.listening.proofs.Structs.{lines, periods}
@@ -23,10 +21,9 @@ use Rattle.bus_record.specs.NetworkSide.{ranAfter, octetsAfter}
 use Rattle.bus_record.specs.declared.record.BusRecord.{BusRecord}
 use Rattle.bus_record.specs.declared.side.Ran.{Ran}
 use Rattle.bus_record.proofs.record.BusRecord as B
-use Rattle.bus_record.proofs.record.BusRecord.Laws as B′
 use Rattle.bus_record.proofs.side.Ran as R
 use Rattle.call_rules.specs.Step.{stepMoment, stepExchanged, stepLine, stepTerminals, stepNotes, stepTold, stepRan, stepOctets}
-use Rattle.bus_calls.proofs.Structs.{fours, buses, runs}
+use Rattle.bus_calls.proofs.Structs.{buses, runs}
 use Rattle.bus_record.proofs.echo.first_moment as first
 use Rattle.bus_record.proofs.echo.first_moment.Symbol as first-def
 use Rattle.bus_record.proofs.echo.first_moment.Symbol.{name as #first}
@@ -35,10 +32,14 @@ use Rattle.exchange.proofs.opportunity.exchange as exch
 use Rattle.exchange.proofs.opportunity.exchange.Symbol as exch-def
 use Rattle.exchange.proofs.opportunity.exchange.Symbol.{name as #exch}
 use Rattle.exchange.proofs.opportunity.exchange.Met as exch-thm
-use Rattle.bus_record.proofs.echo.heard_down as down
-use Rattle.bus_record.proofs.echo.heard_down.Symbol as down-def
-use Rattle.bus_record.proofs.echo.heard_down.Symbol.{name as #down}
-use Rattle.bus_record.proofs.echo.heard_down.Met as down-thm
+use Rattle.bus_calls.proofs.step.line_after as down
+use Rattle.bus_calls.proofs.step.line_after.Symbol as down-def
+use Rattle.bus_calls.proofs.step.line_after.Symbol.{name as #down}
+use Rattle.bus_calls.proofs.step.line_after.Met as down-thm
+use Rattle.bus_calls.proofs.fields.periods_of as period
+use Rattle.bus_calls.proofs.fields.periods_of.Symbol as period-def
+use Rattle.bus_calls.proofs.fields.periods_of.Symbol.{name as #period}
+use Rattle.bus_calls.proofs.fields.periods_of.Met as period-thm
 use Rattle.listening.proofs.listen.listen as listen
 use Rattle.listening.proofs.listen.listen.Symbol as listen-def
 use Rattle.listening.proofs.listen.listen.Symbol.{name as #listen}
@@ -63,15 +64,15 @@ module _ (bus : BusRecord) (ys : List Terminal) (es os ls : List ℕ) where
   abbrev Exchanged : Moment → Moment → List Terminal → Type 0
   Exchanged m₀ m ts = (m ≡ momentAfterFour es m₀ ys) × (ts ≡ terminalsAfterFour es m₀ ys)
 
-  abbrev Listened : List UnitNotes → List Terminal → Downward → Bool → List Terminal → List UnitNotes → Type 0
-  Listened zs ts line told us ns = (told ≡ allTold line (bus .periods) zs ts) × (us ≡ allTerminals line (bus .periods) zs ts) × (ns ≡ allNotes line (bus .periods) zs ts)
+  abbrev Listened : Periods → List UnitNotes → List Terminal → Downward → Bool → List Terminal → List UnitNotes → Type 0
+  Listened p zs ts line told us ns = (told ≡ allTold line p zs ts) × (us ≡ allTerminals line p zs ts) × (ns ≡ allNotes line p zs ts)
 
   abbrev Sided : Moment → Bool → Ran → List ℕ → Type 0
   Sided m told r octs = (r ≡ ranAfter bus m os told) × (octs ≡ octetsAfter bus m os)
 
-  promised : {m₀ m : Moment} {ts us : List Terminal} {line : Downward} {told : Bool} {ns : List UnitNotes} {r : Ran} {octs : List ℕ} (zs : List UnitNotes) → length zs ≡ length ts → m₀ ≡ firstMoment bus ls → Exchanged m₀ m ts → line ≡ heardDown bus (m .ds) ls → Listened zs ts line told us ns → Sided m told r octs → Promised r us octs ns
+  promised : {m₀ m : Moment} {ts us : List Terminal} {line : Downward} {p : Periods} {told : Bool} {ns : List UnitNotes} {r : Ran} {octs : List ℕ} (zs : List UnitNotes) → length zs ≡ length ts → m₀ ≡ firstMoment bus ls → Exchanged m₀ m ts → line ≡ heardDown bus (m .ds) ls → p ≡ bus .periods → Listened p zs ts line told us ns → Sided m told r octs → Promised r us octs ns
   unfolding stepMoment stepExchanged stepLine stepTerminals stepNotes stepTold stepRan stepOctets allTold allTerminals allNotes
-  promised {ts = ts} zs even a b c d e = let d′ = rw (eq-eqb (length zs) (length ts) even) at d in (cc, cc, cc, cc)
+  promised {ts = ts} zs even a b c q d e = let d′ = rw (eq-eqb (length zs) (length ts) even) at d in (cc, cc, cc, cc)
 
 module _ {M : Type 1} (𝓤 : URA M) (H : Heap 𝓤) (A : Atoms 𝓤) (mem : Memory → SProp 𝓤) (run : Routine → Fun 𝓤) where
   abbrev First : Contract 𝓤
@@ -82,6 +83,9 @@ module _ {M : Type 1} (𝓤 : URA M) (H : Heap 𝓤) (A : Atoms 𝓤) (mem : Mem
 
   abbrev Down : Contract 𝓤
   Down = tripleOf 𝓤 H A down.signature (down.spec 𝓤 H A mem run)
+
+  abbrev Period : Contract 𝓤
+  Period = tripleOf 𝓤 H A period.signature (period.spec 𝓤 H A mem run)
 
   abbrev Listen : Contract 𝓤
   Listen = tripleOf 𝓤 H A listen.signature (listen.spec 𝓤 H A mem run)
@@ -143,7 +147,7 @@ module _ {M : Type 1} (𝓤 : URA M) (H : Heap 𝓤) (A : Atoms 𝓤) (W : Given
   }
 
   abbrev to-down : (m : Moment) → Is Mo.the-row m (moments .val m ∷ []) → List Param
-  to-down m gm = plain-of B.the-row buses bus gb ∷ plain-of F.the-row fours (m .ds) (LL.owed Mo.the-type Mo′.the-laws m _ gm .1 .0) ∷ hands-at 3 u8 s₄ (length ls) ls ∷ []
+  to-down m gm = plain-of B.the-row buses bus gb ∷ plain-of Mo.the-row moments m gm ∷ hands-at 3 u8 s₄ (length ls) ls ∷ []
 
   abbrev the-down : (m : Moment) (gm : Is Mo.the-row m (moments .val m ∷ [])) → Call W (to-down m gm) down.ended (down.clauses 𝓤 H A mem run)
   the-down m gm = record {
@@ -158,19 +162,35 @@ module _ {M : Type 1} (𝓤 : URA M) (H : Heap 𝓤) (A : Atoms 𝓤) (W : Given
     ensured = λ ns line ws. id⊢ 𝓤 _;
   }
 
-  abbrev to-listen : List Terminal → (line : Downward) → Is D.the-row line (lines .val line ∷ []) → List Param
-  to-listen ts line gl = lends-at 0 T.the-row s₁ (length ys) ts ∷ lends-at 4 N.the-row s₅ (length us) us ∷ plain-of D.the-row lines line gl ∷ plain-of P.the-row periods (bus .periods) (LL.owed B.the-type B′.the-laws bus _ gb .1 .0) ∷ []
+  abbrev to-period : List Param
+  to-period = plain-of B.the-row buses bus gb ∷ []
 
-  abbrev the-listen : (ts : List Terminal) (line : Downward) (gl : Is D.the-row line (lines .val line ∷ [])) → Call W (to-listen ts line gl) listen.ended (listen.clauses 𝓤 H A mem run)
-  the-listen ts line gl = record {
-    bound = λ ns. ((lfts-of (to-listen ts line gl) ns, shares-of (to-listen ts line gl), tt, args-of (to-listen ts line gl) ns, vals-of (to-listen ts line gl)), tt);
+  abbrev the-period : Call W to-period period.ended (period.clauses 𝓤 H A mem run)
+  the-period = record {
+    bound = λ ns. ((lfts-of to-period ns, shares-of to-period, tt, args-of to-period ns, vals-of to-period), tt);
+    asks = λ ns. id⊢ 𝓤 _;
+    needed = λ ns. id⊢ 𝓤 _;
+    tokens = λ ns. id⊢ 𝓤 _;
+    last = λ ns ws. ws;
+    finals = λ ns ws. id⊢ 𝓤 _;
+    result = λ ns. periods;
+    Said = λ ns p ws. p ≡ bus .periods;
+    ensured = λ ns p ws. id⊢ 𝓤 _;
+  }
+
+  abbrev to-listen : List Terminal → (line : Downward) → Is D.the-row line (lines .val line ∷ []) → (p : Periods) → Is P.the-row p (periods .val p ∷ []) → List Param
+  to-listen ts line gl p gp = lends-at 0 T.the-row s₁ (length ys) ts ∷ lends-at 4 N.the-row s₅ (length us) us ∷ plain-of D.the-row lines line gl ∷ plain-of P.the-row periods p gp ∷ []
+
+  abbrev the-listen : (ts : List Terminal) (line : Downward) (gl : Is D.the-row line (lines .val line ∷ [])) (p : Periods) (gp : Is P.the-row p (periods .val p ∷ [])) → Call W (to-listen ts line gl p gp) listen.ended (listen.clauses 𝓤 H A mem run)
+  the-listen ts line gl p gp = record {
+    bound = λ ns. ((lfts-of (to-listen ts line gl p gp) ns, shares-of (to-listen ts line gl p gp), tt, args-of (to-listen ts line gl p gp) ns, vals-of (to-listen ts line gl p gp)), tt);
     asks = λ ns. id⊢ 𝓤 _;
     needed = λ ns. id⊢ 𝓤 _;
     tokens = λ ns. id⊢ 𝓤 _;
     last = λ ns ws. ws;
     finals = λ ns ws. id⊢ 𝓤 _;
     result = λ ns. bool-kind;
-    Said = λ ns told ws. Listened bus ys es os ls us ts line told (ws .0) (ws .1 .0);
+    Said = λ ns told ws. Listened bus ys es os ls p us ts line told (ws .0) (ws .1 .0);
     ensured = λ ns told ws. id⊢ 𝓤 _;
   }
 
@@ -190,32 +210,33 @@ module _ {M : Type 1} (𝓤 : URA M) (H : Heap 𝓤) (A : Atoms 𝓤) (W : Given
     ensured = λ ns r ws. id⊢ 𝓤 _;
   }
 
-  walk : (𝓣 : Tables 𝓤 H) → Triple 𝓤 (𝓣 .C #first) (First 𝓤 H A mem run) → Triple 𝓤 (𝓣 .C #exch) (Exch 𝓤 H A mem run) → Triple 𝓤 (𝓣 .C #down) (Down 𝓤 H A mem run) → Triple 𝓤 (𝓣 .C #listen) (Listen 𝓤 H A mem run) → Triple 𝓤 (𝓣 .C #side) (Side 𝓤 H A mem run)
+  walk : (𝓣 : Tables 𝓤 H) → Triple 𝓤 (𝓣 .C #first) (First 𝓤 H A mem run) → Triple 𝓤 (𝓣 .C #exch) (Exch 𝓤 H A mem run) → Triple 𝓤 (𝓣 .C #down) (Down 𝓤 H A mem run) → Triple 𝓤 (𝓣 .C #period) (Period 𝓤 H A mem run) → Triple 𝓤 (𝓣 .C #listen) (Listen 𝓤 H A mem run) → Triple 𝓤 (𝓣 .C #side) (Side 𝓤 H A mem run)
       → ent 𝓤 (onEntry 𝓤 H A all.signature (bound .0 .0) (bound .0 .1) (bound .0 .3) (bound .0 .4)) (WpFn 𝓤 H (𝓣 .C) (𝓣 .Λ) code.function words Post)
-  walk 𝓣 k₁ k₂ k₃ k₄ k₅ = enters-with W (params ys os us) (𝓣 .C) (𝓣 .Λ) code.function words Post _ (id⊢ 𝓤 _)
+  walk 𝓣 k₁ k₂ k₃ k₄ k₅ k₆ = enters-with W (params ys os us) (𝓣 .C) (𝓣 .Λ) code.function words Post _ (id⊢ 𝓤 _)
       (typed buses 𝓤 H A W bus _ gb, ((tt, (tt, (record { fits = g₁ .0 }, tt))), ((tt, (tt, (record { fits = g₂ .0 }, tt))), ((tt, (tt, (record { fits = g₃ .0 }, tt))), ((tt, (tt, (record { fits = g₄ .0 }, tt))), ((tt, (tt, (record { fits = g₅ .0 }, tt))), tt)))))) (λ bs.
       -- first_moment(bus, letters)
       calls-giving the-first (4 ∷ []) ! refl 𝓣 k₁ (λ ns Θ. and-then ! (loc ! tt refl) (and-then ! (loc ! tt refl) (no-more !))) tt (λ ns. refl) (λ ns m₀ w₀ l₀ so₀ gm₀.
       -- exchange(terminals, images, first)
       reborrows ! (g₁ .0) (tt, refl, refl, tt, (tt, tt), tt, refl, tt, refl, tt, tt) $
       calls-giving (the-exch m₀ gm₀) (1 ∷ 2 ∷ []) ! refl 𝓣 k₂ (λ ns Θ. and-then ! (loc ! tt refl) (and-then ! (loc ! tt refl) (and-then ! (loc ! tt refl) (no-more !)))) tt (λ ns. refl) (λ ns m w₁ l₁ so₁ gm.
-      -- heard_down(bus, moment.ds, letters)
-      calls-giving (the-down m gm) (4 ∷ []) ! refl 𝓣 k₃ (λ ns Θ. and-then ! (loc ! tt refl) (and-then ! (part ! tt refl refl refl) (and-then ! (loc ! tt refl) (no-more !)))) tt (λ ns. refl) (λ ns line w₂ l₂ so₂ gl.
-      -- listen(terminals, notes, line, bus.periods)
+      -- line_after(bus, moment, letters)
+      calls-giving (the-down m gm) (4 ∷ []) ! refl 𝓣 k₃ (λ ns Θ. and-then ! (loc ! tt refl) (and-then ! (loc ! tt refl) (and-then ! (loc ! tt refl) (no-more !)))) tt (λ ns. refl) (λ ns line w₂ l₂ so₂ gl.
+      -- listen(terminals, notes, line, periods_of(bus))
       reborrows ! (g₁ .0) (tt, refl, refl, tt, (tt, tt), tt, refl, tt, refl, tt, tt) $ reborrows ! (g₅ .0) (tt, refl, refl, tt, (tt, tt), tt, refl, tt, refl, tt, tt) $
-      calls-giving (the-listen (w₁ .0) line gl) (1 ∷ 5 ∷ []) ! refl 𝓣 k₄ (λ ns Θ. and-then ! (loc ! tt refl) (and-then ! (loc ! tt refl) (and-then ! (loc ! tt refl) (and-then ! (part ! tt refl refl refl) (no-more !))))) tt (λ ns. refl) (λ ns told w₃ l₃ so₃ gt.
+      calls-giving the-period [] ! refl 𝓣 k₄ (λ ns Θ. and-then ! (loc ! tt refl) (no-more !)) tt (λ ns. refl) (λ ns p _ _ is-p gp.
+      calls-giving (the-listen (w₁ .0) line gl p gp) (1 ∷ 5 ∷ []) ! refl 𝓣 k₅ (λ ns Θ. and-then ! (loc ! tt refl) (and-then ! (loc ! tt refl) (and-then ! (loc ! tt refl) (and-then ! (loc ! tt refl) (no-more !))))) tt (λ ns. refl) (λ ns told w₃ l₃ so₃ gt.
       -- network_side(bus, moment, octets, told)
       reborrows ! (g₃ .0) (tt, refl, refl, tt, (tt, tt), tt, refl, tt, refl, tt, tt) $
-      calls-giving (the-side m gm told) (3 ∷ []) ! refl 𝓣 k₅ (λ ns Θ. and-then ! (loc ! tt refl) (and-then ! (loc ! tt refl) (and-then ! (loc ! tt refl) (and-then ! (loc ! tt refl) (no-more !))))) tt (λ ns. refl) (λ ns r w₄ l₄ so₄ gr.
-      leaves ! Post refl tt refl (exits r (w₃ .0) (w₄ .1 .1 .0) (w₃ .1 .0) (l₃ .0 ∙ l₁ .0) (l₄ .0) (l₃ .1 .0) (promised bus ys es os ls us (even ∙ sym (l₁ .0)) so₀ so₁ so₂ so₃ so₄) gr)))))))
+      calls-giving (the-side m gm told) (3 ∷ []) ! refl 𝓣 k₆ (λ ns Θ. and-then ! (loc ! tt refl) (and-then ! (loc ! tt refl) (and-then ! (loc ! tt refl) (and-then ! (loc ! tt refl) (no-more !))))) tt (λ ns. refl) (λ ns r w₄ l₄ so₄ gr.
+      leaves ! Post refl tt refl (exits r (w₃ .0) (w₄ .1 .1 .0) (w₃ .1 .0) (l₃ .0 ∙ l₁ .0) (l₄ .0) (l₃ .1 .0) (promised bus ys es os ls us (even ∙ sym (l₁ .0)) so₀ so₁ so₂ is-p so₃ so₄) gr))))))))
 
-meets : {M : Type 1} (𝓤 : URA M) (H : Heap 𝓤) (A : Atoms 𝓤) → Given 𝓤 H A → (mem : Memory → SProp 𝓤) (run : Routine → Fun 𝓤) (𝓣 : Tables 𝓤 H) → Triple 𝓤 (𝓣 .C #first) (First 𝓤 H A mem run) → Triple 𝓤 (𝓣 .C #exch) (Exch 𝓤 H A mem run) → Triple 𝓤 (𝓣 .C #down) (Down 𝓤 H A mem run) → Triple 𝓤 (𝓣 .C #listen) (Listen 𝓤 H A mem run) → Triple 𝓤 (𝓣 .C #side) (Side 𝓤 H A mem run)
+meets : {M : Type 1} (𝓤 : URA M) (H : Heap 𝓤) (A : Atoms 𝓤) → Given 𝓤 H A → (mem : Memory → SProp 𝓤) (run : Routine → Fun 𝓤) (𝓣 : Tables 𝓤 H) → Triple 𝓤 (𝓣 .C #first) (First 𝓤 H A mem run) → Triple 𝓤 (𝓣 .C #exch) (Exch 𝓤 H A mem run) → Triple 𝓤 (𝓣 .C #down) (Down 𝓤 H A mem run) → Triple 𝓤 (𝓣 .C #period) (Period 𝓤 H A mem run) → Triple 𝓤 (𝓣 .C #listen) (Listen 𝓤 H A mem run) → Triple 𝓤 (𝓣 .C #side) (Side 𝓤 H A mem run)
     → Meets 𝓤 H A all.signature (WpFn 𝓤 H (𝓣 .C) (𝓣 .Λ) code.function) (all.spec 𝓤 H A mem run)
-meets 𝓤 H A W mem run 𝓣 k₁ k₂ k₃ k₄ k₅ =
+meets 𝓤 H A W mem run 𝓣 k₁ k₂ k₃ k₄ k₅ k₆ =
     meets-by 𝓤 H A W all.ended ways (all.clauses 𝓤 H A mem run) 𝓣 code.function (λ κs qs bounds a g are. needs 𝓤 (length (a .1 .1 .1 .1 .1 .0 .now) ≡ length (a .1 .0 .now)) _ (λ even.
     walk 𝓤 H A W mem run (spot (κs .0) (qs .0) (a .1 .0)) (spot (κs .1 .0) (qs .1 .0) (a .1 .1 .0)) (spot (κs .1 .1 .0) (qs .1 .1 .0) (a .1 .1 .1 .0)) (spot (κs .1 .1 .1 .0) (qs .1 .1 .1 .0) (a .1 .1 .1 .1 .0)) (spot (κs .1 .1 .1 .1 .0) (qs .1 .1 .1 .1 .0) (a .1 .1 .1 .1 .1 .0))
     (a .0) (a .1 .0 .now) (a .1 .1 .0 .now) (a .1 .1 .1 .0 .now) (a .1 .1 .1 .1 .0 .now) (a .1 .1 .1 .1 .1 .0 .now)
-    (are .0) (are .1 .0 .0 .1) (are .1 .1 .0 .0 .1) (are .1 .1 .1 .0 .0 .1) (are .1 .1 .1 .1 .0 .0 .1) (are .1 .1 .1 .1 .1 .0 .0 .1) even 𝓣 k₁ k₂ k₃ k₄ k₅))
+    (are .0) (are .1 .0 .0 .1) (are .1 .1 .0 .0 .1) (are .1 .1 .1 .0 .0 .1) (are .1 .1 .1 .1 .0 .0 .1) (are .1 .1 .1 .1 .1 .0 .0 .1) even 𝓣 k₁ k₂ k₃ k₄ k₅ k₆))
 
 pub step-spec : {M : Type 1} → stated.statement M
 unfolding code.routine tablesOf
@@ -225,6 +246,7 @@ step-spec 𝓤 H 𝓜 𝓖 𝓡 =
     (meets 𝓤 H (𝓖 .A) (givenOf 𝓤 H 𝓜 𝓖) (𝓜 .mem) (𝓡 .run) (tablesOf 𝓤 H 𝓜 (tables 𝓤 H 𝓜 𝓡 code.env))
     (cited 𝓤 H (First 𝓤 H (𝓖 .A) (𝓜 .mem) (𝓡 .run)) 𝓜 𝓡 code.env #first first-def.routine code.calls-bus-record·echo·first-moment (first-thm.met 𝓤 H 𝓜 𝓖 𝓡))
     (cited 𝓤 H (Exch 𝓤 H (𝓖 .A) (𝓜 .mem) (𝓡 .run)) 𝓜 𝓡 code.env #exch exch-def.routine code.calls-exchange·opportunity·exchange (exch-thm.met 𝓤 H 𝓜 𝓖 𝓡))
-    (cited 𝓤 H (Down 𝓤 H (𝓖 .A) (𝓜 .mem) (𝓡 .run)) 𝓜 𝓡 code.env #down down-def.routine code.calls-bus-record·echo·heard-down (down-thm.met 𝓤 H 𝓜 𝓖 𝓡))
+    (cited 𝓤 H (Down 𝓤 H (𝓖 .A) (𝓜 .mem) (𝓡 .run)) 𝓜 𝓡 code.env #down down-def.routine code.calls-bus-calls·step·line-after (down-thm.met 𝓤 H 𝓜 𝓖 𝓡))
+    (cited 𝓤 H (Period 𝓤 H (𝓖 .A) (𝓜 .mem) (𝓡 .run)) 𝓜 𝓡 code.env #period period-def.routine code.calls-bus-calls·fields·periods-of (period-thm.met 𝓤 H 𝓜 𝓖 𝓡))
     (cited 𝓤 H (Listen 𝓤 H (𝓖 .A) (𝓜 .mem) (𝓡 .run)) 𝓜 𝓡 code.env #listen listen-def.routine code.calls-listening·listen·listen (listen-thm.met 𝓤 H 𝓜 𝓖 𝓡))
     (cited 𝓤 H (Side 𝓤 H (𝓖 .A) (𝓜 .mem) (𝓡 .run)) 𝓜 𝓡 code.env #side side-def.routine code.calls-bus-record·side·network-side (side-thm.met 𝓤 H 𝓜 𝓖 𝓡)))
