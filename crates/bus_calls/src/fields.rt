@@ -2,6 +2,9 @@
 // itself reads writes the whole record into the proof.
 ghost use mathlib.Core.Path.{_≡_};
 use bus_record::record::BusRecord;
+use solo::alone::Alone;
+use solo::search::Search;
+use solo::solo::Solo;
 use timing::counts::Periods;
 
 // The periods that a bus has run.
@@ -9,4 +12,18 @@ pub(crate) fn periods_of(bus: BusRecord) -> Periods
     ensures { λ r. ⌜ r ≡ bus .periods ⌝ }
 {
     bus.periods
+}
+
+// The sender that a search has found.
+pub(crate) fn solo_found(found: Search) -> Solo
+    ensures { λ r. ⌜ r ≡ found .solo ⌝ }
+{
+    found.solo
+}
+
+// The sender after a run alone.
+pub(crate) fn solo_after(alone: Alone) -> Solo
+    ensures { λ r. ⌜ r ≡ alone .solo ⌝ }
+{
+    alone.solo
 }

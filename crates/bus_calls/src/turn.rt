@@ -1,8 +1,13 @@
 // A turn of a run's loop: the shortest way from here that a lemma allows.
 ghost use mathlib.Core.Path.{_≡_};
+ghost use Prim.Native.Nat.{_-_};
+ghost use lib.Dec.{eqb};
 ghost use lib.ListN.{length};
 ghost use Rattle.call_rules.specs.Kept.{kept};
 ghost use Rattle.leaps.specs.Turn.{Turns};
+use super::fields::periods_of;
+use super::fields::solo_after;
+use super::fields::solo_found;
 use super::step::step;
 use bus_record::record::BusRecord;
 use bus_record::side::Ran;
@@ -10,6 +15,7 @@ use leaps::leap::leapt;
 use leaps::reach::reach;
 use listening::hears::UnitNotes;
 use listening::silence::silence;
+use solo::alone::Alone;
 use solo::alone::run_alone;
 use solo::follow::follow;
 use solo::search::find;
@@ -27,6 +33,23 @@ fn turned(ran: Ran, over: u32) -> Turn
     ensures { λ r. ⌜ (r .ran ≡ ran) × (r .over ≡ over) ⌝ }
 {
     Turn { ran, over }
+}
+
+// Whether no period was run alone.
+fn none_run(alone: Alone) -> bool
+    ensures { λ r. ⌜ r ≡ eqb (alone .over) 0 ⌝ }
+{
+    alone.over == 0
+}
+
+// A run alone as a turn: its last period, and how many were run before it.
+fn turn_alone(alone: Alone) -> Turn
+    ensures { λ r. ⌜ (r .ran ≡ alone .ran) × (r .over ≡ alone .over - 1) ⌝ }
+{
+    if alone.over == 0 {
+        return turned(alone.ran, 0);
+    }
+    turned(alone.ran, alone.over - 1)
 }
 
 // With so many periods left to run: a step over those of a still bus, and one more.
@@ -63,16 +86,16 @@ pub(crate) fn advance(
     if in_vain(bus) {
         return leap_on(bus, terminals, images, octets, letters, notes, left);
     }
-    let found = find(terminals, bus.periods, left);
+    let found = find(terminals, periods_of(bus), left);
     let most = found.alone_for();
     if most == 0 {
         return leap_on(bus, terminals, images, octets, letters, notes, left);
     }
-    let alone = run_alone(bus, images, octets, found.solo, most);
-    if alone.over == 0 {
+    let alone = run_alone(bus, images, octets, solo_found(found), most);
+    if none_run(alone) {
         return leap_on(bus, terminals, images, octets, letters, notes, left);
     }
-    follow(terminals, alone.solo);
+    follow(terminals, solo_after(alone));
     silence(notes);
-    turned(alone.ran, alone.over - 1)
+    turn_alone(alone)
 }

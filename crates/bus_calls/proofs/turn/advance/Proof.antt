@@ -1,10 +1,10 @@
 -- `bus_calls::turn::advance` meets its contract: a walk of its MIR with the lemmas of crate `walks`. All that it knows of the functions it calls are their contracts;
 -- that a run alone is a turn is the law `alone-turns`. Assumes nothing.
-use Rattle.walks.proofs.Walk.{_≡_, refl, sym, _∙_, ap, subst, ℕ, _<_, _^_, arith, true, false, List, [], _∷_, eqb, length, URA, w32, Val, vint, SProp, ent, emp, id⊢, Memory, Routine, Heap, Tables, WpFn, Atoms, Fun, factI, givenOf, tables, tablesOf, Given, ⋆, _$_, !, lit, no-more, and-then, bin, Is, u8, u32, Room, onEntry, Meets, tripleOf, Contract, Triple, entered, cited, walkOf, loc, part, sets, leaves, returns-if, typed, uint-kind, bool-kind, unit-kind, Spot, spot, word, lends-at, shows-at, hands-at, Param, plain-of, lfts-at, shares-at, args-at, vals-of, lfts-of, shares-of, args-of, itemsOf, reborrows, Call, calls-giving, enters-with, returns-with, mut-way, shr-way, plain-way, Ways-of, stays-of, meets-by, needs}
+use Rattle.walks.proofs.Walk.{_≡_, refl, sym, _∙_, ap, subst, ℕ, _<_, _^_, arith, true, false, List, [], _∷_, eqb, length, URA, w32, Val, vint, SProp, ent, emp, id⊢, Memory, Routine, Heap, Tables, WpFn, Atoms, Fun, factI, givenOf, tables, tablesOf, Given, ⋆, _$_, !, lit, no-more, and-then, bin, Is, u8, u32, Room, onEntry, Meets, tripleOf, Contract, Triple, entered, cited, walkOf, loc, sets, leaves, returns-if, typed, uint-kind, bool-kind, unit-kind, Spot, spot, word, lends-at, shows-at, hands-at, Param, plain-of, lfts-at, shares-at, args-at, vals-of, lfts-of, shares-of, args-of, itemsOf, reborrows, Call, calls-giving, enters-with, returns-with, mut-way, shr-way, plain-way, Ways-of, stays-of, meets-by, needs}
 use Prim.Native.Nat.{_-_, _≤_}
 use borrow.Author.Tests.{eqb-true, eqb-false}
-use denote.Struct.Laws as LL
 use Rattle.walks.specs.Over.{mapFrom}
+use Rattle.timing.specs.declared.counts.Periods.{Periods}
 use Rattle.timing.proofs.counts.Periods as P
 use Rattle.terminal.specs.declared.Terminal.{Terminal}
 use Rattle.terminal.proofs.Terminal as T
@@ -13,24 +13,21 @@ use Rattle.listening.specs.declared.hears.UnitNotes.{UnitNotes}
 use Rattle.listening.proofs.hears.UnitNotes as N
 use Rattle.bus_record.specs.declared.record.BusRecord.{BusRecord}
 use Rattle.bus_record.proofs.record.BusRecord as B
-use Rattle.bus_record.proofs.record.BusRecord.Laws as B′
-use Rattle.bus_record.proofs.side.Ran as R
 use Rattle.solo.specs.Solo.{followed}
 use Rattle.solo.specs.Alone.{aloneRun, aloneRunOctets}
 use Rattle.solo.specs.Search.{searched, aloneFor, inVain}
+use Rattle.solo.specs.declared.solo.Solo.{Solo}
 use Rattle.solo.specs.declared.alone.Alone.{Alone}
 use Rattle.solo.specs.declared.search.Search.{Search}
 use Rattle.solo.proofs.solo.Solo as So
 use Rattle.solo.proofs.search.Search as Se
-use Rattle.solo.proofs.search.Search.Laws as Se′
 use Rattle.solo.proofs.alone.Alone as Al
-use Rattle.solo.proofs.alone.Alone.Laws as Al′
 use Rattle.solo.proofs.Structs.{periods, solos, searches}
 use Rattle.call_rules.specs.Kept.{kept}
 use Rattle.leaps.specs.Turn.{Turns}
 use Rattle.leaps.proofs.AloneTurns.{none-run, alone-turns}
 use Rattle.bus_calls.specs.declared.turn.Turn.{Turn}
-use Rattle.bus_calls.proofs.Structs.{buses, runs, turns, alones}
+use Rattle.bus_calls.proofs.Structs.{buses, turns, alones}
 use Rattle.bus_calls.proofs.turn.Turn as Tu
 use Rattle.solo.proofs.search.in_vain as vain
 use Rattle.solo.proofs.search.in_vain.Symbol as vain-def
@@ -56,10 +53,26 @@ use Rattle.listening.proofs.silence.silence as silence
 use Rattle.listening.proofs.silence.silence.Symbol as silence-def
 use Rattle.listening.proofs.silence.silence.Symbol.{name as #silence}
 use Rattle.listening.proofs.silence.silence.Met as silence-thm
-use Rattle.bus_calls.proofs.turn.turned as made
-use Rattle.bus_calls.proofs.turn.turned.Symbol as made-def
-use Rattle.bus_calls.proofs.turn.turned.Symbol.{name as #made}
-use Rattle.bus_calls.proofs.turn.turned.Met as made-thm
+use Rattle.bus_calls.proofs.fields.periods_of as period
+use Rattle.bus_calls.proofs.fields.periods_of.Symbol as period-def
+use Rattle.bus_calls.proofs.fields.periods_of.Symbol.{name as #period}
+use Rattle.bus_calls.proofs.fields.periods_of.Met as period-thm
+use Rattle.bus_calls.proofs.fields.solo_found as sender
+use Rattle.bus_calls.proofs.fields.solo_found.Symbol as sender-def
+use Rattle.bus_calls.proofs.fields.solo_found.Symbol.{name as #sender}
+use Rattle.bus_calls.proofs.fields.solo_found.Met as sender-thm
+use Rattle.bus_calls.proofs.fields.solo_after as after
+use Rattle.bus_calls.proofs.fields.solo_after.Symbol as after-def
+use Rattle.bus_calls.proofs.fields.solo_after.Symbol.{name as #after}
+use Rattle.bus_calls.proofs.fields.solo_after.Met as after-thm
+use Rattle.bus_calls.proofs.turn.none_run as none
+use Rattle.bus_calls.proofs.turn.none_run.Symbol as none-def
+use Rattle.bus_calls.proofs.turn.none_run.Symbol.{name as #none}
+use Rattle.bus_calls.proofs.turn.none_run.Met as none-thm
+use Rattle.bus_calls.proofs.turn.turn_alone as turn
+use Rattle.bus_calls.proofs.turn.turn_alone.Symbol as turn-def
+use Rattle.bus_calls.proofs.turn.turn_alone.Symbol.{name as #turn}
+use Rattle.bus_calls.proofs.turn.turn_alone.Met as turn-thm
 use Rattle.bus_calls.proofs.turn.leap_on as leap
 use Rattle.bus_calls.proofs.turn.leap_on.Symbol as leap-def
 use Rattle.bus_calls.proofs.turn.leap_on.Symbol.{name as #leap}
@@ -91,8 +104,20 @@ module _ {M : Type 1} (𝓤 : URA M) (H : Heap 𝓤) (A : Atoms 𝓤) (mem : Mem
   abbrev Silences : Contract 𝓤
   Silences = tripleOf 𝓤 H A silence.signature (silence.spec 𝓤 H A mem run)
 
-  abbrev Makes : Contract 𝓤
-  Makes = tripleOf 𝓤 H A made.signature (made.spec 𝓤 H A mem run)
+  abbrev Periodic : Contract 𝓤
+  Periodic = tripleOf 𝓤 H A period.signature (period.spec 𝓤 H A mem run)
+
+  abbrev Senders : Contract 𝓤
+  Senders = tripleOf 𝓤 H A sender.signature (sender.spec 𝓤 H A mem run)
+
+  abbrev Afters : Contract 𝓤
+  Afters = tripleOf 𝓤 H A after.signature (after.spec 𝓤 H A mem run)
+
+  abbrev Nones : Contract 𝓤
+  Nones = tripleOf 𝓤 H A none.signature (none.spec 𝓤 H A mem run)
+
+  abbrev Turned : Contract 𝓤
+  Turned = tripleOf 𝓤 H A turn.signature (turn.spec 𝓤 H A mem run)
 
   abbrev Leaps : Contract 𝓤
   Leaps = tripleOf 𝓤 H A leap.signature (leap.spec 𝓤 H A mem run)
@@ -104,11 +129,12 @@ record Known {M : Type 1} (𝓤 : URA M) (H : Heap 𝓤) (A : Atoms 𝓤) (mem :
   knows-alone : Triple 𝓤 (𝓣 .C #alone) (Alones 𝓤 H A mem run)
   knows-follow : Triple 𝓤 (𝓣 .C #follow) (Follows 𝓤 H A mem run)
   knows-silence : Triple 𝓤 (𝓣 .C #silence) (Silences 𝓤 H A mem run)
-  knows-made : Triple 𝓤 (𝓣 .C #made) (Makes 𝓤 H A mem run)
+  knows-period : Triple 𝓤 (𝓣 .C #period) (Periodic 𝓤 H A mem run)
+  knows-sender : Triple 𝓤 (𝓣 .C #sender) (Senders 𝓤 H A mem run)
+  knows-after : Triple 𝓤 (𝓣 .C #after) (Afters 𝓤 H A mem run)
+  knows-none : Triple 𝓤 (𝓣 .C #none) (Nones 𝓤 H A mem run)
+  knows-turn : Triple 𝓤 (𝓣 .C #turn) (Turned 𝓤 H A mem run)
   knows-leap : Triple 𝓤 (𝓣 .C #leap) (Leaps 𝓤 H A mem run)
-
-less : (n : ℕ) → n < 2 ^ 32 → n - 1 < 2 ^ 32
-less n l = omega arith
 
 -- ---- What the calls say, over the lists that are lent.
 module _ (bus : BusRecord) (ys : List Terminal) (es os ls : List ℕ) (us : List UnitNotes) (left : ℕ) where
@@ -116,23 +142,23 @@ module _ (bus : BusRecord) (ys : List Terminal) (es os ls : List ℕ) (us : List
   abbrev Promised : List ℕ → Turn → List Terminal → List ℕ → List UnitNotes → Type 0
   Promised octets r ts octs ns = Turns left (kept bus ys es octets ls us) (r .ran) (r .over) (kept (r .ran .bus) ts es octs ls ns)
 
-  abbrev RunsAlone : Search → ℕ → Alone → List ℕ → Type 0
-  RunsAlone found most a octets = (a ≡ aloneRun es most bus (found .solo) os) × (octets ≡ aloneRunOctets es most bus (found .solo) os)
+  abbrev RunsAlone : Solo → ℕ → Alone → List ℕ → Type 0
+  RunsAlone b most a octets = (a ≡ aloneRun es most bus b os) × (octets ≡ aloneRunOctets es most bus b os)
 
-  module _ (found : Search) (most : ℕ) (a : Alone) (octets : List ℕ) (ran : RunsAlone found most a octets) where
+  module _ (b : Solo) (most : ℕ) (a : Alone) (octets : List ℕ) (ran : RunsAlone b most a octets) where
     -- no period has been run alone
     none-alone : eqb (a .over) 0 ≡ true → octets ≡ os
-    none-alone z = ran .1 ∙ none-run es most bus (found .solo) os (ap (λ (x : Alone). x .over) (sym (ran .0)) ∙ eqb-true (a .over) 0 z)
+    none-alone z = ran .1 ∙ none-run es most bus b os (ap (λ (x : Alone). x .over) (sym (ran .0)) ∙ eqb-true (a .over) 0 z)
 
     some-alone : eqb (a .over) 0 ≡ false → 1 ≤ a .over
     some-alone z = omega (arith, eqb-false (a .over) 0 z)
 
-    alone-promised : found ≡ searched (bus .periods) left ys → most ≡ aloneFor found → eqb most 0 ≡ false → eqb (a .over) 0 ≡ false → (t : Turn) → (t .ran ≡ a .ran) × (t .over ≡ a .over - 1)
+    alone-promised : (found : Search) → found ≡ searched (bus .periods) left ys → b ≡ found .solo → most ≡ aloneFor found → eqb most 0 ≡ false → eqb (a .over) 0 ≡ false → (t : Turn) → (t .ran ≡ a .ran) × (t .over ≡ a .over - 1)
         → (ts : List Terminal) → ts ≡ mapFrom (followed (a .solo)) 0 ys → (ns : List UnitNotes) → ns ≡ mapFrom silenced 0 us → Promised os t ts octets ns
-    alone-promised is-found is-most some over t is-t ts is-ts ns is-ns =
+    alone-promised found is-found is-b is-most some over t is-t ts is-ts ns is-ns =
         let k = kept bus ys es os ls us in
         let m : most ≡ aloneFor (searched (bus .periods) left ys) = is-most ∙ ap aloneFor is-found in
-        let s : found .solo ≡ searched (bus .periods) left ys .solo = ap (λ (x : Search). x .solo) is-found in
+        let s : b ≡ searched (bus .periods) left ys .solo = is-b ∙ ap (λ (x : Search). x .solo) is-found in
         let r : a ≡ aloneRun es (aloneFor (searched (bus .periods) left ys)) bus (searched (bus .periods) left ys .solo) os = rw (m, s) at (ran .0) in
         let o : octets ≡ aloneRunOctets es (aloneFor (searched (bus .periods) left ys)) bus (searched (bus .periods) left ys .solo) os = rw (m, s) at (ran .1) in
         let search : 0 < aloneFor (searched (bus .periods) left ys) = omega (arith, m, eqb-false most 0 some) in
@@ -176,19 +202,35 @@ module _ {M : Type 1} (𝓤 : URA M) (H : Heap 𝓤) (A : Atoms 𝓤) (W : Given
     ensured = λ ns r ws. id⊢ 𝓤 _;
   }
 
-  abbrev to-find : List Param
-  to-find = shows-at 0 T.the-row s₁ (length ys) ys ∷ plain-of P.the-row periods (bus .periods) (LL.owed B.the-type B′.the-laws bus _ gb .1 .0) ∷ plain-of u32 (uint-kind w32) left (refl, gl) ∷ []
+  abbrev to-period : List Param
+  to-period = plain-of B.the-row buses bus gb ∷ []
 
-  abbrev the-find : Call W to-find find.ended (find.clauses 𝓤 H A mem run)
-  the-find = record {
-    bound = λ ns. ((lfts-of to-find ns, shares-of to-find, tt, args-of to-find ns, vals-of to-find), tt);
+  abbrev the-period : Call W to-period period.ended (period.clauses 𝓤 H A mem run)
+  the-period = record {
+    bound = λ ns. ((lfts-of to-period ns, shares-of to-period, tt, args-of to-period ns, vals-of to-period), tt);
+    asks = λ ns. id⊢ 𝓤 _;
+    needed = λ ns. id⊢ 𝓤 _;
+    tokens = λ ns. id⊢ 𝓤 _;
+    last = λ ns ws. ws;
+    finals = λ ns ws. id⊢ 𝓤 _;
+    result = λ ns. periods;
+    Said = λ ns p ws. p ≡ bus .periods;
+    ensured = λ ns p ws. id⊢ 𝓤 _;
+  }
+
+  abbrev to-find : (p : Periods) (gp : Is P.the-row p (periods .val p ∷ [])) → List Param
+  to-find p gp = shows-at 0 T.the-row s₁ (length ys) ys ∷ plain-of P.the-row periods p gp ∷ plain-of u32 (uint-kind w32) left (refl, gl) ∷ []
+
+  abbrev the-find : (p : Periods) (gp : Is P.the-row p (periods .val p ∷ [])) → Call W (to-find p gp) find.ended (find.clauses 𝓤 H A mem run)
+  the-find p gp = record {
+    bound = λ ns. ((lfts-of (to-find p gp) ns, shares-of (to-find p gp), tt, args-of (to-find p gp) ns, vals-of (to-find p gp)), tt);
     asks = λ ns. id⊢ 𝓤 _;
     needed = λ ns. id⊢ 𝓤 _;
     tokens = λ ns. id⊢ 𝓤 _;
     last = λ ns ws. ws;
     finals = λ ns ws. id⊢ 𝓤 _;
     result = λ ns. searches;
-    Said = λ ns r ws. r ≡ searched (bus .periods) left ys;
+    Said = λ ns r ws. r ≡ searched p left ys;
     ensured = λ ns r ws. id⊢ 𝓤 _;
   }
 
@@ -208,35 +250,83 @@ module _ {M : Type 1} (𝓤 : URA M) (H : Heap 𝓤) (A : Atoms 𝓤) (W : Given
     ensured = λ ns r ws. id⊢ 𝓤 _;
   }
 
-  abbrev to-alone : (f : Search) (gf : Is Se.the-row f (searches .val f ∷ [])) → (m : ℕ) (gm : m < 2 ^ 32) → List Param
-  to-alone f gf m gm = plain-of B.the-row buses bus gb ∷ hands-at 1 u8 s₂ (length es) es ∷ lends-at 2 u8 s₃ (length os) os ∷ plain-of So.the-row solos (f .solo) (LL.owed Se.the-type Se′.the-laws f _ gf .0) ∷ plain-of u32 (uint-kind w32) m (refl, gm) ∷ []
+  abbrev to-sender : (f : Search) (gf : Is Se.the-row f (searches .val f ∷ [])) → List Param
+  to-sender f gf = plain-of Se.the-row searches f gf ∷ []
 
-  abbrev the-alone : (f : Search) (gf : Is Se.the-row f (searches .val f ∷ [])) → (m : ℕ) (gm : m < 2 ^ 32) → Call W (to-alone f gf m gm) alone.ended (alone.clauses 𝓤 H A mem run)
-  the-alone f gf m gm = record {
-    bound = λ ns. ((lfts-of (to-alone f gf m gm) ns, shares-of (to-alone f gf m gm), tt, args-of (to-alone f gf m gm) ns, vals-of (to-alone f gf m gm)), tt);
+  abbrev the-sender : (f : Search) (gf : Is Se.the-row f (searches .val f ∷ [])) → Call W (to-sender f gf) sender.ended (sender.clauses 𝓤 H A mem run)
+  the-sender f gf = record {
+    bound = λ ns. ((lfts-of (to-sender f gf) ns, shares-of (to-sender f gf), tt, args-of (to-sender f gf) ns, vals-of (to-sender f gf)), tt);
+    asks = λ ns. id⊢ 𝓤 _;
+    needed = λ ns. id⊢ 𝓤 _;
+    tokens = λ ns. id⊢ 𝓤 _;
+    last = λ ns ws. ws;
+    finals = λ ns ws. id⊢ 𝓤 _;
+    result = λ ns. solos;
+    Said = λ ns b ws. b ≡ f .solo;
+    ensured = λ ns b ws. id⊢ 𝓤 _;
+  }
+
+  abbrev to-alone : (b : Solo) (gs : Is So.the-row b (solos .val b ∷ [])) (m : ℕ) (gm : m < 2 ^ 32) → List Param
+  to-alone b gs m gm = plain-of B.the-row buses bus gb ∷ hands-at 1 u8 s₂ (length es) es ∷ lends-at 2 u8 s₃ (length os) os ∷ plain-of So.the-row solos b gs ∷ plain-of u32 (uint-kind w32) m (refl, gm) ∷ []
+
+  abbrev the-alone : (b : Solo) (gs : Is So.the-row b (solos .val b ∷ [])) (m : ℕ) (gm : m < 2 ^ 32) → Call W (to-alone b gs m gm) alone.ended (alone.clauses 𝓤 H A mem run)
+  the-alone b gs m gm = record {
+    bound = λ ns. ((lfts-of (to-alone b gs m gm) ns, shares-of (to-alone b gs m gm), tt, args-of (to-alone b gs m gm) ns, vals-of (to-alone b gs m gm)), tt);
     asks = λ ns. id⊢ 𝓤 _;
     needed = λ ns. id⊢ 𝓤 _;
     tokens = λ ns. id⊢ 𝓤 _;
     last = λ ns ws. ws;
     finals = λ ns ws. id⊢ 𝓤 _;
     result = λ ns. alones;
-    Said = λ ns r ws. RunsAlone bus ys es os ls us left f m r (ws .1 .1 .0);
+    Said = λ ns r ws. RunsAlone bus ys es os ls us left b m r (ws .1 .1 .0);
     ensured = λ ns r ws. id⊢ 𝓤 _;
   }
 
-  abbrev to-follow : (a : Alone) (ga : Is Al.the-row a (alones .val a ∷ [])) → List Param
-  to-follow a ga = lends-at 0 T.the-row s₁ (length ys) ys ∷ plain-of So.the-row solos (a .solo) (LL.owed Al.the-type Al′.the-laws a _ ga .1 .0) ∷ []
+  abbrev to-none : (a : Alone) (ga : Is Al.the-row a (alones .val a ∷ [])) → List Param
+  to-none a ga = plain-of Al.the-row alones a ga ∷ []
 
-  abbrev the-follow : (a : Alone) (ga : Is Al.the-row a (alones .val a ∷ [])) → Call W (to-follow a ga) follow.ended (follow.clauses 𝓤 H A mem run)
-  the-follow a ga = record {
-    bound = λ ns. ((lfts-of (to-follow a ga) ns, shares-of (to-follow a ga), tt, args-of (to-follow a ga) ns, vals-of (to-follow a ga)), tt);
+  abbrev the-none : (a : Alone) (ga : Is Al.the-row a (alones .val a ∷ [])) → Call W (to-none a ga) none.ended (none.clauses 𝓤 H A mem run)
+  the-none a ga = record {
+    bound = λ ns. ((lfts-of (to-none a ga) ns, shares-of (to-none a ga), tt, args-of (to-none a ga) ns, vals-of (to-none a ga)), tt);
+    asks = λ ns. id⊢ 𝓤 _;
+    needed = λ ns. id⊢ 𝓤 _;
+    tokens = λ ns. id⊢ 𝓤 _;
+    last = λ ns ws. ws;
+    finals = λ ns ws. id⊢ 𝓤 _;
+    result = λ ns. bool-kind;
+    Said = λ ns z ws. z ≡ eqb (a .over) 0;
+    ensured = λ ns z ws. id⊢ 𝓤 _;
+  }
+
+  abbrev to-after : (a : Alone) (ga : Is Al.the-row a (alones .val a ∷ [])) → List Param
+  to-after a ga = plain-of Al.the-row alones a ga ∷ []
+
+  abbrev the-after : (a : Alone) (ga : Is Al.the-row a (alones .val a ∷ [])) → Call W (to-after a ga) after.ended (after.clauses 𝓤 H A mem run)
+  the-after a ga = record {
+    bound = λ ns. ((lfts-of (to-after a ga) ns, shares-of (to-after a ga), tt, args-of (to-after a ga) ns, vals-of (to-after a ga)), tt);
+    asks = λ ns. id⊢ 𝓤 _;
+    needed = λ ns. id⊢ 𝓤 _;
+    tokens = λ ns. id⊢ 𝓤 _;
+    last = λ ns ws. ws;
+    finals = λ ns ws. id⊢ 𝓤 _;
+    result = λ ns. solos;
+    Said = λ ns b ws. b ≡ a .solo;
+    ensured = λ ns b ws. id⊢ 𝓤 _;
+  }
+
+  abbrev to-follow : (b : Solo) (gs : Is So.the-row b (solos .val b ∷ [])) → List Param
+  to-follow b gs = lends-at 0 T.the-row s₁ (length ys) ys ∷ plain-of So.the-row solos b gs ∷ []
+
+  abbrev the-follow : (b : Solo) (gs : Is So.the-row b (solos .val b ∷ [])) → Call W (to-follow b gs) follow.ended (follow.clauses 𝓤 H A mem run)
+  the-follow b gs = record {
+    bound = λ ns. ((lfts-of (to-follow b gs) ns, shares-of (to-follow b gs), tt, args-of (to-follow b gs) ns, vals-of (to-follow b gs)), tt);
     asks = λ ns. id⊢ 𝓤 _;
     needed = λ ns. id⊢ 𝓤 _;
     tokens = λ ns. id⊢ 𝓤 _;
     last = λ ns ws. ws;
     finals = λ ns ws. id⊢ 𝓤 _;
     result = λ ns. unit-kind;
-    Said = λ ns r ws. ws .0 ≡ mapFrom (followed (a .solo)) 0 ys;
+    Said = λ ns r ws. ws .0 ≡ mapFrom (followed b) 0 ys;
     ensured = λ ns r ws. id⊢ 𝓤 _;
   }
 
@@ -256,20 +346,20 @@ module _ {M : Type 1} (𝓤 : URA M) (H : Heap 𝓤) (A : Atoms 𝓤) (W : Given
     ensured = λ ns r ws. id⊢ 𝓤 _;
   }
 
-  abbrev to-made : (a : Alone) (ga : Is Al.the-row a (alones .val a ∷ [])) → (n : ℕ) (gn : n < 2 ^ 32) → List Param
-  to-made a ga n gn = plain-of R.the-row runs (a .ran) (LL.owed Al.the-type Al′.the-laws a _ ga .0) ∷ plain-of u32 (uint-kind w32) n (refl, gn) ∷ []
+  abbrev to-turn : (a : Alone) (ga : Is Al.the-row a (alones .val a ∷ [])) → List Param
+  to-turn a ga = plain-of Al.the-row alones a ga ∷ []
 
-  abbrev the-made : (a : Alone) (ga : Is Al.the-row a (alones .val a ∷ [])) → (n : ℕ) (gn : n < 2 ^ 32) → Call W (to-made a ga n gn) made.ended (made.clauses 𝓤 H A mem run)
-  the-made a ga n gn = record {
-    bound = λ ns. ((lfts-of (to-made a ga n gn) ns, shares-of (to-made a ga n gn), tt, args-of (to-made a ga n gn) ns, vals-of (to-made a ga n gn)), tt);
+  abbrev the-turn : (a : Alone) (ga : Is Al.the-row a (alones .val a ∷ [])) → Call W (to-turn a ga) turn.ended (turn.clauses 𝓤 H A mem run)
+  the-turn a ga = record {
+    bound = λ ns. ((lfts-of (to-turn a ga) ns, shares-of (to-turn a ga), tt, args-of (to-turn a ga) ns, vals-of (to-turn a ga)), tt);
     asks = λ ns. id⊢ 𝓤 _;
     needed = λ ns. id⊢ 𝓤 _;
     tokens = λ ns. id⊢ 𝓤 _;
     last = λ ns ws. ws;
     finals = λ ns ws. id⊢ 𝓤 _;
     result = λ ns. turns;
-    Said = λ ns r ws. (r .ran ≡ a .ran) × (r .over ≡ n);
-    ensured = λ ns r ws. id⊢ 𝓤 _;
+    Said = λ ns t ws. (t .ran ≡ a .ran) × (t .over ≡ a .over - 1);
+    ensured = λ ns t ws. id⊢ 𝓤 _;
   }
 
   abbrev to-leap : (octets : List ℕ) → List Param
@@ -297,9 +387,10 @@ module _ {M : Type 1} (𝓤 : URA M) (H : Heap 𝓤) (A : Atoms 𝓤) (W : Given
       (λ _ X ret. reborrows ! (g₁ .0) (tt, refl, refl, tt, (tt, tt), tt, refl, tt, refl, tt, tt) $ reborrows ! (g₃ .0) (tt, refl, refl, tt, (tt, tt), tt, refl, tt, refl, tt, tt) $ reborrows ! (g₅ .0) (tt, refl, refl, tt, (tt, tt), tt, refl, tt, refl, tt, tt) $
       calls-giving (the-leap os) (1 ∷ 2 ∷ 3 ∷ 4 ∷ 5 ∷ []) ! refl 𝓣 (known .knows-leap) (λ ns Θ. and-then ! (loc ! tt refl) (and-then ! (loc ! tt refl) (and-then ! (loc ! tt refl) (and-then ! (loc ! tt refl) (and-then ! (loc ! tt refl) (and-then ! (loc ! tt refl) (and-then ! (loc ! tt refl) (no-more !)))))))) tt (λ ns. refl) (λ ns t w l so gt.
       leaves ! Post ret tt refl (exits t (w .1 .0) (w .1 .1 .1 .0) (w .1 .1 .1 .1 .1 .0) (l .0) (l .1 .0) (l .1 .1 .0) so gt)))
-      -- find(terminals, bus.periods, left)
+      -- find(terminals, periods_of(bus), left)
       (λ _. reborrows ! (g₁ .0) (tt, refl, refl, tt, (tt, tt), tt, refl, tt, refl, tt, tt) $
-      calls-giving the-find (1 ∷ []) ! refl 𝓣 (known .knows-find) (λ ns Θ. and-then ! (loc ! tt refl) (and-then ! (part ! tt refl refl refl) (and-then ! (loc ! tt refl) (no-more !)))) tt (λ ns. refl) (λ ns f _ _ is-f gf.
+      calls-giving the-period [] ! refl 𝓣 (known .knows-period) (λ ns Θ. and-then ! (loc ! tt refl) (no-more !)) tt (λ ns. refl) (λ ns p _ _ is-p gp.
+      calls-giving (the-find p gp) (1 ∷ []) ! refl 𝓣 (known .knows-find) (λ ns Θ. and-then ! (loc ! tt refl) (and-then ! (loc ! tt refl) (and-then ! (loc ! tt refl) (no-more !)))) tt (λ ns. refl) (λ ns f _ _ is-f gf.
       -- found.alone_for()
       calls-giving (the-most f gf) [] ! refl 𝓣 (known .knows-most) (λ ns Θ. and-then ! (loc ! tt refl) (no-more !)) tt (λ ns. refl) (λ ns m _ _ is-m gm.
       sets ! (bin ! (loc ! tt refl) (lit ! tt) tt) tt (tt, tt) $
@@ -307,24 +398,27 @@ module _ {M : Type 1} (𝓤 : URA M) (H : Heap 𝓤) (A : Atoms 𝓤) (W : Given
       (λ _ X ret. reborrows ! (g₁ .0) (tt, refl, refl, tt, (tt, tt), tt, refl, tt, refl, tt, tt) $ reborrows ! (g₃ .0) (tt, refl, refl, tt, (tt, tt), tt, refl, tt, refl, tt, tt) $ reborrows ! (g₅ .0) (tt, refl, refl, tt, (tt, tt), tt, refl, tt, refl, tt, tt) $
       calls-giving (the-leap os) (1 ∷ 2 ∷ 3 ∷ 4 ∷ 5 ∷ []) ! refl 𝓣 (known .knows-leap) (λ ns Θ. and-then ! (loc ! tt refl) (and-then ! (loc ! tt refl) (and-then ! (loc ! tt refl) (and-then ! (loc ! tt refl) (and-then ! (loc ! tt refl) (and-then ! (loc ! tt refl) (and-then ! (loc ! tt refl) (no-more !)))))))) tt (λ ns. refl) (λ ns t w l so gt.
       leaves ! Post ret tt refl (exits t (w .1 .0) (w .1 .1 .1 .0) (w .1 .1 .1 .1 .1 .0) (l .0) (l .1 .0) (l .1 .1 .0) so gt)))
-      -- run_alone(bus, images, octets, found.solo, most)
+      -- run_alone(bus, images, octets, solo_found(found), most)
       (λ some. reborrows ! (g₃ .0) (tt, refl, refl, tt, (tt, tt), tt, refl, tt, refl, tt, tt) $
-      calls-giving (the-alone f gf m (gm .1)) (2 ∷ 3 ∷ []) ! refl 𝓣 (known .knows-alone) (λ ns Θ. and-then ! (loc ! tt refl) (and-then ! (loc ! tt refl) (and-then ! (loc ! tt refl) (and-then ! (part ! tt refl refl refl) (and-then ! (loc ! tt refl) (no-more !)))))) tt (λ ns. refl) (λ ns a wa la ran ga.
-      sets ! (bin ! (part ! tt refl refl refl) (lit ! tt) tt) tt (tt, tt) $
+      calls-giving (the-sender f gf) [] ! refl 𝓣 (known .knows-sender) (λ ns Θ. and-then ! (loc ! tt refl) (no-more !)) tt (λ ns. refl) (λ ns b _ _ is-b gs.
+      calls-giving (the-alone b gs m (gm .1)) (2 ∷ 3 ∷ []) ! refl 𝓣 (known .knows-alone) (λ ns Θ. and-then ! (loc ! tt refl) (and-then ! (loc ! tt refl) (and-then ! (loc ! tt refl) (and-then ! (loc ! tt refl) (and-then ! (loc ! tt refl) (no-more !)))))) tt (λ ns. refl) (λ ns a wa la ran ga.
+      -- none_run(alone)
+      calls-giving (the-none a ga) [] ! refl 𝓣 (known .knows-none) (λ ns Θ. and-then ! (loc ! tt refl) (no-more !)) tt (λ ns. refl) (λ ns z _ _ is-z _.
       returns-if ! tt refl
       (λ none X ret. reborrows ! (g₁ .0) (tt, refl, refl, tt, (tt, tt), tt, refl, tt, refl, tt, tt) $ reborrows ! (g₃ .0) (tt, refl, refl, tt, (tt, tt), tt, refl, tt, refl, tt, tt) $ reborrows ! (g₅ .0) (tt, refl, refl, tt, (tt, tt), tt, refl, tt, refl, tt, tt) $
       calls-giving (the-leap (wa .1 .1 .0)) (1 ∷ 2 ∷ 3 ∷ 4 ∷ 5 ∷ []) ! refl 𝓣 (known .knows-leap) (λ ns Θ. and-then ! (loc ! tt refl) (and-then ! (loc ! tt refl) (and-then ! (loc ! tt refl) (and-then ! (loc ! tt refl) (and-then ! (loc ! tt refl) (and-then ! (loc ! tt refl) (and-then ! (loc ! tt refl) (no-more !)))))))) tt (λ ns. refl) (λ ns t w l so gt.
-      leaves ! Post ret tt refl (exits t (w .1 .0) (w .1 .1 .1 .0) (w .1 .1 .1 .1 .1 .0) (l .0) (l .1 .0 ∙ la .0) (l .1 .1 .0) (subst (λ (octets : List ℕ). Promised bus ys es os ls us left octets t (w .1 .0) (w .1 .1 .1 .0) (w .1 .1 .1 .1 .1 .0)) (none-alone bus ys es os ls us left f m a (wa .1 .1 .0) ran none) so) gt)))
-      -- follow(terminals, alone.solo)
+      leaves ! Post ret tt refl (exits t (w .1 .0) (w .1 .1 .1 .0) (w .1 .1 .1 .1 .1 .0) (l .0) (l .1 .0 ∙ la .0) (l .1 .1 .0) (subst (λ (octets : List ℕ). Promised bus ys es os ls us left octets t (w .1 .0) (w .1 .1 .1 .0) (w .1 .1 .1 .1 .1 .0)) (none-alone bus ys es os ls us left b m a (wa .1 .1 .0) ran (sym is-z ∙ none)) so) gt)))
+      -- follow(terminals, solo_after(alone))
       (λ over. reborrows ! (g₁ .0) (tt, refl, refl, tt, (tt, tt), tt, refl, tt, refl, tt, tt) $
-      calls-giving (the-follow a ga) (1 ∷ []) ! refl 𝓣 (known .knows-follow) (λ ns Θ. and-then ! (loc ! tt refl) (and-then ! (part ! tt refl refl refl) (no-more !))) tt (λ ns. refl) (λ ns _ wf lf is-f′ _.
+      calls-giving (the-after a ga) [] ! refl 𝓣 (known .knows-after) (λ ns Θ. and-then ! (loc ! tt refl) (no-more !)) tt (λ ns. refl) (λ ns c _ _ is-c gc.
+      calls-giving (the-follow c gc) (1 ∷ []) ! refl 𝓣 (known .knows-follow) (λ ns Θ. and-then ! (loc ! tt refl) (and-then ! (loc ! tt refl) (no-more !))) tt (λ ns. refl) (λ ns _ wf lf is-f′ _.
       -- silence(notes)
       reborrows ! (g₅ .0) (tt, refl, refl, tt, (tt, tt), tt, refl, tt, refl, tt, tt) $
       calls-giving the-silence (5 ∷ []) ! refl 𝓣 (known .knows-silence) (λ ns Θ. and-then ! (loc ! tt refl) (no-more !)) tt (λ ns. refl) (λ ns _ wn ln is-n _.
-      -- turned(alone.ran, alone.over - 1)
-      sets ! (bin ! (part ! tt refl refl refl) (lit ! tt) (some-alone bus ys es os ls us left f m a (wa .1 .1 .0) ran over)) tt (tt, record { fits = less (a .over) (LL.owed Al.the-type Al′.the-laws a _ ga .1 .1 .0 .1) }) $
-      calls-giving (the-made a ga (a .over - 1) (less (a .over) (LL.owed Al.the-type Al′.the-laws a _ ga .1 .1 .0 .1))) [] ! refl 𝓣 (known .knows-made) (λ ns Θ. and-then ! (part ! tt refl refl refl) (and-then ! (loc ! tt refl) (no-more !))) tt (λ ns. refl) (λ ns t _ _ is-t gt.
-      leaves ! Post refl tt refl (exits t (wf .0) (wa .1 .1 .0) (wn .0) (lf .0) (la .0) (ln .0) (alone-promised bus ys es os ls us left f m a (wa .1 .1 .0) ran is-f is-m some over t is-t (wf .0) is-f′ (wn .0) is-n) gt))))))))))))
+      -- turn_alone(alone)
+      calls-giving (the-turn a ga) [] ! refl 𝓣 (known .knows-turn) (λ ns Θ. and-then ! (loc ! tt refl) (no-more !)) tt (λ ns. refl) (λ ns t _ _ is-t gt.
+      leaves ! Post refl tt refl (exits t (wf .0) (wa .1 .1 .0) (wn .0) (lf .0) (la .0) (ln .0)
+      (alone-promised bus ys es os ls us left b m a (wa .1 .1 .0) ran f (is-f ∙ ap (λ (q : Periods). searched q left ys) is-p) is-b is-m some (sym is-z ∙ over) t is-t (wf .0) (is-f′ ∙ ap (λ (q : Solo). mapFrom (followed q) 0 ys) is-c) (wn .0) is-n) gt))))))))))))))))
 
 meets : {M : Type 1} (𝓤 : URA M) (H : Heap 𝓤) (A : Atoms 𝓤) → Given 𝓤 H A → (mem : Memory → SProp 𝓤) (run : Routine → Fun 𝓤) (𝓣 : Tables 𝓤 H) → Known 𝓤 H A mem run 𝓣 → Meets 𝓤 H A all.signature (WpFn 𝓤 H (𝓣 .C) (𝓣 .Λ) code.function) (all.spec 𝓤 H A mem run)
 meets 𝓤 H A W mem run 𝓣 known =
@@ -346,6 +440,10 @@ advance-spec 𝓤 H 𝓜 𝓖 𝓡 =
       knows-alone = cited 𝓤 H (Alones 𝓤 H (𝓖 .A) (𝓜 .mem) (𝓡 .run)) 𝓜 𝓡 code.env #alone alone-def.routine code.calls-solo·alone·run-alone (alone-thm.met 𝓤 H 𝓜 𝓖 𝓡);
       knows-follow = cited 𝓤 H (Follows 𝓤 H (𝓖 .A) (𝓜 .mem) (𝓡 .run)) 𝓜 𝓡 code.env #follow follow-def.routine code.calls-solo·follow·follow (follow-thm.met 𝓤 H 𝓜 𝓖 𝓡);
       knows-silence = cited 𝓤 H (Silences 𝓤 H (𝓖 .A) (𝓜 .mem) (𝓡 .run)) 𝓜 𝓡 code.env #silence silence-def.routine code.calls-listening·silence·silence (silence-thm.met 𝓤 H 𝓜 𝓖 𝓡);
-      knows-made = cited 𝓤 H (Makes 𝓤 H (𝓖 .A) (𝓜 .mem) (𝓡 .run)) 𝓜 𝓡 code.env #made made-def.routine code.calls-bus-calls·turn·turned (made-thm.met 𝓤 H 𝓜 𝓖 𝓡);
+      knows-period = cited 𝓤 H (Periodic 𝓤 H (𝓖 .A) (𝓜 .mem) (𝓡 .run)) 𝓜 𝓡 code.env #period period-def.routine code.calls-bus-calls·fields·periods-of (period-thm.met 𝓤 H 𝓜 𝓖 𝓡);
+      knows-sender = cited 𝓤 H (Senders 𝓤 H (𝓖 .A) (𝓜 .mem) (𝓡 .run)) 𝓜 𝓡 code.env #sender sender-def.routine code.calls-bus-calls·fields·solo-found (sender-thm.met 𝓤 H 𝓜 𝓖 𝓡);
+      knows-after = cited 𝓤 H (Afters 𝓤 H (𝓖 .A) (𝓜 .mem) (𝓡 .run)) 𝓜 𝓡 code.env #after after-def.routine code.calls-bus-calls·fields·solo-after (after-thm.met 𝓤 H 𝓜 𝓖 𝓡);
+      knows-none = cited 𝓤 H (Nones 𝓤 H (𝓖 .A) (𝓜 .mem) (𝓡 .run)) 𝓜 𝓡 code.env #none none-def.routine code.calls-bus-calls·turn·none-run (none-thm.met 𝓤 H 𝓜 𝓖 𝓡);
+      knows-turn = cited 𝓤 H (Turned 𝓤 H (𝓖 .A) (𝓜 .mem) (𝓡 .run)) 𝓜 𝓡 code.env #turn turn-def.routine code.calls-bus-calls·turn·turn-alone (turn-thm.met 𝓤 H 𝓜 𝓖 𝓡);
       knows-leap = cited 𝓤 H (Leaps 𝓤 H (𝓖 .A) (𝓜 .mem) (𝓡 .run)) 𝓜 𝓡 code.env #leap leap-def.routine code.calls-bus-calls·turn·leap-on (leap-thm.met 𝓤 H 𝓜 𝓖 𝓡);
     }))
