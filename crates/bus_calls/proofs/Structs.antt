@@ -1,8 +1,6 @@
 -- The structs of the walks, each once: its laws as a `Kind`, and of a slice's element also its size and what stands past the end.
 use mathlib.Core.Path.{refl}
 use Rattle.walks.proofs.Slices.{Kind, Element, struct-kind}
-use Rattle.cells.proofs.notes.Notes as Notes
-use Rattle.cells.proofs.notes.Notes.Laws as Notes′
 use Rattle.timing.proofs.counts.Periods as Periods
 use Rattle.timing.proofs.counts.Periods.Laws as Periods′
 use Rattle.terminal.specs.Terminal.{fresh}
@@ -29,9 +27,6 @@ buses = struct-kind Bus.the-type Bus′.the-laws Bus′.the-plain Bus′.the-cop
 
 abbrev pub runs : Kind Ran.the-row
 runs = struct-kind Ran.the-type Ran′.the-laws Ran′.the-plain Ran′.the-copy Ran′.mir refl
-
-abbrev pub notes : Kind Notes.the-row
-notes = struct-kind Notes.the-type Notes′.the-laws Notes′.the-plain Notes′.the-copy Notes′.mir refl
 
 abbrev pub periods : Kind Periods.the-row
 periods = struct-kind Periods.the-type Periods′.the-laws Periods′.the-plain Periods′.the-copy Periods′.mir refl

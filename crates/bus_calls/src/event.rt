@@ -5,6 +5,8 @@ ghost use Prim.Native.Nat.{_-_};
 ghost use Rattle.cells.specs.Notes.{packedNotes};
 ghost use Rattle.bus_event.specs.Event.{told};
 ghost use Rattle.call_rules.specs.Event.{eventTold, terminalsAfter, imagesAfter, lettersAfter};
+use super::fields::periods_of;
+use super::fields::terminal_of;
 use super::ready::in_range;
 use bus_event::event::Told;
 use bus_event::event::first_reason;
@@ -14,12 +16,20 @@ use bus_event::event::terminal_event;
 use bus_record::record::BusRecord;
 use cells::cell::NO_NOTES;
 use terminal::Terminal;
+use terminal::TerminalStep;
 
 // The call turned down.
 fn refused(bus: BusRecord, reply: u8) -> Told
     ensures { λ r. ⌜ r ≡ told bus (packedNotes []) reply ⌝ }
 {
     replied(bus, NO_NOTES, reply)
+}
+
+// The record as it is, with the notes and the reply of a terminal's step.
+fn replied_by(bus: BusRecord, step: TerminalStep) -> Told
+    ensures { λ r. ⌜ r ≡ told bus (step .notes) (step .reply) ⌝ }
+{
+    replied(bus, step.notes, step.reply)
 }
 
 // The index of a terminal, from its unit.
@@ -51,7 +61,7 @@ pub fn event(
     }
     let i = index_of(unit);
     let t = terminals[i];
-    let s = terminal_event(t, images, i, event, value, bus.periods);
-    terminals[i] = s.terminal;
-    replied(bus, s.notes, s.reply)
+    let s = terminal_event(t, images, i, event, value, periods_of(bus));
+    terminals[i] = terminal_of(s);
+    replied_by(bus, s)
 }

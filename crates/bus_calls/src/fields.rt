@@ -5,6 +5,8 @@ use bus_record::record::BusRecord;
 use solo::alone::Alone;
 use solo::search::Search;
 use solo::solo::Solo;
+use terminal::Terminal;
+use terminal::TerminalStep;
 use timing::counts::Periods;
 
 // The periods that a bus has run.
@@ -26,4 +28,11 @@ pub(crate) fn solo_after(alone: Alone) -> Solo
     ensures { λ r. ⌜ r ≡ alone .solo ⌝ }
 {
     alone.solo
+}
+
+// The terminal after an event.
+pub(crate) fn terminal_of(step: TerminalStep) -> Terminal
+    ensures { λ r. ⌜ r ≡ step .terminal ⌝ }
+{
+    step.terminal
 }

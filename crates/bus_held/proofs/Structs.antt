@@ -3,6 +3,8 @@ use mathlib.Core.Path.{refl}
 use denote.Array.{Array}
 use Rattle.walks.proofs.Slices.{Kind, struct-kind}
 use Rattle.walks.proofs.Arrays.{array-kind}
+use Rattle.cells.proofs.notes.Notes as C
+use Rattle.cells.proofs.notes.Notes.Laws as C′
 use Rattle.terminal.proofs.Terminal as T
 use Rattle.exchange.proofs.Structs.{terminals}
 use Rattle.listening.proofs.Structs.{unit-notes}
@@ -16,6 +18,9 @@ use Rattle.bus_held.proofs.HeldRun.Laws as HR′
 
 abbrev pub eight : Kind (Array T.the-row 8)
 eight = array-kind (terminals .kind) 8
+
+abbrev pub notes : Kind C.the-row
+notes = struct-kind C.the-type C′.the-laws C′.the-plain C′.the-copy C′.mir refl
 
 abbrev pub eight-notes : Kind (Array N.the-row 8)
 eight-notes = array-kind (unit-notes .kind) 8

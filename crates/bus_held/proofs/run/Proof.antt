@@ -20,7 +20,7 @@ use Rattle.bus_record.proofs.record.BusRecord as B
 use Rattle.bus_record.proofs.side.Ran as R
 use Rattle.call_rules.specs.Kept.{Kept}
 use Rattle.call_rules.specs.Run.{ran, keptAfter}
-use Rattle.bus_calls.proofs.Structs.{terminals, notes, buses, runs}
+use Rattle.bus_calls.proofs.Structs.{terminals, buses, runs}
 use Rattle.bus_calls.proofs.run.run as slice
 use Rattle.bus_calls.proofs.run.run.Symbol as slice-def
 use Rattle.bus_calls.proofs.run.run.Symbol.{name as #slice}
@@ -28,7 +28,7 @@ use Rattle.bus_calls.proofs.run.run.Met as slice-thm
 use Rattle.call_rules.specs.Kept.{found}
 use Rattle.bus_held.specs.declared.HeldRun.{HeldRun}
 use Rattle.bus_held.proofs.HeldRun as HR
-use Rattle.bus_held.proofs.Structs.{eight, eight-notes, held-runs}
+use Rattle.bus_held.proofs.Structs.{eight, notes, eight-notes, held-runs}
 use Rattle.bus_held.proofs.run.Key.{name as #walk}
 use Rattle.bus_held.proofs.run as all
 use Rattle.bus_held.proofs.run.Statement as stated

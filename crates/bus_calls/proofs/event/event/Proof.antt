@@ -1,25 +1,22 @@
 -- `bus_calls::event::event` meets its contract: a walk of its MIR with the lemmas of crate `walks`. All that it knows of the functions it calls are their contracts. Assumes nothing.
-use Rattle.walks.proofs.Walk.{_≡_, refl, ℕ, _<_, _^_, Bool, List, [], _∷_, eqb, length, getD, set, length-set, URA, w8, w32, w64, Val, vint, SProp, ent, emp, via, id⊢, fst∗, Memory, Routine, Heap, Tables, WpFn, Atoms, Fun, factI, givenOf, tables, tablesOf, Given, ⋆, _$_, !, lit, of-opd, no-more, and-then, bin, Is, u8, u32, usize, bool, Room, onEntry, Meets, tripleOf, Contract, Triple, entered, cited, walkOf, loc, part, sets, leaves, returns-if, bool-kind, uint-kind, typed, loads, stores, Spot, spot, word, lends-at, shows-at, hands-at, Param, plain-of, lfts-at, shares-at, args-at, vals-of, lfts-of, shares-of, args-of, itemsOf, reborrows, Call, calls-giving, enters-with, returns-with, mut-way, shr-way, plain-way, Ways-of, stays-of, meets-by}
+use Rattle.walks.proofs.Walk.{_≡_, refl, sym, _∙_, ap, subst, ℕ, _<_, _^_, Bool, List, [], _∷_, eqb, length, getD, set, length-set, URA, w8, w32, w64, Val, vint, SProp, ent, emp, via, id⊢, fst∗, Memory, Routine, Heap, Tables, WpFn, Atoms, Fun, factI, givenOf, tables, tablesOf, Given, ⋆, _$_, !, lit, of-opd, no-more, and-then, bin, Is, u8, u32, usize, bool, Room, onEntry, Meets, tripleOf, Contract, Triple, entered, cited, walkOf, loc, part, sets, leaves, returns-if, bool-kind, uint-kind, typed, loads, stores, Spot, spot, word, lends-at, shows-at, hands-at, Param, plain-of, lfts-at, shares-at, args-at, vals-of, lfts-of, shares-of, args-of, itemsOf, reborrows, Call, calls-giving, enters-with, returns-with, mut-way, shr-way, plain-way, Ways-of, stays-of, meets-by}
 use borrow.Author.Tests.{not-true, not-false}
 use Prim.Native.Nat.{_-_}
-use denote.Struct.Laws as LL
 use Rattle.cells.specs.Notes.{packedNotes}
-use Rattle.cells.proofs.notes.Notes as N
+use Rattle.timing.specs.declared.counts.Periods.{Periods}
 use Rattle.timing.proofs.counts.Periods as P
 use Rattle.terminal.specs.Terminal.{fresh}
 use Rattle.terminal.specs.declared.Terminal.{Terminal}
 use Rattle.terminal.proofs.Terminal as T
 use Rattle.terminal.specs.declared.TerminalStep.{TerminalStep}
 use Rattle.terminal.proofs.TerminalStep as S
-use Rattle.terminal.proofs.TerminalStep.Laws as S′
 use Rattle.bus_record.specs.declared.record.BusRecord.{BusRecord}
 use Rattle.bus_record.proofs.record.BusRecord as B
-use Rattle.bus_record.proofs.record.BusRecord.Laws as B′
 use Rattle.bus_event.specs.Event.{told, firstReason, networkTold, terminalTold, lettersAfter, imagesAfter}
 use Rattle.bus_event.specs.declared.event.Told.{Told}
 use Rattle.bus_event.proofs.event.Told as D
 use Rattle.call_rules.specs.Ready.{eightInRange}
-use Rattle.bus_calls.proofs.Structs.{terminals, terminal-steps, notes, periods, buses, tolds}
+use Rattle.bus_calls.proofs.Structs.{terminals, terminal-steps, periods, buses, tolds}
 use Rattle.call_rules.proofs.Events.{Promised, within, when-refused, at-network, at-terminal}
 use Rattle.bus_calls.proofs.ready.in_range as ranges
 use Rattle.bus_calls.proofs.ready.in_range.Symbol as ranges-def
@@ -45,10 +42,18 @@ use Rattle.bus_event.proofs.event.terminal_event as terminal
 use Rattle.bus_event.proofs.event.terminal_event.Symbol as terminal-def
 use Rattle.bus_event.proofs.event.terminal_event.Symbol.{name as #terminal}
 use Rattle.bus_event.proofs.event.terminal_event.Met as terminal-thm
-use Rattle.bus_event.proofs.event.replied as replied
-use Rattle.bus_event.proofs.event.replied.Symbol as replied-def
-use Rattle.bus_event.proofs.event.replied.Symbol.{name as #replied}
-use Rattle.bus_event.proofs.event.replied.Met as replied-thm
+use Rattle.bus_calls.proofs.fields.periods_of as period
+use Rattle.bus_calls.proofs.fields.periods_of.Symbol as period-def
+use Rattle.bus_calls.proofs.fields.periods_of.Symbol.{name as #period}
+use Rattle.bus_calls.proofs.fields.periods_of.Met as period-thm
+use Rattle.bus_calls.proofs.fields.terminal_of as after
+use Rattle.bus_calls.proofs.fields.terminal_of.Symbol as after-def
+use Rattle.bus_calls.proofs.fields.terminal_of.Symbol.{name as #after}
+use Rattle.bus_calls.proofs.fields.terminal_of.Met as after-thm
+use Rattle.bus_calls.proofs.event.replied_by as replied
+use Rattle.bus_calls.proofs.event.replied_by.Symbol as replied-def
+use Rattle.bus_calls.proofs.event.replied_by.Symbol.{name as #replied}
+use Rattle.bus_calls.proofs.event.replied_by.Met as replied-thm
 use Rattle.bus_calls.proofs.event.event.Key.{name as #walk}
 use Rattle.bus_calls.proofs.event.event as all
 use Rattle.bus_calls.proofs.event.event.Statement as stated
@@ -76,6 +81,12 @@ module _ {M : Type 1} (𝓤 : URA M) (H : Heap 𝓤) (A : Atoms 𝓤) (mem : Mem
   abbrev AtTerminal : Contract 𝓤
   AtTerminal = tripleOf 𝓤 H A terminal.signature (terminal.spec 𝓤 H A mem run)
 
+  abbrev Period : Contract 𝓤
+  Period = tripleOf 𝓤 H A period.signature (period.spec 𝓤 H A mem run)
+
+  abbrev After : Contract 𝓤
+  After = tripleOf 𝓤 H A after.signature (after.spec 𝓤 H A mem run)
+
   abbrev Replied : Contract 𝓤
   Replied = tripleOf 𝓤 H A replied.signature (replied.spec 𝓤 H A mem run)
 
@@ -87,6 +98,8 @@ record Known {M : Type 1} (𝓤 : URA M) (H : Heap 𝓤) (A : Atoms 𝓤) (mem :
   the-network : Triple 𝓤 (𝓣 .C #network) (Network 𝓤 H A mem run)
   the-index : Triple 𝓤 (𝓣 .C #index) (Index 𝓤 H A mem run)
   the-terminal : Triple 𝓤 (𝓣 .C #terminal) (AtTerminal 𝓤 H A mem run)
+  the-period : Triple 𝓤 (𝓣 .C #period) (Period 𝓤 H A mem run)
+  the-after : Triple 𝓤 (𝓣 .C #after) (After 𝓤 H A mem run)
   the-replied : Triple 𝓤 (𝓣 .C #replied) (Replied 𝓤 H A mem run)
 
 module _ {M : Type 1} (𝓤 : URA M) (H : Heap 𝓤) (A : Atoms 𝓤) (W : Given 𝓤 H A) (mem : Memory → SProp 𝓤) (run : Routine → Fun 𝓤) (bus : BusRecord) (s₁ s₂ s₃ s₄ : Spot) (ys : List Terminal) (images letters : List ℕ) (unit number : ℕ) (value : List ℕ)
@@ -191,27 +204,59 @@ module _ {M : Type 1} (𝓤 : URA M) (H : Heap 𝓤) (A : Atoms 𝓤) (W : Given
     ensured = λ ns r ws. id⊢ 𝓤 _;
   }
 
-  abbrev to-terminal : (t : Terminal) → Is T.the-row t (terminals .kind .val t ∷ []) → (i : ℕ) → Is usize i (vint w64 i ∷ []) → List Param
-  to-terminal t g i gi = plain-of T.the-row (terminals .kind) t g ∷ lends-at 1 u8 s₂ (length images) images ∷ plain-of usize (uint-kind w64) i gi ∷ plain-of u8 (uint-kind w8) number (refl, gn) ∷ hands-at 3 u8 s₄ (length value) value ∷ plain-of P.the-row periods (bus .periods) (LL.owed B.the-type B′.the-laws bus _ gb .1 .0) ∷ []
+  abbrev to-period : List Param
+  to-period = plain-of B.the-row buses bus gb ∷ []
 
-  abbrev terminal-event : (t : Terminal) (g : Is T.the-row t (terminals .kind .val t ∷ [])) (i : ℕ) (gi : Is usize i (vint w64 i ∷ [])) → Call W (to-terminal t g i gi) terminal.ended (terminal.clauses 𝓤 H A mem run)
-  terminal-event t g i gi = record {
-    bound = λ ns. ((lfts-of (to-terminal t g i gi) ns, shares-of (to-terminal t g i gi), tt, args-of (to-terminal t g i gi) ns, vals-of (to-terminal t g i gi)), tt);
+  abbrev periods-of : Call W to-period period.ended (period.clauses 𝓤 H A mem run)
+  periods-of = record {
+    bound = λ ns. ((lfts-of to-period ns, shares-of to-period, tt, args-of to-period ns, vals-of to-period), tt);
+    asks = λ ns. id⊢ 𝓤 _;
+    needed = λ ns. id⊢ 𝓤 _;
+    tokens = λ ns. id⊢ 𝓤 _;
+    last = λ ns ws. ws;
+    finals = λ ns ws. id⊢ 𝓤 _;
+    result = λ ns. periods;
+    Said = λ ns p ws. p ≡ bus .periods;
+    ensured = λ ns p ws. id⊢ 𝓤 _;
+  }
+
+  abbrev to-terminal : (t : Terminal) (g : Is T.the-row t (terminals .kind .val t ∷ [])) (i : ℕ) (gi : Is usize i (vint w64 i ∷ [])) (p : Periods) (gp : Is P.the-row p (periods .val p ∷ [])) → List Param
+  to-terminal t g i gi p gp = plain-of T.the-row (terminals .kind) t g ∷ lends-at 1 u8 s₂ (length images) images ∷ plain-of usize (uint-kind w64) i gi ∷ plain-of u8 (uint-kind w8) number (refl, gn) ∷ hands-at 3 u8 s₄ (length value) value ∷ plain-of P.the-row periods p gp ∷ []
+
+  abbrev terminal-event : (t : Terminal) (g : Is T.the-row t (terminals .kind .val t ∷ [])) (i : ℕ) (gi : Is usize i (vint w64 i ∷ [])) (p : Periods) (gp : Is P.the-row p (periods .val p ∷ [])) → Call W (to-terminal t g i gi p gp) terminal.ended (terminal.clauses 𝓤 H A mem run)
+  terminal-event t g i gi p gp = record {
+    bound = λ ns. ((lfts-of (to-terminal t g i gi p gp) ns, shares-of (to-terminal t g i gi p gp), tt, args-of (to-terminal t g i gi p gp) ns, vals-of (to-terminal t g i gi p gp)), tt);
     asks = λ ns. id⊢ 𝓤 _;
     needed = λ ns. id⊢ 𝓤 _;
     tokens = λ ns. id⊢ 𝓤 _;
     last = λ ns ws. ws;
     finals = λ ns ws. id⊢ 𝓤 _;
     result = λ ns. terminal-steps;
-    Said = λ ns r ws. (r ≡ terminalTold number images i value (bus .periods) t) × (ws .1 .0 ≡ imagesAfter number t i value images);
+    Said = λ ns r ws. (r ≡ terminalTold number images i value p t) × (ws .1 .0 ≡ imagesAfter number t i value images);
     ensured = λ ns r ws. id⊢ 𝓤 _;
   }
 
-  abbrev to-replied : (s : TerminalStep) → Is S.the-row s (terminal-steps .val s ∷ []) → List Param
-  to-replied s gs = plain-of B.the-row buses bus gb ∷ plain-of N.the-row notes (s .notes) (LL.owed S.the-type S′.the-laws s _ gs .1 .0) ∷ plain-of u8 (uint-kind w8) (s .reply) (LL.owed S.the-type S′.the-laws s _ gs .1 .1 .0) ∷ []
+  abbrev to-after : (s : TerminalStep) (gs : Is S.the-row s (terminal-steps .val s ∷ [])) → List Param
+  to-after s gs = plain-of S.the-row terminal-steps s gs ∷ []
 
-  abbrev reply : (s : TerminalStep) (gs : Is S.the-row s (terminal-steps .val s ∷ [])) → Call W (to-replied s gs) replied.ended (replied.clauses 𝓤 H A mem run)
-  reply s gs = record {
+  abbrev terminal-of : (s : TerminalStep) (gs : Is S.the-row s (terminal-steps .val s ∷ [])) → Call W (to-after s gs) after.ended (after.clauses 𝓤 H A mem run)
+  terminal-of s gs = record {
+    bound = λ ns. ((lfts-of (to-after s gs) ns, shares-of (to-after s gs), tt, args-of (to-after s gs) ns, vals-of (to-after s gs)), tt);
+    asks = λ ns. id⊢ 𝓤 _;
+    needed = λ ns. id⊢ 𝓤 _;
+    tokens = λ ns. id⊢ 𝓤 _;
+    last = λ ns ws. ws;
+    finals = λ ns ws. id⊢ 𝓤 _;
+    result = λ ns. terminals .kind;
+    Said = λ ns u ws. u ≡ s .terminal;
+    ensured = λ ns u ws. id⊢ 𝓤 _;
+  }
+
+  abbrev to-replied : (s : TerminalStep) (gs : Is S.the-row s (terminal-steps .val s ∷ [])) → List Param
+  to-replied s gs = plain-of B.the-row buses bus gb ∷ plain-of S.the-row terminal-steps s gs ∷ []
+
+  abbrev replied-by : (s : TerminalStep) (gs : Is S.the-row s (terminal-steps .val s ∷ [])) → Call W (to-replied s gs) replied.ended (replied.clauses 𝓤 H A mem run)
+  replied-by s gs = record {
     bound = λ ns. ((lfts-of (to-replied s gs) ns, shares-of (to-replied s gs), tt, args-of (to-replied s gs) ns, vals-of (to-replied s gs)), tt);
     asks = λ ns. id⊢ 𝓤 _;
     needed = λ ns. id⊢ 𝓤 _;
@@ -247,13 +292,17 @@ module _ {M : Type 1} (𝓤 : URA M) (H : Heap 𝓤) (A : Atoms 𝓤) (W : Given
       -- terminals[i]
       loads ! terminals (within unit number value bus ys images letters ready is-ready k is-k i is-i (not-false (eqb k 0) none)) (tt, refl, tt, refl, tt, refl, refl, tt, refl, tt, refl, tt, refl) tt refl (λ g.
       sets ! (of-opd ! (loc ! tt refl)) tt (typed (terminals .kind) 𝓤 H A W (getD ys i fresh) _ g) $
-      -- terminal_event(t, images, i, event, value, bus.periods)
+      -- terminal_event(t, images, i, event, value, periods_of(bus))
       reborrows ! (g₂ .0) (tt, refl, refl, tt, (tt, tt), tt, refl, tt, refl, tt, tt) $
-      calls-giving (terminal-event (getD ys i fresh) g i gi) (2 ∷ 4 ∷ []) ! refl 𝓣 (known .the-terminal) (λ ns Θ. and-then ! (loc ! tt refl) (and-then ! (loc ! tt refl) (and-then ! (loc ! tt refl) (and-then ! (loc ! tt refl) (and-then ! (loc ! tt refl) (and-then ! (part ! tt refl refl refl) (no-more !))))))) tt (λ ns. refl) (λ ns s w₆ l₆ so₆ gs.
-      stores ! terminals (within unit number value bus ys images letters ready is-ready k is-k i is-i (not-false (eqb k 0) none)) (tt, refl, tt, refl, tt, refl, refl, tt, refl, tt, refl, tt, refl) (s .terminal) (LL.owed S.the-type S′.the-laws s _ gs .0) (λ Δ. of-opd ! (part ! tt refl refl refl)) $
-      -- replied(bus, s.notes, s.reply)
-      calls-giving (reply s gs) [] ! refl 𝓣 (known .the-replied) (λ ns Θ. and-then ! (loc ! tt refl) (and-then ! (part ! tt refl refl refl) (and-then ! (part ! tt refl refl refl) (no-more !)))) tt (λ ns. refl) (λ ns r w₇ l₇ so₇ gr.
-      leaves ! Post refl tt refl (exits r (set ys i (s .terminal)) (w₆ .1 .0) letters (length-set ys i (s .terminal)) (l₆ .0) refl (at-terminal unit number value bus ys images letters ready is-ready k is-k (not-false (eqb k 0) none) other i is-i s (w₆ .1 .0) so₆ r so₇) gr))))))))))
+      calls-giving periods-of [] ! refl 𝓣 (known .the-period) (λ ns Θ. and-then ! (loc ! tt refl) (no-more !)) tt (λ ns. refl) (λ ns p _ _ is-p gp.
+      calls-giving (terminal-event (getD ys i fresh) g i gi p gp) (2 ∷ 4 ∷ []) ! refl 𝓣 (known .the-terminal) (λ ns Θ. and-then ! (loc ! tt refl) (and-then ! (loc ! tt refl) (and-then ! (loc ! tt refl) (and-then ! (loc ! tt refl) (and-then ! (loc ! tt refl) (and-then ! (loc ! tt refl) (no-more !))))))) tt (λ ns. refl) (λ ns s w₆ l₆ so₆ gs.
+      -- terminals[i] = terminal_of(s)
+      calls-giving (terminal-of s gs) [] ! refl 𝓣 (known .the-after) (λ ns Θ. and-then ! (loc ! tt refl) (no-more !)) tt (λ ns. refl) (λ ns u _ _ is-u gt.
+      stores ! terminals (within unit number value bus ys images letters ready is-ready k is-k i is-i (not-false (eqb k 0) none)) (tt, refl, tt, refl, tt, refl, refl, tt, refl, tt, refl, tt, refl) u gt (λ Δ. of-opd ! (loc ! tt refl)) $
+      -- replied_by(bus, s)
+      calls-giving (replied-by s gs) [] ! refl 𝓣 (known .the-replied) (λ ns Θ. and-then ! (loc ! tt refl) (and-then ! (loc ! tt refl) (no-more !))) tt (λ ns. refl) (λ ns r w₇ l₇ so₇ gr.
+      leaves ! Post refl tt refl (exits r (set ys i u) (w₆ .1 .0) letters (length-set ys i u) (l₆ .0) refl (subst (λ (x : Terminal). Owed r (set ys i x) (w₆ .1 .0) letters) (sym is-u)
+      (at-terminal unit number value bus ys images letters ready is-ready k is-k (not-false (eqb k 0) none) other i is-i s (w₆ .1 .0) (so₆ .0 ∙ ap (λ (q : Periods). terminalTold number images i value q (getD ys i fresh)) is-p, so₆ .1) r so₇)) gr))))))))))))
 
 meets : {M : Type 1} (𝓤 : URA M) (H : Heap 𝓤) (A : Atoms 𝓤) → Given 𝓤 H A → (mem : Memory → SProp 𝓤) (run : Routine → Fun 𝓤) (𝓣 : Tables 𝓤 H) → Known 𝓤 H A mem run 𝓣 → Meets 𝓤 H A all.signature (WpFn 𝓤 H (𝓣 .C) (𝓣 .Λ) code.function) (all.spec 𝓤 H A mem run)
 meets 𝓤 H A W mem run 𝓣 known =
@@ -274,5 +323,7 @@ event-spec 𝓤 H 𝓜 𝓖 𝓡 =
       the-network = cited 𝓤 H (Network 𝓤 H (𝓖 .A) (𝓜 .mem) (𝓡 .run)) 𝓜 𝓡 code.env #network network-def.routine code.calls-bus-event·event·network-event (network-thm.met 𝓤 H 𝓜 𝓖 𝓡);
       the-index = cited 𝓤 H (Index 𝓤 H (𝓖 .A) (𝓜 .mem) (𝓡 .run)) 𝓜 𝓡 code.env #index index-def.routine code.calls-bus-calls·event·index-of (index-thm.met 𝓤 H 𝓜 𝓖 𝓡);
       the-terminal = cited 𝓤 H (AtTerminal 𝓤 H (𝓖 .A) (𝓜 .mem) (𝓡 .run)) 𝓜 𝓡 code.env #terminal terminal-def.routine code.calls-bus-event·event·terminal-event (terminal-thm.met 𝓤 H 𝓜 𝓖 𝓡);
-      the-replied = cited 𝓤 H (Replied 𝓤 H (𝓖 .A) (𝓜 .mem) (𝓡 .run)) 𝓜 𝓡 code.env #replied replied-def.routine code.calls-bus-event·event·replied (replied-thm.met 𝓤 H 𝓜 𝓖 𝓡);
+      the-period = cited 𝓤 H (Period 𝓤 H (𝓖 .A) (𝓜 .mem) (𝓡 .run)) 𝓜 𝓡 code.env #period period-def.routine code.calls-bus-calls·fields·periods-of (period-thm.met 𝓤 H 𝓜 𝓖 𝓡);
+      the-after = cited 𝓤 H (After 𝓤 H (𝓖 .A) (𝓜 .mem) (𝓡 .run)) 𝓜 𝓡 code.env #after after-def.routine code.calls-bus-calls·fields·terminal-of (after-thm.met 𝓤 H 𝓜 𝓖 𝓡);
+      the-replied = cited 𝓤 H (Replied 𝓤 H (𝓖 .A) (𝓜 .mem) (𝓡 .run)) 𝓜 𝓡 code.env #replied replied-def.routine code.calls-bus-calls·event·replied-by (replied-thm.met 𝓤 H 𝓜 𝓖 𝓡);
     }))
