@@ -1,7 +1,9 @@
 // Fields of records, each fetched by a function. A call over a slice of structs is proved by a walk of its code, and a field that the walk
 // itself reads writes the whole record into the proof.
 ghost use mathlib.Core.Path.{_≡_};
+use super::turn::Turn;
 use bus_record::record::BusRecord;
+use bus_record::side::Ran;
 use solo::alone::Alone;
 use solo::search::Search;
 use solo::solo::Solo;
@@ -14,6 +16,27 @@ pub(crate) fn periods_of(bus: BusRecord) -> Periods
     ensures { λ r. ⌜ r ≡ bus .periods ⌝ }
 {
     bus.periods
+}
+
+// The record after a run.
+pub(crate) fn bus_of(ran: Ran) -> BusRecord
+    ensures { λ r. ⌜ r ≡ ran .bus ⌝ }
+{
+    ran.bus
+}
+
+// What the last period of a turn gives.
+pub(crate) fn ran_of(turn: Turn) -> Ran
+    ensures { λ r. ⌜ r ≡ turn .ran ⌝ }
+{
+    turn.ran
+}
+
+// How many periods a turn has run before its last.
+pub(crate) fn over_of(turn: Turn) -> u32
+    ensures { λ r. ⌜ r ≡ turn .over ⌝ }
+{
+    turn.over
 }
 
 // The sender that a search has found.

@@ -2,6 +2,9 @@
 ghost use mathlib.Core.Path.{_≡_};
 ghost use Rattle.call_rules.specs.Kept.{kept};
 ghost use Rattle.call_rules.specs.Run.{ran, keptAfter};
+use super::fields::bus_of;
+use super::fields::over_of;
+use super::fields::ran_of;
 use super::ready::goes_on;
 use super::ready::in_range;
 use super::ready::run_reason;
@@ -39,9 +42,17 @@ pub fn run(
     let mut left = most;
     let mut going = goes_on(last, left);
     while going {
-        let t = advance(last.bus, terminals, images, octets, letters, notes, left);
-        last = t.ran;
-        left -= 1 + t.over;
+        let t = advance(
+            bus_of(last),
+            terminals,
+            images,
+            octets,
+            letters,
+            notes,
+            left,
+        );
+        last = ran_of(t);
+        left -= 1 + over_of(t);
         going = goes_on(last, left);
     }
     last

@@ -1,8 +1,7 @@
 -- `bus_calls::run::run` meets its contract: a walk of its MIR with the lemmas of crate `walks`, a `while` on a truth value whose turn lends three slices to
 -- `advance`. What holds before each turn is `Going` (RunLoop.antt). All that it knows of what it calls are their contracts. Assumes nothing.
-use Rattle.walks.proofs.Walk.{_≡_, refl, sym, _∙_, ap, ℕ, _<_, _^_, arith, Bool, true, false, List, [], _∷_, length, set, URA, w8, w32, w64, Val, vbool, vint, SProp, ent, emp, via, id⊢, fst∗, Memory, Routine, Heap, Tables, WpFn, Atoms, Fun, factI, givenOf, tables, tablesOf, Given, Item, ⋆, _$_, !, lit, of-opd, no-more, and-then, bin, Is, u8, u32, usize, bool, Room, onEntry, Meets, tripleOf, Contract, Triple, entered, cited, walkOf, Holds, free, has, loc, part, sets, leaves, blurs, bool-kind, uint-kind, typed, Spot, spot, word, lends-at, shows-at, hands-at, Param, plain-of, lfts-at, shares-at, args-at, vals-of, lfts-of, shares-of, args-of, itemsOf, reborrows, Call, calls-giving, calls-giving-last, enters-with, returns-with, mut-way, shr-way, plain-way, Ways-of, stays-of, meets-by, whiles-by}
+use Rattle.walks.proofs.Walk.{_≡_, refl, sym, _∙_, ap, subst, ℕ, _<_, _^_, arith, Bool, true, false, List, [], _∷_, length, set, URA, w8, w32, w64, Val, vbool, vint, SProp, ent, emp, via, id⊢, fst∗, Memory, Routine, Heap, Tables, WpFn, Atoms, Fun, factI, givenOf, tables, tablesOf, Given, Item, ⋆, _$_, !, lit, of-opd, no-more, and-then, bin, Is, u8, u32, usize, bool, Room, onEntry, Meets, tripleOf, Contract, Triple, entered, cited, walkOf, Holds, free, has, loc, part, sets, leaves, blurs, bool-kind, uint-kind, typed, Spot, spot, word, lends-at, shows-at, hands-at, Param, plain-of, lfts-at, shares-at, args-at, vals-of, lfts-of, shares-of, args-of, itemsOf, reborrows, Call, calls-giving, calls-giving-last, enters-with, returns-with, mut-way, shr-way, plain-way, Ways-of, stays-of, meets-by, whiles-by}
 use Prim.Native.Nat.{_+_, _-_, _≤_}
-use denote.Struct.Laws as LL
 use Rattle.terminal.specs.declared.Terminal.{Terminal}
 use Rattle.terminal.proofs.Terminal as T
 use Rattle.listening.specs.declared.hears.UnitNotes.{UnitNotes}
@@ -12,7 +11,6 @@ use Rattle.bus_record.specs.declared.record.BusRecord.{BusRecord}
 use Rattle.bus_record.specs.declared.side.Ran.{Ran}
 use Rattle.bus_record.proofs.record.BusRecord as B
 use Rattle.bus_record.proofs.side.Ran as R
-use Rattle.bus_record.proofs.side.Ran.Laws as R′
 use Rattle.call_rules.specs.Kept.{Kept, kept}
 use Rattle.call_rules.specs.Ready.{eightInRange, runReason, runReply, goesOn}
 use Rattle.call_rules.specs.Run.{ran, keptAfter}
@@ -38,11 +36,22 @@ use Rattle.bus_calls.proofs.ready.goes_on.Symbol as goes-def
 use Rattle.bus_calls.proofs.ready.goes_on.Symbol.{name as #goes}
 use Rattle.bus_calls.proofs.ready.goes_on.Met as goes-thm
 use Rattle.bus_calls.proofs.turn.Turn as Tu
-use Rattle.bus_calls.proofs.turn.Turn.Laws as Tu′
 use Rattle.bus_calls.proofs.turn.advance as step
 use Rattle.bus_calls.proofs.turn.advance.Symbol as step-def
 use Rattle.bus_calls.proofs.turn.advance.Symbol.{name as #step}
 use Rattle.bus_calls.proofs.turn.advance.Met as step-thm
+use Rattle.bus_calls.proofs.fields.bus_of as bus-in
+use Rattle.bus_calls.proofs.fields.bus_of.Symbol as bus-in-def
+use Rattle.bus_calls.proofs.fields.bus_of.Symbol.{name as #bus-in}
+use Rattle.bus_calls.proofs.fields.bus_of.Met as bus-in-thm
+use Rattle.bus_calls.proofs.fields.ran_of as ran-in
+use Rattle.bus_calls.proofs.fields.ran_of.Symbol as ran-in-def
+use Rattle.bus_calls.proofs.fields.ran_of.Symbol.{name as #ran-in}
+use Rattle.bus_calls.proofs.fields.ran_of.Met as ran-in-thm
+use Rattle.bus_calls.proofs.fields.over_of as over-in
+use Rattle.bus_calls.proofs.fields.over_of.Symbol as over-in-def
+use Rattle.bus_calls.proofs.fields.over_of.Symbol.{name as #over-in}
+use Rattle.bus_calls.proofs.fields.over_of.Met as over-in-thm
 use Rattle.bus_calls.proofs.run.run.Key.{name as #walk}
 use Rattle.bus_calls.proofs.run.run as all
 use Rattle.bus_calls.proofs.run.run.Statement as stated
@@ -87,15 +96,15 @@ module _ (bus : BusRecord) (ys : List Terminal) (es os ls : List ℕ) (us : List
     going-is : s .going ≡ goesOn (s .last) (s .left)
     so-far : GoesFrom (s .last) (s .left) (s .terminals) (s .octets) (s .notes)
 
-  -- what `advance` says
-  abbrev Advanced : State → Turn → List Terminal → List ℕ → List UnitNotes → Type 0
-  Advanced s t ts octs ns = Turns (s .left) (kept (s .last .bus) (s .terminals) es (s .octets) ls (s .notes)) (t .ran) (t .over) (kept (t .ran .bus) ts es octs ls ns)
+  -- what `advance` says, given this record
+  abbrev Advanced : State → BusRecord → Turn → List Terminal → List ℕ → List UnitNotes → Type 0
+  Advanced s b t ts octs ns = Turns (s .left) (kept b (s .terminals) es (s .octets) ls (s .notes)) (t .ran) (t .over) (kept (t .ran .bus) ts es octs ls ns)
 
   abbrev first-state : (r : Ran) → Bool → State
   first-state r g = record { last = r; left = most; going = g; terminals = ys; octets = os; notes = us }
 
-  abbrev next-state : State → Turn → Bool → List Terminal → List ℕ → List UnitNotes → State
-  next-state s t g ts octs ns = record { last = t .ran; left = s .left - (1 + t .over); going = g; terminals = ts; octets = octs; notes = ns }
+  abbrev next-state : State → Ran → ℕ → Bool → List Terminal → List ℕ → List UnitNotes → State
+  next-state s r o g ts octs ns = record { last = r; left = s .left - (1 + o); going = g; terminals = ts; octets = octs; notes = ns }
 
   first-goes : (w : Bool) (k : ℕ) (r : Ran) → w ≡ eightInRange ys → k ≡ runReason w bus (length es) (length os) ls (length us) most → r ≡ refusedRun k bus → GoesFrom r most ys os us
   unfolding runReply
@@ -111,15 +120,18 @@ module _ (bus : BusRecord) (ys : List Terminal) (es os ls : List ℕ) (us : List
     some-left : 0 < s .left
     some-left = going-left es ls (ran most at) (keptAfter most at) (s .last) (s .left) (s .terminals) (s .octets) (s .notes) (i .so-far) goes-here
 
-    module _ (t : Turn) (ts : List Terminal) (octs : List ℕ) (ns : List UnitNotes) (so : Advanced s t ts octs ns) where
-      turn-within : 1 + t .over ≤ s .left
-      turn-within = turned-within es ls (ran most at) (keptAfter most at) (s .last) (s .left) (s .terminals) (s .octets) (s .notes) (i .so-far) goes-here (t .ran) (t .over) ts octs ns so
+    module _ (b : BusRecord) (is-b : b ≡ s .last .bus) (t : Turn) (o : ℕ) (is-o : o ≡ t .over) (ts : List Terminal) (octs : List ℕ) (ns : List UnitNotes) (so : Advanced s b t ts octs ns) where
+      so-here : Advanced s (s .last .bus) t ts octs ns
+      so-here = subst (λ (x : BusRecord). Advanced s x t ts octs ns) is-b so
 
-      fewer : s .left - (1 + t .over) < s .left
+      turn-within : 1 + o ≤ s .left
+      turn-within = rw is-o (turned-within es ls (ran most at) (keptAfter most at) (s .last) (s .left) (s .terminals) (s .octets) (s .notes) (i .so-far) goes-here (t .ran) (t .over) ts octs ns so-here)
+
+      fewer : s .left - (1 + o) < s .left
       fewer = omega (arith, some-left)
 
-      goes-after : GoesFrom (t .ran) (s .left - (1 + t .over)) ts octs ns
-      goes-after = turned-on es ls (ran most at) (keptAfter most at) (s .last) (s .left) (s .terminals) (s .octets) (s .notes) (i .so-far) goes-here (t .ran) (t .over) ts octs ns so
+      goes-after : (r : Ran) → r ≡ t .ran → GoesFrom r (s .left - (1 + o)) ts octs ns
+      goes-after r is-r = rw (is-r, is-o) (turned-on es ls (ran most at) (keptAfter most at) (s .last) (s .left) (s .terminals) (s .octets) (s .notes) (i .so-far) goes-here (t .ran) (t .over) ts octs ns so-here)
 
   done-all : (s : State) → Inv s → s .going ≡ false → Promised (s .last) (s .terminals) (s .octets) (s .notes)
   done-all s i off =
@@ -141,6 +153,15 @@ module _ {M : Type 1} (𝓤 : URA M) (H : Heap 𝓤) (A : Atoms 𝓤) (mem : Mem
 
   abbrev Steps : Contract 𝓤
   Steps = tripleOf 𝓤 H A step.signature (step.spec 𝓤 H A mem run)
+
+  abbrev Buses : Contract 𝓤
+  Buses = tripleOf 𝓤 H A bus-in.signature (bus-in.spec 𝓤 H A mem run)
+
+  abbrev Rans : Contract 𝓤
+  Rans = tripleOf 𝓤 H A ran-in.signature (ran-in.spec 𝓤 H A mem run)
+
+  abbrev Overs : Contract 𝓤
+  Overs = tripleOf 𝓤 H A over-in.signature (over-in.spec 𝓤 H A mem run)
 
 module _ {M : Type 1} (𝓤 : URA M) (H : Heap 𝓤) (A : Atoms 𝓤) (W : Given 𝓤 H A) (mem : Memory → SProp 𝓤) (run : Routine → Fun 𝓤) (s₁ s₂ s₃ s₄ s₅ : Spot) (bus : BusRecord) (ys : List Terminal) (es os ls : List ℕ) (us : List UnitNotes) (most : ℕ)
     (gb : Is B.the-row bus (buses .val bus ∷ [])) (g₁ : Room T.the-row (length ys)) (g₂ : Room u8 (length es)) (g₃ : Room u8 (length os)) (g₄ : Room u8 (length ls)) (g₅ : Room N.the-row (length us)) (gm : most < 2 ^ 32) where
@@ -227,21 +248,69 @@ module _ {M : Type 1} (𝓤 : URA M) (H : Heap 𝓤) (A : Atoms 𝓤) (W : Given
     ensured = λ ns g ws. id⊢ 𝓤 _;
   }
 
-  abbrev to-step : (s : State) → Inv bus ys es os ls us most s → List Param
-  to-step s i =
-      plain-of B.the-row buses (s .last .bus) (LL.owed R.the-type R′.the-laws (s .last) _ (i .last-is) .0) ∷ lends-at 0 T.the-row s₁ (length ys) (s .terminals) ∷ hands-at 1 u8 s₂ (length es) es ∷ lends-at 2 u8 s₃ (length os) (s .octets) ∷ hands-at 3 u8 s₄ (length ls) ls ∷ lends-at 4 N.the-row s₅ (length us) (s .notes) ∷ plain-of u32 (uint-kind w32) (s .left) (refl, i .left-fits) ∷ []
+  abbrev to-bus : (r : Ran) (gr : Is R.the-row r (runs .val r ∷ [])) → List Param
+  to-bus r gr = plain-of R.the-row runs r gr ∷ []
 
-  abbrev the-step : (s : State) (i : Inv bus ys es os ls us most s) → length (s .notes) ≡ length (s .terminals) → Call W (to-step s i) step.ended (step.clauses 𝓤 H A mem run)
-  the-step s i l = record {
-    bound = λ ns. ((lfts-of (to-step s i) ns, shares-of (to-step s i), tt, args-of (to-step s i) ns, vals-of (to-step s i)), tt);
+  abbrev the-bus : (r : Ran) (gr : Is R.the-row r (runs .val r ∷ [])) → Call W (to-bus r gr) bus-in.ended (bus-in.clauses 𝓤 H A mem run)
+  the-bus r gr = record {
+    bound = λ ns. ((lfts-of (to-bus r gr) ns, shares-of (to-bus r gr), tt, args-of (to-bus r gr) ns, vals-of (to-bus r gr)), tt);
+    asks = λ ns. id⊢ 𝓤 _;
+    needed = λ ns. id⊢ 𝓤 _;
+    tokens = λ ns. id⊢ 𝓤 _;
+    last = λ ns ws. ws;
+    finals = λ ns ws. id⊢ 𝓤 _;
+    result = λ ns. buses;
+    Said = λ ns b ws. b ≡ r .bus;
+    ensured = λ ns b ws. id⊢ 𝓤 _;
+  }
+
+  abbrev to-step : (s : State) → Inv bus ys es os ls us most s → (b : BusRecord) → Is B.the-row b (buses .val b ∷ []) → List Param
+  to-step s i b gb′ =
+      plain-of B.the-row buses b gb′ ∷ lends-at 0 T.the-row s₁ (length ys) (s .terminals) ∷ hands-at 1 u8 s₂ (length es) es ∷ lends-at 2 u8 s₃ (length os) (s .octets) ∷ hands-at 3 u8 s₄ (length ls) ls ∷ lends-at 4 N.the-row s₅ (length us) (s .notes) ∷ plain-of u32 (uint-kind w32) (s .left) (refl, i .left-fits) ∷ []
+
+  abbrev the-step : (s : State) (i : Inv bus ys es os ls us most s) → length (s .notes) ≡ length (s .terminals) → (b : BusRecord) (gb′ : Is B.the-row b (buses .val b ∷ [])) → Call W (to-step s i b gb′) step.ended (step.clauses 𝓤 H A mem run)
+  the-step s i l b gb′ = record {
+    bound = λ ns. ((lfts-of (to-step s i b gb′) ns, shares-of (to-step s i b gb′), tt, args-of (to-step s i b gb′) ns, vals-of (to-step s i b gb′)), tt);
     asks = λ ns. id⊢ 𝓤 _;
     needed = λ ns. factI 𝓤 _ (emp 𝓤) l;
     tokens = λ ns. id⊢ 𝓤 _;
     last = λ ns ws. ws;
     finals = λ ns ws. id⊢ 𝓤 _;
     result = λ ns. turns;
-    Said = λ ns t ws. Advanced bus ys es os ls us most s t (ws .1 .0) (ws .1 .1 .1 .0) (ws .1 .1 .1 .1 .1 .0);
+    Said = λ ns t ws. Advanced bus ys es os ls us most s b t (ws .1 .0) (ws .1 .1 .1 .0) (ws .1 .1 .1 .1 .1 .0);
     ensured = λ ns t ws. id⊢ 𝓤 _;
+  }
+
+  abbrev to-ran : (t : Turn) (gt : Is Tu.the-row t (turns .val t ∷ [])) → List Param
+  to-ran t gt = plain-of Tu.the-row turns t gt ∷ []
+
+  abbrev the-ran : (t : Turn) (gt : Is Tu.the-row t (turns .val t ∷ [])) → Call W (to-ran t gt) ran-in.ended (ran-in.clauses 𝓤 H A mem run)
+  the-ran t gt = record {
+    bound = λ ns. ((lfts-of (to-ran t gt) ns, shares-of (to-ran t gt), tt, args-of (to-ran t gt) ns, vals-of (to-ran t gt)), tt);
+    asks = λ ns. id⊢ 𝓤 _;
+    needed = λ ns. id⊢ 𝓤 _;
+    tokens = λ ns. id⊢ 𝓤 _;
+    last = λ ns ws. ws;
+    finals = λ ns ws. id⊢ 𝓤 _;
+    result = λ ns. runs;
+    Said = λ ns r ws. r ≡ t .ran;
+    ensured = λ ns r ws. id⊢ 𝓤 _;
+  }
+
+  abbrev to-over : (t : Turn) (gt : Is Tu.the-row t (turns .val t ∷ [])) → List Param
+  to-over t gt = plain-of Tu.the-row turns t gt ∷ []
+
+  abbrev the-over : (t : Turn) (gt : Is Tu.the-row t (turns .val t ∷ [])) → Call W (to-over t gt) over-in.ended (over-in.clauses 𝓤 H A mem run)
+  the-over t gt = record {
+    bound = λ ns. ((lfts-of (to-over t gt) ns, shares-of (to-over t gt), tt, args-of (to-over t gt) ns, vals-of (to-over t gt)), tt);
+    asks = λ ns. id⊢ 𝓤 _;
+    needed = λ ns. id⊢ 𝓤 _;
+    tokens = λ ns. id⊢ 𝓤 _;
+    last = λ ns ws. ws;
+    finals = λ ns ws. id⊢ 𝓤 _;
+    result = λ ns. uint-kind w32;
+    Said = λ ns o ws. o ≡ t .over;
+    ensured = λ ns o ws. id⊢ 𝓤 _;
   }
 
   -- ---- The loop.
@@ -249,7 +318,7 @@ module _ {M : Type 1} (𝓤 : URA M) (H : Heap 𝓤) (A : Atoms 𝓤) (W : Given
   Inv-here s = Inv bus ys es os ls us most s
 
   abbrev holds : State → List Holds
-  holds s = free ∷ has (buses .val bus) ∷ has (word s₁ (length ys)) ∷ has (word s₂ (length es)) ∷ has (word s₃ (length os)) ∷ has (word s₄ (length ls)) ∷ has (word s₅ (length us)) ∷ has (vint w32 most) ∷ free ∷ free ∷ has (runs .val (s .last)) ∷ has (vint w32 (s .left)) ∷ has (vbool (s .going)) ∷ free ∷ free ∷ free ∷ free ∷ free ∷ free ∷ free ∷ free ∷ free ∷ free ∷ free ∷ free ∷ free ∷ free ∷ []
+  holds s = free ∷ has (buses .val bus) ∷ has (word s₁ (length ys)) ∷ has (word s₂ (length es)) ∷ has (word s₃ (length os)) ∷ has (word s₄ (length ls)) ∷ has (word s₅ (length us)) ∷ has (vint w32 most) ∷ free ∷ free ∷ has (runs .val (s .last)) ∷ has (vint w32 (s .left)) ∷ has (vbool (s .going)) ∷ free ∷ free ∷ free ∷ free ∷ free ∷ free ∷ free ∷ free ∷ free ∷ free ∷ free ∷ free ∷ free ∷ free ∷ free ∷ free ∷ []
 
   abbrev items : State → List (Item 𝓤)
   items s = itemsOf W (params (s .terminals) (s .octets) (s .notes))
@@ -257,9 +326,9 @@ module _ {M : Type 1} (𝓤 : URA M) (H : Heap 𝓤) (A : Atoms 𝓤) (W : Given
   abbrev tested : State → List Holds
   tested s = set (holds s) 19 (has (vbool (s .going)))
 
-  walk : (𝓣 : Tables 𝓤 H) → Triple 𝓤 (𝓣 .C #ready) (Readies 𝓤 H A mem run) → Triple 𝓤 (𝓣 .C #reason) (Reasons 𝓤 H A mem run) → Triple 𝓤 (𝓣 .C #refused) (Refuses 𝓤 H A mem run) → Triple 𝓤 (𝓣 .C #goes) (Goes 𝓤 H A mem run) → Triple 𝓤 (𝓣 .C #step) (Steps 𝓤 H A mem run)
+  walk : (𝓣 : Tables 𝓤 H) → Triple 𝓤 (𝓣 .C #ready) (Readies 𝓤 H A mem run) → Triple 𝓤 (𝓣 .C #reason) (Reasons 𝓤 H A mem run) → Triple 𝓤 (𝓣 .C #refused) (Refuses 𝓤 H A mem run) → Triple 𝓤 (𝓣 .C #goes) (Goes 𝓤 H A mem run) → Triple 𝓤 (𝓣 .C #step) (Steps 𝓤 H A mem run) → Triple 𝓤 (𝓣 .C #bus-in) (Buses 𝓤 H A mem run) → Triple 𝓤 (𝓣 .C #ran-in) (Rans 𝓤 H A mem run) → Triple 𝓤 (𝓣 .C #over-in) (Overs 𝓤 H A mem run)
       → ent 𝓤 (onEntry 𝓤 H A all.signature (bound .0 .0) (bound .0 .1) (bound .0 .3) (bound .0 .4)) (WpFn 𝓤 H (𝓣 .C) (𝓣 .Λ) code.function words Post)
-  walk 𝓣 k₁ k₂ k₃ k₄ k₅ = enters-with W (params ys os us) (𝓣 .C) (𝓣 .Λ) code.function words Post _ (id⊢ 𝓤 _)
+  walk 𝓣 k₁ k₂ k₃ k₄ k₅ k₆ k₇ k₈ = enters-with W (params ys os us) (𝓣 .C) (𝓣 .Λ) code.function words Post _ (id⊢ 𝓤 _)
       (typed buses 𝓤 H A W bus _ gb, ((tt, (tt, (record { fits = g₁ .0 }, tt))), ((tt, (tt, (record { fits = g₂ .0 }, tt))), ((tt, (tt, (record { fits = g₃ .0 }, tt))), ((tt, (tt, (record { fits = g₄ .0 }, tt))), ((tt, (tt, (record { fits = g₅ .0 }, tt))), ((tt, record { fits = gm }), tt))))))) (λ bs.
       -- in_range(terminals)
       reborrows ! (g₁ .0) (tt, refl, refl, tt, (tt, tt), tt, refl, tt, refl, tt, tt) $
@@ -275,28 +344,30 @@ module _ {M : Type 1} (𝓤 : URA M) (H : Heap 𝓤) (A : Atoms 𝓤) (W : Given
       blurs ! (holds (first-state bus ys es os ls us most r g)) (refl, (refl, (refl, (refl, (refl, (refl, (refl, (refl, (refl, (refl, tt)))))))))) $
       whiles-by 𝓣 (λ s. s .left) Inv-here (λ s. s .going) holds tested items ! (λ s i X. sets ! (of-opd ! (loc ! tt refl)) tt (tt, tt)) (λ s. tt) (λ s. refl)
       (λ s i on X ret next.
-      -- advance(last.bus, terminals, images, octets, letters, notes, left)
+      -- advance(bus_of(last), terminals, images, octets, letters, notes, left)
+      calls-giving (the-bus (s .last) (i .last-is)) [] ! refl 𝓣 k₆ (λ ns Θ. and-then ! (loc ! tt refl) (no-more !)) tt (λ ns. refl) (λ ns b _ _ is-b gb′.
       reborrows ! (g₁ .0) (tt, refl, refl, tt, (tt, tt), tt, refl, tt, refl, tt, tt) $ reborrows ! (g₃ .0) (tt, refl, refl, tt, (tt, tt), tt, refl, tt, refl, tt, tt) $ reborrows ! (g₅ .0) (tt, refl, refl, tt, (tt, tt), tt, refl, tt, refl, tt, tt) $
-      calls-giving (the-step s i (lengths-here bus ys es os ls us most s i on)) (1 ∷ 2 ∷ 3 ∷ 4 ∷ 5 ∷ []) ! refl 𝓣 k₅ (λ ns Θ. and-then ! (part ! tt refl refl refl) (and-then ! (loc ! tt refl) (and-then ! (loc ! tt refl) (and-then ! (loc ! tt refl) (and-then ! (loc ! tt refl) (and-then ! (loc ! tt refl) (and-then ! (loc ! tt refl) (no-more !)))))))) tt (λ ns. refl) (λ ns t ws same so gt.
-      -- last = t.ran; left -= 1 + t.over; goes_on(last, left)
-      sets ! (of-opd ! (part ! tt refl refl refl)) tt (typed runs 𝓤 H A W (t .ran) _ (LL.owed Tu.the-type Tu′.the-laws t _ gt .0)) $
-      sets ! (bin ! (lit ! tt) (part ! tt refl refl refl) (record { fits = no-more-than (s .left) (1 + t .over) (turn-within bus ys es os ls us most s i on t (ws .1 .0) (ws .1 .1 .1 .0) (ws .1 .1 .1 .1 .1 .0) so) (i .left-fits) })) tt (tt, record { fits = no-more-than (s .left) (1 + t .over) (turn-within bus ys es os ls us most s i on t (ws .1 .0) (ws .1 .1 .1 .0) (ws .1 .1 .1 .1 .1 .0) so) (i .left-fits) }) $
-      sets ! (bin ! (loc ! tt refl) (loc ! tt refl) (turn-within bus ys es os ls us most s i on t (ws .1 .0) (ws .1 .1 .1 .0) (ws .1 .1 .1 .1 .1 .0) so)) tt (tt, record { fits = less (s .left) (1 + t .over) (i .left-fits) }) $
-      calls-giving-last (the-goes (t .ran) (LL.owed Tu.the-type Tu′.the-laws t _ gt .0) (s .left - (1 + t .over)) (less (s .left) (1 + t .over) (i .left-fits))) [] ! refl 𝓣 k₄ (λ ns Θ. and-then ! (loc ! tt refl) (and-then ! (loc ! tt refl) (no-more !))) tt (λ ns. refl) (λ ns g′ _ _ is-g′ gg′.
-      blurs ! (holds (next-state bus ys es os ls us most s t g′ (ws .1 .0) (ws .1 .1 .1 .0) (ws .1 .1 .1 .1 .1 .0))) (refl, (refl, (refl, (refl, (refl, (refl, (refl, (refl, (refl, (refl, tt)))))))))) $
-      next (next-state bus ys es os ls us most s t g′ (ws .1 .0) (ws .1 .1 .1 .0) (ws .1 .1 .1 .1 .1 .0))
-      (record { same₁ = same .0 ∙ i .same₁; same₃ = same .1 .0 ∙ i .same₃; same₅ = same .1 .1 .0 ∙ i .same₅; last-is = LL.owed Tu.the-type Tu′.the-laws t _ gt .0; left-fits = less (s .left) (1 + t .over) (i .left-fits); going-is = is-g′; so-far = goes-after bus ys es os ls us most s i on t (ws .1 .0) (ws .1 .1 .1 .0) (ws .1 .1 .1 .1 .1 .0) so })
-      (fewer bus ys es os ls us most s i on t (ws .1 .0) (ws .1 .1 .1 .0) (ws .1 .1 .1 .1 .1 .0) so))))
+      calls-giving (the-step s i (lengths-here bus ys es os ls us most s i on) b gb′) (1 ∷ 2 ∷ 3 ∷ 4 ∷ 5 ∷ []) ! refl 𝓣 k₅ (λ ns Θ. and-then ! (loc ! tt refl) (and-then ! (loc ! tt refl) (and-then ! (loc ! tt refl) (and-then ! (loc ! tt refl) (and-then ! (loc ! tt refl) (and-then ! (loc ! tt refl) (and-then ! (loc ! tt refl) (no-more !)))))))) tt (λ ns. refl) (λ ns t ws same so gt.
+      -- last = ran_of(t); left -= 1 + over_of(t); goes_on(last, left)
+      calls-giving (the-ran t gt) [] ! refl 𝓣 k₇ (λ ns Θ. and-then ! (loc ! tt refl) (no-more !)) tt (λ ns. refl) (λ ns r′ _ _ is-r′ gr′.
+      calls-giving (the-over t gt) [] ! refl 𝓣 k₈ (λ ns Θ. and-then ! (loc ! tt refl) (no-more !)) tt (λ ns. refl) (λ ns o _ _ is-o _.
+      sets ! (bin ! (lit ! tt) (loc ! tt refl) (record { fits = no-more-than (s .left) (1 + o) (turn-within bus ys es os ls us most s i on b is-b t o is-o (ws .1 .0) (ws .1 .1 .1 .0) (ws .1 .1 .1 .1 .1 .0) so) (i .left-fits) })) tt (tt, record { fits = no-more-than (s .left) (1 + o) (turn-within bus ys es os ls us most s i on b is-b t o is-o (ws .1 .0) (ws .1 .1 .1 .0) (ws .1 .1 .1 .1 .1 .0) so) (i .left-fits) }) $
+      sets ! (bin ! (loc ! tt refl) (loc ! tt refl) (turn-within bus ys es os ls us most s i on b is-b t o is-o (ws .1 .0) (ws .1 .1 .1 .0) (ws .1 .1 .1 .1 .1 .0) so)) tt (tt, record { fits = less (s .left) (1 + o) (i .left-fits) }) $
+      calls-giving-last (the-goes r′ gr′ (s .left - (1 + o)) (less (s .left) (1 + o) (i .left-fits))) [] ! refl 𝓣 k₄ (λ ns Θ. and-then ! (loc ! tt refl) (and-then ! (loc ! tt refl) (no-more !))) tt (λ ns. refl) (λ ns g′ _ _ is-g′ gg′.
+      blurs ! (holds (next-state bus ys es os ls us most s r′ o g′ (ws .1 .0) (ws .1 .1 .1 .0) (ws .1 .1 .1 .1 .1 .0))) (refl, (refl, (refl, (refl, (refl, (refl, (refl, (refl, (refl, (refl, tt)))))))))) $
+      next (next-state bus ys es os ls us most s r′ o g′ (ws .1 .0) (ws .1 .1 .1 .0) (ws .1 .1 .1 .1 .1 .0))
+      (record { same₁ = same .0 ∙ i .same₁; same₃ = same .1 .0 ∙ i .same₃; same₅ = same .1 .1 .0 ∙ i .same₅; last-is = gr′; left-fits = less (s .left) (1 + o) (i .left-fits); going-is = is-g′; so-far = goes-after bus ys es os ls us most s i on b is-b t o is-o (ws .1 .0) (ws .1 .1 .1 .0) (ws .1 .1 .1 .1 .1 .0) so r′ is-r′ })
+      (fewer bus ys es os ls us most s i on b is-b t o is-o (ws .1 .0) (ws .1 .1 .1 .0) (ws .1 .1 .1 .1 .1 .0) so)))))))
       (λ s i off. sets ! (of-opd ! (loc ! tt refl)) tt (typed runs 𝓤 H A W (s .last) _ (i .last-is)) $ leaves ! Post refl tt refl (exits (s .last) (s .terminals) (s .octets) (s .notes) (i .same₁) (i .same₃) (i .same₅) (done-all bus ys es os ls us most s i off) (i .last-is)))
       (first-state bus ys es os ls us most r g) (record { same₁ = refl; same₃ = refl; same₅ = refl; last-is = gr; left-fits = gm; going-is = is-g; so-far = first-goes bus ys es os ls us most w k r is-w is-k is-r }))))))
 
-meets : {M : Type 1} (𝓤 : URA M) (H : Heap 𝓤) (A : Atoms 𝓤) → Given 𝓤 H A → (mem : Memory → SProp 𝓤) (run : Routine → Fun 𝓤) (𝓣 : Tables 𝓤 H) → Triple 𝓤 (𝓣 .C #ready) (Readies 𝓤 H A mem run) → Triple 𝓤 (𝓣 .C #reason) (Reasons 𝓤 H A mem run) → Triple 𝓤 (𝓣 .C #refused) (Refuses 𝓤 H A mem run) → Triple 𝓤 (𝓣 .C #goes) (Goes 𝓤 H A mem run) → Triple 𝓤 (𝓣 .C #step) (Steps 𝓤 H A mem run)
+meets : {M : Type 1} (𝓤 : URA M) (H : Heap 𝓤) (A : Atoms 𝓤) → Given 𝓤 H A → (mem : Memory → SProp 𝓤) (run : Routine → Fun 𝓤) (𝓣 : Tables 𝓤 H) → Triple 𝓤 (𝓣 .C #ready) (Readies 𝓤 H A mem run) → Triple 𝓤 (𝓣 .C #reason) (Reasons 𝓤 H A mem run) → Triple 𝓤 (𝓣 .C #refused) (Refuses 𝓤 H A mem run) → Triple 𝓤 (𝓣 .C #goes) (Goes 𝓤 H A mem run) → Triple 𝓤 (𝓣 .C #step) (Steps 𝓤 H A mem run) → Triple 𝓤 (𝓣 .C #bus-in) (Buses 𝓤 H A mem run) → Triple 𝓤 (𝓣 .C #ran-in) (Rans 𝓤 H A mem run) → Triple 𝓤 (𝓣 .C #over-in) (Overs 𝓤 H A mem run)
     → Meets 𝓤 H A all.signature (WpFn 𝓤 H (𝓣 .C) (𝓣 .Λ) code.function) (all.spec 𝓤 H A mem run)
-meets 𝓤 H A W mem run 𝓣 k₁ k₂ k₃ k₄ k₅ =
+meets 𝓤 H A W mem run 𝓣 k₁ k₂ k₃ k₄ k₅ k₆ k₇ k₈ =
     meets-by 𝓤 H A W all.ended ways (all.clauses 𝓤 H A mem run) 𝓣 code.function (λ κs qs bounds a g are. via 𝓤 _ (fst∗ 𝓤 _ (emp 𝓤))
     (walk 𝓤 H A W mem run (spot (κs .0) (qs .0) (a .1 .0)) (spot (κs .1 .0) (qs .1 .0) (a .1 .1 .0)) (spot (κs .1 .1 .0) (qs .1 .1 .0) (a .1 .1 .1 .0)) (spot (κs .1 .1 .1 .0) (qs .1 .1 .1 .0) (a .1 .1 .1 .1 .0)) (spot (κs .1 .1 .1 .1 .0) (qs .1 .1 .1 .1 .0) (a .1 .1 .1 .1 .1 .0))
     (a .0) (a .1 .0 .now) (a .1 .1 .0 .now) (a .1 .1 .1 .0 .now) (a .1 .1 .1 .1 .0 .now) (a .1 .1 .1 .1 .1 .0 .now) (a .1 .1 .1 .1 .1 .1 .0)
-    (are .0) (are .1 .0 .0 .1) (are .1 .1 .0 .0 .1) (are .1 .1 .1 .0 .0 .1) (are .1 .1 .1 .1 .0 .0 .1) (are .1 .1 .1 .1 .1 .0 .0 .1) (are .1 .1 .1 .1 .1 .1 .0 .1) 𝓣 k₁ k₂ k₃ k₄ k₅))
+    (are .0) (are .1 .0 .0 .1) (are .1 .1 .0 .0 .1) (are .1 .1 .1 .0 .0 .1) (are .1 .1 .1 .1 .0 .0 .1) (are .1 .1 .1 .1 .1 .0 .0 .1) (are .1 .1 .1 .1 .1 .1 .0 .1) 𝓣 k₁ k₂ k₃ k₄ k₅ k₆ k₇ k₈))
 
 pub run-spec : {M : Type 1} → stated.statement M
 unfolding code.routine tablesOf
@@ -308,4 +379,7 @@ run-spec 𝓤 H 𝓜 𝓖 𝓡 =
     (cited 𝓤 H (Reasons 𝓤 H (𝓖 .A) (𝓜 .mem) (𝓡 .run)) 𝓜 𝓡 code.env #reason reason-def.routine code.calls-bus-calls·ready·run-reason (reason-thm.met 𝓤 H 𝓜 𝓖 𝓡))
     (cited 𝓤 H (Refuses 𝓤 H (𝓖 .A) (𝓜 .mem) (𝓡 .run)) 𝓜 𝓡 code.env #refused refused-def.routine code.calls-bus-record·side·refused-run (refused-thm.met 𝓤 H 𝓜 𝓖 𝓡))
     (cited 𝓤 H (Goes 𝓤 H (𝓖 .A) (𝓜 .mem) (𝓡 .run)) 𝓜 𝓡 code.env #goes goes-def.routine code.calls-bus-calls·ready·goes-on (goes-thm.met 𝓤 H 𝓜 𝓖 𝓡))
-    (cited 𝓤 H (Steps 𝓤 H (𝓖 .A) (𝓜 .mem) (𝓡 .run)) 𝓜 𝓡 code.env #step step-def.routine code.calls-bus-calls·turn·advance (step-thm.met 𝓤 H 𝓜 𝓖 𝓡)))
+    (cited 𝓤 H (Steps 𝓤 H (𝓖 .A) (𝓜 .mem) (𝓡 .run)) 𝓜 𝓡 code.env #step step-def.routine code.calls-bus-calls·turn·advance (step-thm.met 𝓤 H 𝓜 𝓖 𝓡))
+    (cited 𝓤 H (Buses 𝓤 H (𝓖 .A) (𝓜 .mem) (𝓡 .run)) 𝓜 𝓡 code.env #bus-in bus-in-def.routine code.calls-bus-calls·fields·bus-of (bus-in-thm.met 𝓤 H 𝓜 𝓖 𝓡))
+    (cited 𝓤 H (Rans 𝓤 H (𝓖 .A) (𝓜 .mem) (𝓡 .run)) 𝓜 𝓡 code.env #ran-in ran-in-def.routine code.calls-bus-calls·fields·ran-of (ran-in-thm.met 𝓤 H 𝓜 𝓖 𝓡))
+    (cited 𝓤 H (Overs 𝓤 H (𝓖 .A) (𝓜 .mem) (𝓡 .run)) 𝓜 𝓡 code.env #over-in over-in-def.routine code.calls-bus-calls·fields·over-of (over-in-thm.met 𝓤 H 𝓜 𝓖 𝓡)))
