@@ -37,9 +37,12 @@ alike [] (y ∷ ys) = false
 alike (x ∷ xs) [] = false
 alike (x ∷ xs) (y ∷ ys) = cond (cond x y (not y)) (alike xs ys) false
 
--- a terminal in F7 with C at c that holds a frame of class k with an image of n bits, the class at its low level or not
+-- a terminal in F7 with C at c that holds a frame of class k with an image of n bits, the class at its low level or not, and the other
+-- class at the other level
 abbrev holding : ℕ → Bool → ℕ → ℕ → Access
-holding k low n c = record { length = n; sent = 0; count = c; held = k; low1 = low; low2 = low; last = true }
+holding k low n c =
+    let first = eqb k 1 in
+    record { length = n; sent = 0; count = c; held = k; low1 = cond first low (not low); low2 = cond first (not low) low; last = true }
 
 -- whether it starts
 abbrev starts : ℕ → Bool → ℕ → Bool
