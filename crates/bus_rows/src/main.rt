@@ -18,46 +18,55 @@ use bus_event::event::AR;
 use bus_event::event::D1;
 use bus_event::event::IMAGES_ROOM;
 use bus_event::event::ON;
+use bus_record::record::BusRecord;
 use packing::image::LONGEST_BODY;
 use print::say;
+use print::two;
+use terminal::Terminal;
 
 mod bench;
-mod echoes;
 mod print;
 mod row;
 
-fn document_01() {
-    say(b"document 01: the bench book\n");
-    let mut images = [0u8; IMAGES_ROOM];
-    let mut body = [0u8; LONGEST_BODY];
-    let start = Bench::fresh(1);
-    let on = start.given(&mut images, 1, ON, b"");
-    let first = on.until(&images, &mut body, 1);
-    let asked = first.given(&mut images, 1, AR, b"");
-    let active = asked.until(&images, &mut body, 9);
-    let holding = active.given(&mut images, 1, D1, b"\x00");
-    holding.until(&images, &mut body, 20);
-}
+// The events of a book: unit, event, the octet of a frame, and the period before which the next event is given, or the book ends.
+const DOCUMENT_01: [[u8; 4]; 3] = [[1, ON, 0, 1], [1, AR, 0, 9], [1, D1, 0x00, 20]];
 
-fn iv_2_1() {
-    say(b"IV.2.1: the echo\n");
+const IV_2_1: [[u8; 4]; 6] = [
+    [1, ON, 0, 0],
+    [2, ON, 0, 1],
+    [0, AR, 0, 8],
+    [1, D1, 0x01, 8],
+    [2, D1, 0x00, 16],
+    [2, D1, 0x00, 33],
+];
+
+// The rows of a book; how often each E followed each D in G3.
+fn book(events: &[[u8; 4]], used: usize) -> [u32; 4] {
     let mut images = [0u8; IMAGES_ROOM];
     let mut body = [0u8; LONGEST_BODY];
-    let start = Bench::fresh(2);
-    let one = start.given(&mut images, 1, ON, b"");
-    let two = one.given(&mut images, 2, ON, b"");
-    let first = two.until(&images, &mut body, 1);
-    let asked = first.given(&mut images, 0, AR, b"");
-    let active = asked.until(&images, &mut body, 8);
-    let loser = active.given(&mut images, 1, D1, b"\x01");
-    let both = loser.given(&mut images, 2, D1, b"\x00");
-    let won = both.until(&images, &mut body, 16);
-    let again = won.given(&mut images, 2, D1, b"\x00");
-    let ended = again.until(&images, &mut body, 33);
-    ended.echoes.rows();
+    let mut counts = [0u32; 4];
+    let mut bench = Bench {
+        bus: BusRecord::fresh(),
+        terminals: [Terminal::fresh(); 8],
+    };
+    let mut i: usize = 0;
+    while i < events.len() {
+        let e = events[i];
+        i += 1;
+        bench = bench.given(&mut images, e[0], e[1], e[2]);
+        bench = bench.until(&images, &mut body, &mut counts, used, e[3]);
+    }
+    counts
 }
 
 fn main() {
-    document_01();
-    iv_2_1();
+    say(b"document 01: the bench book");
+    book(&DOCUMENT_01, 1);
+    say(b"\nIV.2.1: the echo");
+    let n = book(&IV_2_1, 2);
+    two(b"\nIV.2.1 D 0 echo 0:", n[0]);
+    two(b" 1:", n[1]);
+    two(b"\nIV.2.1 D 1 echo 0:", n[2]);
+    two(b" 1:", n[3]);
+    say(b"\n");
 }

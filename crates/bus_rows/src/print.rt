@@ -12,29 +12,39 @@ pub(crate) fn number(text: &[u8], n: u32) {
     io::print_decimal(STDOUT_FILENO, n as u64);
 }
 
-// A number in two places.
-pub(crate) fn two(n: u32) {
+// A text and a number in two places.
+pub(crate) fn two(text: &[u8], n: u32) {
+    say(text);
     if n < 10 {
         say(b" ");
     }
-    number(b"", n);
+    io::print_decimal(STDOUT_FILENO, n as u64);
 }
 
-// Octets in hexadecimal.
-pub(crate) fn octets(o: &[u8]) {
+// The first octets of some in hexadecimal.
+pub(crate) fn octets(o: &[u8], count: usize) {
     let mut i: usize = 0;
     while i < o.len() {
-        io::print_hex(STDOUT_FILENO, o[i] as u64, 2);
+        if i < count {
+            io::print_hex(STDOUT_FILENO, o[i] as u64, 2);
+        }
         i += 1;
     }
 }
 
-// The notes of a unit.
-pub(crate) fn notes(unit: u32, n: Notes) {
-    note(unit, n.1);
-    note(unit, n.2);
-    note(unit, n.3);
-    note(unit, n.4);
+// The word of a code, from 1 on; each word stands behind a comma.
+pub(crate) fn word(words: &[u8], code: u8) {
+    let mut at: usize = 0;
+    let mut i: usize = 0;
+    while i < words.len() {
+        let c = words[i];
+        if c == b',' {
+            at += 1;
+        } else if at == code as usize {
+            say(&[c]);
+        }
+        i += 1;
+    }
 }
 
 // A note of a unit by its code, 0 for none.
@@ -43,35 +53,17 @@ pub(crate) fn note(unit: u32, code: u8) {
         return;
     }
     number(b"  ", unit);
-    match code {
-        1 => say(b" PH-ACT"),
-        2 => say(b" PH-DEACT"),
-        3 => say(b" MPH-ACT"),
-        4 => say(b" MPH-DEACT"),
-        5 => say(b" MPH-EI"),
-        6 => say(b" MPH-EI1"),
-        7 => say(b" MPH-EI2"),
-        8 => say(b" MPH-II connected"),
-        9 => say(b" MPH-II disconnected"),
-        10 => say(b" heard "),
-        11 => say(b" torn"),
-        12 => say(b" done1"),
-        13 => say(b" done2"),
-        14 => say(b" dropped1"),
-        15 => say(b" dropped2"),
-        _ => say(b" refused"),
-    }
+    word(
+        b", PH-ACT, PH-DEACT, MPH-ACT, MPH-DEACT, MPH-EI, MPH-EI1, MPH-EI2, MPH-II connected, MPH-II disconnected\
+        , heard , torn, done1, done2, dropped1, dropped2, refused",
+        code,
+    );
 }
 
-// The name of an event.
-pub(crate) fn event(code: u8) {
-    match code {
-        1 => say(b" on"),
-        2 => say(b" off"),
-        3 => say(b" ar"),
-        4 => say(b" dr"),
-        5 => say(b" d1 "),
-        6 => say(b" d2 "),
-        _ => say(b" hit "),
-    }
+// The notes of a unit.
+pub(crate) fn notes(unit: u32, n: Notes) {
+    note(unit, n.1);
+    note(unit, n.2);
+    note(unit, n.3);
+    note(unit, n.4);
 }

@@ -1,4 +1,4 @@
--- `octets` meets its contract, which says nothing: its loop ends, and it reads inside its slices.
+-- `octets` meets its contract, which says nothing: its loop ends, and it reads inside its slice.
 use Prim.Native.Nat.{_≤_, _-_}
 use native.Mathlib.Omega.{arith}
 use lib.ListN.{length}
@@ -7,10 +7,10 @@ use Rattle.bus_rows.proofs.print.octets.Statement.{statement}
 use Rattle.bus_rows.proofs.print.octets.Tie as tie
 
 abbrev Inv-loop : tie.InvT-loop
-Inv-loop o i₀ i = i ≤ length o
+Inv-loop o count i₀ i = i ≤ length o
 
 abbrev μ-loop : tie.MeasureT-loop
-μ-loop o i₀ i = length o - i
+μ-loop o count i₀ i = length o - i
 
 loop-holds : tie.Need-loop-holds Inv-loop μ-loop
 loop-holds c = search needs
@@ -19,7 +19,7 @@ shared-slice-read-print-hex : tie.Need-shared-slice-read-print-hex Inv-loop μ-l
 shared-slice-read-print-hex c = search needs
 
 cast-print-hex : tie.Need-cast-print-hex Inv-loop μ-loop
-cast-print-hex c = omega (arith, c .shared-slice-known2 .given (c .before .before .loop .i))
+cast-print-hex c = omega (arith, c .shared-slice-known2 .given (c .before .before .before .loop .i))
 
 print-hex-requires : tie.Need-print-hex-requires Inv-loop μ-loop
 print-hex-requires c κs = search needs

@@ -19,14 +19,29 @@ mul-n c = search needs
 array-copy-out-n : tie.Need-array-copy-out-n Inv-loop μ-loop
 array-copy-out-n c = search needs
 
-cast-of-terminal : tie.Need-cast-of-terminal Inv-loop μ-loop
-cast-of-terminal c = search needs
+cast-unit : tie.Need-cast-unit Inv-loop μ-loop
+cast-unit c = search needs
 
-add-of-terminal : tie.Need-add-of-terminal Inv-loop μ-loop
-add-of-terminal c = search needs
+add-unit : tie.Need-add-unit Inv-loop μ-loop
+add-unit c = search needs
 
-of-terminal-requires : tie.Need-of-terminal-requires Inv-loop μ-loop
-of-terminal-requires c κs = search needs
+mul-note : tie.Need-mul-note Inv-loop μ-loop
+mul-note c = search needs
+
+note-requires : tie.Need-note-requires Inv-loop μ-loop
+note-requires c κs = search needs
+
+mul-note-2 : tie.Need-mul-note-2 Inv-loop μ-loop
+mul-note-2 c = search needs
+
+note-requires-2 : tie.Need-note-requires-2 Inv-loop μ-loop
+note-requires-2 c κs = search needs
+
+notes-requires : tie.Need-notes-requires Inv-loop μ-loop
+notes-requires c κs = search needs
+
+notes-requires-2 : tie.Need-notes-requires-2 Inv-loop μ-loop
+notes-requires-2 c κs = search needs
 
 add-i : tie.Need-add-i Inv-loop μ-loop
 add-i c = search needs
@@ -49,9 +64,14 @@ of-terminals-spec =
     loop-holds
     mul-n
     array-copy-out-n
-    cast-of-terminal
-    add-of-terminal
-    of-terminal-requires
+    cast-unit
+    add-unit
+    mul-note
+    note-requires
+    mul-note-2
+    note-requires-2
+    notes-requires
+    notes-requires-2
     add-i
     loop-less
     loop-again

@@ -5,19 +5,19 @@ use Rattle.bus_rows.proofs.row.states.Statement.{statement}
 use Rattle.bus_rows.proofs.row.states.Tie as tie
 
 abbrev Inv-loop : tie.InvT-loop
-Inv-loop used terminals state i₀ t10 i = i ≤ 8
+Inv-loop period network used terminals i₀ t11 i = i ≤ 8
 
 abbrev μ-loop : tie.MeasureT-loop
-μ-loop used terminals state i₀ t10 i = 8 - i
+μ-loop period network used terminals i₀ t11 i = 8 - i
+
+slice-aggregate-two : tie.Need-slice-aggregate-two Inv-loop μ-loop
+slice-aggregate-two c = search needs
 
 two-requires : tie.Need-two-requires Inv-loop μ-loop
 two-requires c κs = search needs
 
 slice-aggregate-number : tie.Need-slice-aggregate-number Inv-loop μ-loop
 slice-aggregate-number c = search needs
-
-cast-number : tie.Need-cast-number Inv-loop μ-loop
-cast-number c = search needs
 
 number-requires : tie.Need-number-requires Inv-loop μ-loop
 number-requires c κs = search needs
@@ -28,8 +28,8 @@ slice-aggregate-number-2 c = search needs
 info-sent-requires : tie.Need-info-sent-requires Inv-loop μ-loop
 info-sent-requires c κs = search needs
 
-cast-number-2 : tie.Need-cast-number-2 Inv-loop μ-loop
-cast-number-2 c = search needs
+cast-number : tie.Need-cast-number Inv-loop μ-loop
+cast-number c = search needs
 
 number-requires-2 : tie.Need-number-requires-2 Inv-loop μ-loop
 number-requires-2 c κs = search needs
@@ -70,13 +70,13 @@ states-spec =
     (tie.spec
     Inv-loop
     μ-loop
+    slice-aggregate-two
     two-requires
     slice-aggregate-number
-    cast-number
     number-requires
     slice-aggregate-number-2
     info-sent-requires
-    cast-number-2
+    cast-number
     number-requires-2
     loop-holds
     mul-t

@@ -1,25 +1,34 @@
 -- `until` meets its contract, which says nothing: its loop ends.
 use mathlib.Core.Path.{_≡_}
-use Prim.Native.Nat.{_-_}
+use Prim.Native.Nat.{_≤_, _-_}
 use lib.ListN.{length}
 use borrow.Author.Needs.{needs}
 use Rattle.bus_rows.proofs.bench.Bench.until.Statement.{statement}
 use Rattle.bus_rows.proofs.bench.Bench.until.Tie as tie
 
 abbrev Inv-loop : tie.InvT-loop
-Inv-loop images body₀ end bench₀ i₀ body bench i = length body ≡ length body₀
+Inv-loop images body₀ counts₀ used end letters bus₀ terminals₀ i₀ body counts bus terminals i = length body ≡ length body₀
 
 abbrev μ-loop : tie.MeasureT-loop
-μ-loop images body₀ end bench₀ i₀ body bench i = end - i
+μ-loop images body₀ counts₀ used end letters bus₀ terminals₀ i₀ body counts bus terminals i = end - i
 
 loop-holds : tie.Need-loop-holds Inv-loop μ-loop
 loop-holds c = search needs
 
-row-requires : tie.Need-row-requires Inv-loop μ-loop
-row-requires c κs = search needs
-
 add-i : tie.Need-add-i Inv-loop μ-loop
 add-i c = search needs
+
+exchange-requires : tie.Need-exchange-requires Inv-loop μ-loop
+exchange-requires c κs = search needs
+
+slice-aggregate-run : tie.Need-slice-aggregate-run Inv-loop μ-loop
+slice-aggregate-run c = search needs
+
+run-requires : tie.Need-run-requires Inv-loop μ-loop
+run-requires c κs = search needs
+
+said-requires : tie.Need-said-requires Inv-loop μ-loop
+said-requires c κs = search needs
 
 loop-less : tie.Need-loop-less Inv-loop μ-loop
 loop-less c = search needs
@@ -40,8 +49,11 @@ until-spec =
     Inv-loop
     μ-loop
     loop-holds
-    row-requires
     add-i
+    exchange-requires
+    slice-aggregate-run
+    run-requires
+    said-requires
     loop-less
     loop-again
     same-length
