@@ -77,7 +77,7 @@ fn states(period: u32, network: u8, terminals: [Terminal; 8], used: usize) {
     say(b" ");
 }
 
-// A terminal: state, INFO, and in F7 its C, X1 and X2.
+// A terminal: state, INFO, and in F7 its C, X1 and X2: 8 and 10 are even, and the low level is one more.
 fn terminal(state: u8, count: u8, low1: bool, low2: bool) {
     number(b"  F", state as u32);
     number(b" I", table_6_2::info_sent(state) as u32);
