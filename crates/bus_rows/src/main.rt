@@ -14,6 +14,8 @@
 // start together: terminal 1, with body 01, sends a 1 where terminal 2, with body 00, sends a 0, and stops at the next E; terminal 2
 // is done, and its second frame waits for C = 9 while terminal 1 starts over at C = 8. Its last rows count what E follows each D in G3.
 use bench::Bench;
+use bench::given;
+use bench::until;
 use bus_event::event::AR;
 use bus_event::event::D1;
 use bus_event::event::IMAGES_ROOM;
@@ -53,20 +55,34 @@ fn book(events: &[[u8; 4]], used: usize) -> [u32; 4] {
     while i < events.len() {
         let e = events[i];
         i += 1;
-        bench = bench.given(&mut images, e[0], e[1], e[2]);
-        bench = bench.until(&images, &mut body, &mut counts, used, e[3]);
+        let mut terminals = bench.terminals;
+        bench = given(bench.bus, terminals, &mut images, e[0], e[1], e[2]);
+        terminals = bench.terminals;
+        bench = until(
+            bench.bus,
+            terminals,
+            &images,
+            &mut body,
+            &mut counts,
+            used,
+            e[3],
+        );
     }
     counts
+}
+
+// How often E was 0, and how often 1, after a D of 0 and after a D of 1.
+fn echoes(n: [u32; 4]) {
+    two(b"\nIV.2.1 D 0 echo 0:", n[0]);
+    two(b" 1:", n[1]);
+    two(b"\nIV.2.1 D 1 echo 0:", n[2]);
+    two(b" 1:", n[3]);
+    say(b"\n");
 }
 
 fn main() {
     say(b"document 01: the bench book");
     book(&DOCUMENT_01, 1);
     say(b"\nIV.2.1: the echo");
-    let n = book(&IV_2_1, 2);
-    two(b"\nIV.2.1 D 0 echo 0:", n[0]);
-    two(b" 1:", n[1]);
-    two(b"\nIV.2.1 D 1 echo 0:", n[2]);
-    two(b" 1:", n[3]);
-    say(b"\n");
+    echoes(book(&IV_2_1, 2));
 }

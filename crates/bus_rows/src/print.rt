@@ -60,8 +60,10 @@ pub(crate) fn note(unit: u32, code: u8) {
     );
 }
 
-// The notes of a unit.
-pub(crate) fn notes(unit: u32, n: Notes) {
+// The notes of a unit: those of completed frames by their codes, and others.
+pub(crate) fn notes(unit: u32, first: u8, second: u8, n: Notes) {
+    note(unit, first);
+    note(unit, second);
     note(unit, n.1);
     note(unit, n.2);
     note(unit, n.3);

@@ -1,4 +1,4 @@
-// What the row of an event has, and that of a period.
+// What the row of an event has, and that of a period. A row begins with the end of the line before it.
 use super::print::note;
 use super::print::notes;
 use super::print::number;
@@ -19,16 +19,16 @@ use table_6_2::F7;
 use table_6_3::G3;
 use terminal::Terminal;
 
-// The row of an event, whose octet counts for a frame alone, from what the call gives.
+// The row of an event, with its octet from D1 on, and what the call gives.
 pub(crate) fn event(period: u32, unit: u32, code: u8, octet: u8, g: HeldEvent) {
     two(b"\n", period);
     number(b" ", unit);
     word(b", on, off, ar, dr, d1 , d2 , hit ", code);
-    octets(&[octet], (code == D1) as usize);
+    octets(&[octet], (D1 <= code) as usize);
     if g.told.reply != 0 {
         number(b"  refused ", g.told.reply as u32);
     }
-    notes(unit, g.told.notes);
+    notes(unit, 0, 0, g.told.notes);
 }
 
 // The four opportunities of a period without a hit: the states after them, and the pairs of E and D. Each E in G3 is counted by the D
@@ -81,13 +81,14 @@ fn states(period: u32, network: u8, terminals: [Terminal; 8], used: usize) {
 fn terminal(state: u8, count: u8, low1: bool, low2: bool) {
     number(b"  F", state as u32);
     number(b" I", table_6_2::info_sent(state) as u32);
-    if state == F7 {
-        two(b" ", count as u32);
-        two(b" ", 8 | low1 as u32);
-        two(b" ", 10 | low2 as u32);
-    } else {
+    if state != F7 {
         say(b"  -  -  -");
+        return;
     }
+    two(b" ", count as u32);
+    // 8 or 9, and 10 or 11.
+    two(b" ", 8 | low1 as u32);
+    two(b" ", 10 | low2 as u32);
 }
 
 // The notes of a period: unit 0 with the octets of a heard body, the terminals, then those of timers due at the next one's start.
@@ -95,9 +96,9 @@ pub(crate) fn said(p: HeldRun, body: &[u8]) {
     let ns = p.notes;
     note(0, p.ran.said);
     octets(body, p.ran.body as usize);
-    notes(0, p.ran.network.heard);
+    notes(0, 0, 0, p.ran.network.heard);
     of_terminals(ns, p.ran.done1, p.ran.done2, false);
-    notes(0, p.ran.network.timed);
+    notes(0, 0, 0, p.ran.network.timed);
     of_terminals(ns, 0, 0, true);
 }
 
@@ -109,12 +110,10 @@ fn of_terminals(ns: [UnitNotes; 8], done1: u8, done2: u8, timed: bool) {
     while i < 8 {
         let n = ns[i];
         let unit = i as u32 + 1;
-        note(unit, first % 2 * DONE1);
-        note(unit, second % 2 * DONE2);
         if timed {
-            notes(unit, n.timed);
+            notes(unit, 0, 0, n.timed);
         } else {
-            notes(unit, n.heard);
+            notes(unit, first % 2 * DONE1, second % 2 * DONE2, n.heard);
         }
         first = first / 2;
         second = second / 2;

@@ -25,20 +25,14 @@ cast-unit c = search needs
 add-unit : tie.Need-add-unit Inv-loop μ-loop
 add-unit c = search needs
 
-mul-note : tie.Need-mul-note Inv-loop μ-loop
-mul-note c = search needs
-
-note-requires : tie.Need-note-requires Inv-loop μ-loop
-note-requires c κs = search needs
-
-mul-note-2 : tie.Need-mul-note-2 Inv-loop μ-loop
-mul-note-2 c = search needs
-
-note-requires-2 : tie.Need-note-requires-2 Inv-loop μ-loop
-note-requires-2 c κs = search needs
-
 notes-requires : tie.Need-notes-requires Inv-loop μ-loop
 notes-requires c κs = search needs
+
+mul-notes : tie.Need-mul-notes Inv-loop μ-loop
+mul-notes c = search needs
+
+mul-notes-2 : tie.Need-mul-notes-2 Inv-loop μ-loop
+mul-notes-2 c = search needs
 
 notes-requires-2 : tie.Need-notes-requires-2 Inv-loop μ-loop
 notes-requires-2 c κs = search needs
@@ -66,11 +60,9 @@ of-terminals-spec =
     array-copy-out-n
     cast-unit
     add-unit
-    mul-note
-    note-requires
-    mul-note-2
-    note-requires-2
     notes-requires
+    mul-notes
+    mul-notes-2
     notes-requires-2
     add-i
     loop-less

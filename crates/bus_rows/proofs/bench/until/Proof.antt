@@ -1,16 +1,16 @@
 -- `until` meets its contract, which says nothing: its loop ends.
 use mathlib.Core.Path.{_≡_}
-use Prim.Native.Nat.{_≤_, _-_}
+use Prim.Native.Nat.{_-_}
 use lib.ListN.{length}
 use borrow.Author.Needs.{needs}
-use Rattle.bus_rows.proofs.bench.Bench.until.Statement.{statement}
-use Rattle.bus_rows.proofs.bench.Bench.until.Tie as tie
+use Rattle.bus_rows.proofs.bench.until.Statement.{statement}
+use Rattle.bus_rows.proofs.bench.until.Tie as tie
 
 abbrev Inv-loop : tie.InvT-loop
-Inv-loop images body₀ counts₀ used end letters bus₀ terminals₀ i₀ body counts bus terminals i = length body ≡ length body₀
+Inv-loop bus₀ terminals₀ images body₀ counts₀ used end letters i₀ bus terminals body counts i = length body ≡ length body₀
 
 abbrev μ-loop : tie.MeasureT-loop
-μ-loop images body₀ counts₀ used end letters bus₀ terminals₀ i₀ body counts bus terminals i = end - i
+μ-loop bus₀ terminals₀ images body₀ counts₀ used end letters i₀ bus terminals body counts i = end - i
 
 loop-holds : tie.Need-loop-holds Inv-loop μ-loop
 loop-holds c = search needs
