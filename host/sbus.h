@@ -146,9 +146,10 @@ uint32_t sbus_run(uint8_t *bus, size_t bus_length, uint8_t *notes, size_t notes_
 // 0; 1: no bus; 2: counts under 8 octets.
 uint32_t sbus_counts(const uint8_t *bus, size_t bus_length, uint8_t *counts, size_t counts_length);
 
-// Tells what a unit is doing. Octet 0 of `seen` is its state (unit 0: 1 to 4 for G1 to G4; a terminal: 1 to 8 for F1 to F8), 1 whether it is aligned
-// (0 or 1); of a terminal also 2 the class of the frame that it holds (0 none), 3 and 4 how many bits that frame's image has, 5 and 6 how many of
-// them have left in the sending under way (0: none is under way). For unit 0 these are 0. Octets behind them are left as they are.
+// Tells what a unit is doing. Octet 0 of `seen` is its state (unit 0: 1 to 4 for G1 to G4; a terminal: 1 to 8 for F1 to F8), 1 whether it
+// is aligned (0 or 1); of a terminal also 2 the class of the frame that it holds (0 none), 3 and 4 how many bits that frame's image has, 5
+// and 6 how many of them have left in the sending under way (0: none is under way). For unit 0 these are 0. Octets behind them are left as
+// they are.
 // 0; 1: no bus; 2: seen under 7 octets; 3: the unit is above 8.
 uint32_t sbus_unit(const uint8_t *bus, size_t bus_length, uint32_t unit, uint8_t *seen, size_t seen_length);
 

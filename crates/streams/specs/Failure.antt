@@ -1,10 +1,22 @@
--- The line on standard error.
+-- Calls of the system that fail: errno, which are tried again, and the line on standard error.
+use mathlib.Core.Bool.{Bool, _||_}
 use mathlib.Core.List.{List, [], _∷_, _++_}
 use mathlib.Core.Path.{_≡_, refl}
 use Prim.Native.Nat.{ℕ}
+use lib.Dec.{eqb}
+use lib.IntN.{ℤ, pos, negsuc}
 use Rattle.cells.specs.Names.{ascii}
 use Rattle.text.specs.Text.{LF}
 use Rattle.note_text.specs.NoteText.{decimal, decimalIn}
+
+-- errno as a number: the system gives none below 0
+abbrev pub errnoOf : ℤ → ℕ
+errnoOf (pos n) = n
+errnoOf (negsuc n) = 0
+
+-- A signal has interrupted the call (EINTR, 4), or nothing could be moved yet (EAGAIN, 11).
+abbrev pub isTriedAgain : ℕ → Bool
+isTriedAgain errno = eqb errno 11 || eqb errno 4
 
 -- What has failed, a colon, a space, errno in decimal.
 unfoldable pub failureLine : List ℕ → ℕ → List ℕ

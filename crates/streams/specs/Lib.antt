@@ -1,2 +1,2 @@
--- What is said of a failure.
+-- What is done where a call of the system fails.
 pub mod Failure

@@ -1,7 +1,12 @@
 // Calls of the system that have failed and are tried again.
+ghost use mathlib.Core.Path.{_≡_};
+ghost use Rattle.streams.specs.Failure.{errnoOf, isTriedAgain};
 use super::pause::pause;
-use libc::EAGAIN;
-use libc::EINTR;
+
+// As in crate `libc`, where errno has a sign.
+const EINTR: u64 = 4;
+
+const EAGAIN: u64 = 11;
 
 // How often a call is tried again at the most: nothing says that it ever succeeds, so the tries are counted down, from a number that no
 // run uses up.
@@ -10,20 +15,27 @@ pub(crate) const TRIES: u64 = u64::MAX;
 // How many octets a call has moved, and errno where it has failed, 0 where it has not.
 pub(crate) struct Moved {
     pub(crate) count: usize,
-    pub(crate) error: i32,
+    pub(crate) error: u64,
+}
+
+// errno as a number.
+fn number(error: i32) -> u64
+    ensures { λ r. ⌜ r ≡ errnoOf error ⌝ }
+{
+    if error < 0 { 0 } else { error as u64 }
 }
 
 // errno, where the call just made has answered so: 0 where it has not failed.
-pub(crate) fn error_of(answer: isize) -> i32 {
-    if answer < 0 { os::errno() } else { 0 }
+pub(crate) fn error_of(answer: isize) -> u64 {
+    if answer < 0 { number(os::errno()) } else { 0 }
 }
 
-// Whether a call that gave this errno is tried again: a signal has interrupted it, or nothing could be moved yet. In that case it waits for
-// a while first.
-pub(crate) fn again(error: i32) -> bool {
+// Whether a call that gave this errno is tried again. Where it could move nothing yet, it waits for a while first.
+pub(crate) fn again(error: u64) -> bool
+    ensures { λ r. ⌜ r ≡ isTriedAgain error ⌝ }
+{
     if error == EAGAIN {
         pause();
-        return true;
     }
-    error == EINTR
+    (error == EAGAIN) | (error == EINTR)
 }

@@ -1,18 +1,9 @@
 // What has failed, said on standard error.
-ghost use mathlib.Core.Path.{_≡_};
-ghost use Prim.Native.Nat.{_≤_};
-ghost use mathlib.Core.List.{_++_, _∷_, []};
-ghost use lib.ListN.{length};
 ghost use Rattle.note_text.specs.Room.{Put};
 ghost use Rattle.streams.specs.Failure.{failureLine};
 use libc::STDERR_FILENO;
 use note_text::number::put_decimal;
 use note_text::room::put;
-
-// A number that is never below 0.
-fn number(error: i32) -> u64 {
-    if error < 0 { 0 } else { error as u64 }
-}
 
 // The line: what has failed, a colon, a space, errno.
 fn put_failure(room: &mut [u8], what: &[u8], errno: u64) -> usize
@@ -25,8 +16,8 @@ fn put_failure(room: &mut [u8], what: &[u8], errno: u64) -> usize
 }
 
 // Says in one line what has failed, with errno. Nobody can be told where this fails too.
-pub(crate) fn say(what: &[u8], error: i32) {
+pub(crate) fn say(what: &[u8], errno: u64) {
     let mut room = [0u8; 80];
-    let n = put_failure(&mut room, what, number(error));
+    let n = put_failure(&mut room, what, errno);
     io::write_all(STDERR_FILENO, &room[..n]);
 }

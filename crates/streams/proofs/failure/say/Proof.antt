@@ -9,9 +9,6 @@ use Rattle.streams.proofs.failure.say.Tie as tie
 slice-aggregate-put-failure : tie.Need-slice-aggregate-put-failure
 slice-aggregate-put-failure c = search needs
 
-number-requires : tie.Need-number-requires
-number-requires c κs = search needs
-
 put-failure-requires : tie.Need-put-failure-requires
 put-failure-requires c κs = search needs
 
@@ -32,7 +29,6 @@ say-spec =
     tie.close
     (tie.spec
     slice-aggregate-put-failure
-    number-requires
     put-failure-requires
     array-share-prefix-room
     slice-aggregate-write-all

@@ -1,5 +1,5 @@
 -- `read_in` meets its contract: what a read has left is counted inside the part. It ends: the tries are counted down.
-use mathlib.Core.Path.{_≡_, refl, _∙_}
+use mathlib.Core.Path.{_≡_}
 use native.Mathlib.Omega.{arith}
 use lib.ListN.{length}
 use borrow.Author.Needs.{needs}

@@ -1,6 +1,5 @@
 -- `write_out` meets its contract: what the writes have taken lies inside the octets. It ends: each turn takes an octet.
 use Prim.Native.Nat.{_-_, _≤_}
-use native.Mathlib.Omega.{arith}
 use lib.ListN.{length}
 use borrow.Author.Needs.{needs}
 use Rattle.streams.proofs.write.write_out.Statement.{statement}

@@ -1,6 +1,5 @@
 -- `write_some` meets its contract: what a write has taken lies inside the octets. It ends: the tries are counted down.
 use Prim.Native.Nat.{_+_, _≤_}
-use native.Mathlib.Omega.{arith}
 use lib.ListN.{length}
 use borrow.Author.Needs.{needs}
 use Rattle.streams.proofs.write.write_some.Statement.{statement}
