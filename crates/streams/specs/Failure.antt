@@ -23,6 +23,8 @@ unfoldable pub failureLine : List ℕ → ℕ → List ℕ
 failureLine what errno = what ++ (ascii ": " ++ (decimal errno ++ (LF ∷ [])))
 
 -- no space is left on the device
-pub example-failure : failureLine (ascii "bench: the report could not be written") 28 ≡ ascii "bench: the report could not be written: 28" ++ (LF ∷ [])
+pub example-failure :
+    failureLine (ascii "bench: the report could not be written") 28
+    ≡ ascii "bench: the report could not be written: 28" ++ (LF ∷ [])
 unfolding failureLine decimal decimalIn
 example-failure = refl
