@@ -8,17 +8,16 @@ use lib.Seq.{take-all, take-append-seam}
 use Rattle.timing.specs.Counts.{mostPeriods}
 use Rattle.terminal.specs.declared.Terminal.{Terminal}
 use Rattle.bus_record.specs.declared.record.BusRecord.{BusRecord}
-use Rattle.call_rules.specs.Kept.{Kept}
+use Rattle.call_rules.specs.Kept.{Kept, found, settled}
 use Rattle.call_rules.specs.Event as events
 use Rattle.call_rules.specs.Lists as lists
 use Rattle.call_rules.specs.Lists.{called}
-use Rattle.call_rules.specs.Kept.{found}
 use Rattle.bus_held.specs.declared.HeldEvent.{HeldEvent}
 use Rattle.book_line.specs.Value.{Laid, valueOctets}
 use Rattle.note_text.specs.Room.{Put}
 use Rattle.note_text.specs.NoteText.{notesText}
 use Rattle.period_text.specs.PeriodText.{periodRoom, eventNoted}
-use Rattle.report.specs.Told.{settled, done}
+use Rattle.report.specs.Told.{done}
 use Rattle.report.proofs.OneEvent.{event-told, event-told-fits}
 use Rattle.book.specs.Until.{Gives}
 

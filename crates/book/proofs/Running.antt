@@ -14,13 +14,12 @@ use Rattle.bus.specs.Calls.Call.{period}
 use Rattle.terminal.specs.declared.Terminal.{Terminal}
 use Rattle.bus_record.specs.declared.record.BusRecord.{BusRecord}
 use Rattle.bus_record.specs.declared.side.Ran.{Ran}
-use Rattle.call_rules.specs.Kept.{Kept}
+use Rattle.call_rules.specs.Kept.{Kept, found, settled}
 use Rattle.call_rules.specs.Ready.{goesOn}
 use Rattle.call_rules.specs.Period.{periodRan, keptRun}
 use Rattle.call_rules.specs.Run.{ran, keptAfter, keptOn, notYet}
 use Rattle.call_rules.specs.Lists.{periodTold}
 use Rattle.call_rules.proofs.QuietRuns.{quiet-told}
-use Rattle.call_rules.specs.Kept.{found}
 use Rattle.bus_held.specs.declared.HeldRun.{HeldRun}
 use Rattle.note_text.specs.Room.{Put}
 use Rattle.note_text.specs.NoteText.{notesIn, notesText}
@@ -28,24 +27,12 @@ use Rattle.note_text.specs.declared.form.Form.the-variants.{Line}
 use Rattle.note_text.proofs.NoteLaws.{form-append}
 use Rattle.note_text.proofs.RoomLaws.{put-put, put-none, put-length}
 use Rattle.period_text.specs.PeriodText.{periodRoom}
-use Rattle.report.specs.Told.{Ready, settled, doneAll, allBookTold, RunsOn}
+use Rattle.report.specs.Told.{Ready, doneAll, allBookTold, RunsOn}
+use Rattle.call_rules.proofs.RunLeft.{run-leaves}
 use Rattle.report.proofs.OneRun.{one-run, run-fits}
 use Rattle.report.proofs.Order.{stays-ready}
 use Rattle.report.proofs.AheadLaws.{done-append, told-append}
 use Rattle.book.specs.Until.{periodsTo, RunsTo}
-
--- a run leaves images and letters
-images-kept : (n : ℕ) (last : Ran) (k : Kept) → keptOn n last k .images ≡ k .images
-unfolding keptOn keptRun
-images-kept zero last k = refl
-images-kept (suc n) last k =
-    by-test (goesOn last (suc n)) (λ g. rw g (images-kept n (periodRan k) (keptRun k))) (λ g. rw g)
-
-letters-kept : (n : ℕ) (last : Ran) (k : Kept) → keptOn n last k .letters ≡ k .letters
-unfolding keptOn keptRun
-letters-kept zero last k = refl
-letters-kept (suc n) last k =
-    by-test (goesOn last (suc n)) (λ g. rw g (letters-kept n (periodRan k) (keptRun k))) (λ g. rw g)
 
 -- ---- One run.
 module _ (bus : BusRecord) (ts : List Terminal) (images octets letters : List ℕ) (to : ℕ) (room : List ℕ) (wrote : ℕ) where
@@ -69,8 +56,8 @@ module _ (bus : BusRecord) (ts : List Terminal) (images octets letters : List �
     count-is = omega (arith, runs .run)
 
     left-is : k′ ≡ settled (keptAfter n k)
-    unfolding settled keptAfter
-    left-is = rw (runs .same-bus, images-kept n (notYet n k) k, letters-kept n (notYet n k) k)
+    unfolding settled
+    left-is = let l = run-leaves n k in rw (l .bus-is, l .images-stay, l .letters-stay)
 
     pub ran-once : wrote + periodRoom ≤ length room → (w : ℕ) (room′ : List ℕ)
         → Put room wrote (notesText (periodTold (ran n k .bus .periods .0 - 1) (ran n k) (keptAfter n k .notes) (keptAfter n k .octets))) w room′

@@ -1,10 +1,13 @@
 -- Every list of calls on the record and what is lent with it gives the replies and the notes of document 01's rules.
-use mathlib.Core.Path.{_≡_, refl}
-use mathlib.Core.Bool.{true}
+use mathlib.Core.Path.{_≡_, refl, ap, _∙_}
+use mathlib.Core.Bool.{Bool, true, false, cond, _&&_}
 use mathlib.Core.List.{List, [], _∷_, _++_}
 use Prim.Native.Nat.{ℕ, zero, suc, _≤_}
 use native.Mathlib.Omega.{arith}
+use lib.Dec.{eqb, leb}
 use lib.ListN.{length, getD, replicate}
+use borrow.Author.Tests.{eqb-true}
+use Rattle.cases.proofs.ByCases.{by-test, and-right-false, and-left-false}
 use Rattle.hdlc.specs.Image.{longestBody}
 use Rattle.reader.proofs.ReadingKept.{stands-fresh}
 use Rattle.reader.proofs.RangesKept as reader-kept
@@ -14,11 +17,18 @@ use Rattle.bus.specs.Calls.{Call, after, ran}
 use Rattle.bus.specs.Calls.Call.{event, period}
 use Rattle.bus.specs.Stretch.{seatAt}
 use Rattle.listening.specs.declared.hears.UnitNotes.{UnitNotes}
-use Rattle.bus_event.specs.Event.{imagesRoom, areLetters}
-use Rattle.call_rules.specs.Kept.{Kept}
+use Rattle.bus_record.specs.NetworkSide.{noNotes, refusedRun}
 use Rattle.bus_record.specs.Echo.{hitIn}
-use Rattle.call_rules.specs.Lists.{Carries, OctetValue, called, Same, freshKept, ListsCarried, allTold, OctetValues, ToldNotes, calledAll}
-use Rattle.call_rules.proofs.Fitting.{Fit, always-fit}
+use Rattle.bus_event.specs.Event.{imagesRoom, areLetters, firstReason}
+use Rattle.bus_event.specs.Event as parts
+use Rattle.call_rules.specs.Kept.{Kept, kept, settled}
+use Rattle.call_rules.specs.Ready.{lentFits, runReason, runReply}
+use Rattle.call_rules.specs.Event.{reason, eventTold}
+use Rattle.call_rules.specs.Lists.{told, called, replied, notesTold, Carries, OctetValue, LentCall, callOf, finds, leftBy, isLent, wouldFit, MayBe, replyTo, notesTo, busAfter, Same, freshFound, ListsCarried, made, leftAll, allTold, AllMayBe, ToldNotes}
+use Rattle.call_rules.specs.Lists.LentCall.{gives, runs, amiss}
+use Rattle.call_rules.proofs.InOrder.{order-ranges}
+use Rattle.call_rules.proofs.Fitting.{Fit, always-fit, in-order}
+use Rattle.call_rules.proofs.Refused.{refused-ran, refused-keeps, refused-tells-none}
 use Rattle.call_rules.proofs.PeriodCarried.{period-replied, period-notes, period-carried}
 use Rattle.call_rules.proofs.EventCarried.{Carried, event-carried}
 
@@ -27,33 +37,114 @@ pub call-carried : (k : Kept) (b : Bus) → Carries k b → Fit b → (c : Call)
 call-carried k b c f (event unit number value) octets = event-carried k b c f unit number value octets
 call-carried k b c f period octets = record { replies = period-replied k b c f; tells = period-notes k b c f; carries = period-carried k b c f }
 
--- ---- lists
-ran-more : (b : Bus) (before : List Call) (c : Call) → ran b (before ++ (c ∷ [])) ≡ after (ran b before) c
+-- ---- what is lent with it
+-- the places for notes may be others, as many
+places-carried : (k : Kept) (b : Bus) (places : List UnitNotes) → length places ≡ terminals → Carries k b
+    → Carries (kept (k .bus) (k .terminals) (k .images) (k .octets) (k .letters) places) b
+places-carried k b places l c =
+    record {
+      periods-is = c .periods-is;
+      opportunities-is = c .opportunities-is;
+      network-is = c .network-is;
+      heard-is = c .heard-is;
+      hit-is = c .hit-is;
+      terminals-are = c .terminals-are;
+      images-are = c .images-are;
+      reader-is = c .reader-is;
+      reader-fits = c .reader-fits;
+      images-fit = c .images-fit;
+      octets-fit = c .octets-fit;
+      letters-fit = c .letters-fit;
+      notes-fit = l;
+    }
+
+pub settled-carries : (k : Kept) (b : Bus) → Carries k b → Carries (settled k) b
+unfolding settled
+settled-carries k b c = places-carried k b (replicate terminals noNotes) refl c
+
+-- too few places, or too many
+short-places : (k : Kept) (b : Bus) → Carries k b → (places : List UnitNotes) → eqb (length places) terminals ≡ false
+    → wouldFit period (k .images) (k .octets) (k .letters) places ≡ false
+unfolding wouldFit lentFits
+short-places k b c places t =
+    let first = eqb (length (k .images)) imagesRoom && leb longestBody (length (k .octets)) in
+    rw t (and-left-false (first && false) (areLetters (k .letters)) (and-right-false first false refl))
+
+-- a call that is lent what does not fit
+module _ (k : Kept) (b : Bus) (c : Carries k b) (f : Fit b) (images octets letters : List ℕ) (places : List UnitNotes) where
+  abbrev otherwise : Kept
+  otherwise = kept (k .bus) (k .terminals) images octets letters places
+
+  run-refused-2 : lentFits (length images) (length octets) letters (length places) ≡ false → runReply 1 otherwise ≡ 2
+  unfolding runReply runReason
+  run-refused-2 h = let r = order-ranges k (in-order k b c f) in rw (r .0, r .1, h)
+
+  event-refused-2 : (unit number : ℕ) (value : List ℕ) → (eqb (length images) imagesRoom && areLetters letters) ≡ false
+      → reason unit number value (k .bus) (k .terminals) images letters ≡ 2
+  unfolding firstReason
+  event-refused-2 unit number value h = let r = order-ranges k (in-order k b c f) in rw (r .0, r .1, h)
+
+  refused-with-2 : (x : Call) → wouldFit x images octets letters places ≡ false → replied otherwise x ≡ 2
+  unfolding replied told eventTold wouldFit parts.told refusedRun
+  refused-with-2 (event unit number value) h = rw (event-refused-2 unit number value h, replied)
+  refused-with-2 period h = let e = run-refused-2 h in rw (refused-ran 1 otherwise (rw e), e, replied)
+
+  told-nothing : (x : Call) → wouldFit x images octets letters places ≡ false → notesTold otherwise x ≡ []
+  told-nothing x h = refused-tells-none otherwise x (λ z. omega (arith, refused-with-2 x h))
+
+  called-nothing : (x : Call) → wouldFit x images octets letters places ≡ false → called otherwise x ≡ otherwise
+  called-nothing x h = refused-keeps otherwise x (λ z. omega (arith, refused-with-2 x h))
+
+-- ---- a call of a list
+record LentCarried (k : Kept) (b : Bus) (x : LentCall) : Type 0 where
+  replies : replied (finds k x) (callOf x) ≡ replyTo b x
+  tells : notesTold (finds k x) (callOf x) ≡ notesTo b x
+  carries : Carries (leftBy k x) (busAfter b x)
+
+lent-carried : (k : Kept) (b : Bus) → Carries k b → Fit b → (x : LentCall) → MayBe x → LentCarried k b x
+unfolding finds callOf leftBy isLent settled
+lent-carried k b c f (gives unit number value) octets =
+    let d = call-carried k b c f (event unit number value) octets in
+    record { replies = d .replies; tells = d .tells; carries = settled-carries _ _ (d .carries) }
+lent-carried k b c f (runs places) m =
+    by-test (eqb (length places) terminals)
+    (λ t.
+    let d = call-carried _ b (places-carried k b places (eqb-true _ _ t) c) f period tt in
+    record { replies = rw t (d .replies); tells = rw t (d .tells); carries = rw t (settled-carries _ _ (d .carries)) })
+    (λ t.
+    let short : wouldFit period (k .images) (k .octets) (k .letters) places ≡ false = short-places k b c places t in
+    record {
+      replies = rw t (refused-with-2 k b c f (k .images) (k .octets) (k .letters) places period short);
+      tells = rw t (told-nothing k b c f (k .images) (k .octets) (k .letters) places period short);
+      carries = rw (t, called-nothing k b c f (k .images) (k .octets) (k .letters) places period short) (settled-carries k b c);
+    })
+lent-carried k b c f (amiss x images octets letters places) m =
+    record {
+      replies = refused-with-2 k b c f images octets letters places x m;
+      tells = told-nothing k b c f images octets letters places x m;
+      carries = rw (called-nothing k b c f images octets letters places x m) (settled-carries k b c);
+    }
+
+-- ---- lists: from a record that stands for a bus on, whatever calls come
+ran-made : (b : Bus) (x : LentCall) (calls : List Call) → ran b (cond (isLent x) (callOf x ∷ calls) calls) ≡ ran (busAfter b x) calls
 unfolding ran
-ran-more b [] c = refl
-ran-more b (x ∷ before) c = ran-more (after b x) before c
+ran-made b x calls = by-test (isLent x) (λ t. rw t) (λ t. rw t)
 
--- from the record that stands for the bus after some calls on
-same-from : (before calls : List Call) (k : Kept) → Carries k (ran freshBus before) → Same k (ran freshBus before) calls
-unfolding Same
-same-from before [] k c = c
-same-from before (x ∷ more) k c = (
+Fits : Bus → Type 0
+Fits b = (later : List Call) → Fit (ran b later)
+
+fits-after : (b : Bus) (x : LentCall) → Fits b → Fits (busAfter b x)
+unfolding Fits
+fits-after b x fit later = rw (← ran-made b x later) (fit (cond (isLent x) (callOf x ∷ later) later))
+
+pub same-from : (calls : List LentCall) (k : Kept) (b : Bus) → Carries k b → ((later : List Call) → Fit (ran b later)) → Same k b calls
+unfolding Same Fits ran
+same-from [] k b c fit = c
+same-from (x ∷ more) k b c fit = (
   c,
-  λ octets.
-      let d = call-carried k (ran freshBus before) c (always-fit before) x octets in
-      let next : Carries (called k x) (ran freshBus (before ++ (x ∷ []))) = rw (ran-more freshBus before x) (d .carries) in
-      (d .replies, d .tells, rw (ran-more freshBus before x) at (same-from (before ++ (x ∷ [])) more (called k x) next)),
+  λ m. let d = lent-carried k b c (fit []) x m in
+      (d .replies, d .tells, same-from more (leftBy k x) (busAfter b x) (d .carries) (fits-after b x fit)),
 )
-
--- all of a list, and what it leaves
-pub all-carried : (calls : List Call) (k : Kept) (b : Bus) → Carries k b → ((later : List Call) → Fit (ran b later)) → OctetValues calls
-    → Carries (calledAll k calls) (ran b calls) × (allTold k calls ≡ bus.allNotes b calls)
-unfolding calledAll allTold OctetValues ran bus.allNotes
-all-carried [] k b c fit v = (c, refl)
-all-carried (x ∷ more) k b c fit v =
-    let d = call-carried k b c (fit []) x (v .0) in
-    let r = all-carried more (called k x) (after b x) (d .carries) (λ later. fit (x ∷ later)) (v .1) in
-    (r .0, rw (d .tells, r .1))
 
 -- ---- the fresh record
 fresh-at : (n i : ℕ) → getD (replicate n freshSeat) i freshSeat ≡ freshSeat
@@ -65,10 +156,10 @@ fresh-held : (i : ℕ) → seatAt i freshBus .terminal .access .held ≡ 0
 unfolding seatAt
 fresh-held i = rw (fresh-at terminals i)
 
-fresh-carried : (images octets letters : List ℕ) (ns : List UnitNotes) → length images ≡ imagesRoom → longestBody ≤ length octets → areLetters letters ≡ true →
-    length ns ≡ terminals → Carries (freshKept images octets letters ns) freshBus
+pub fresh-carries : (images octets letters : List ℕ) → length images ≡ imagesRoom → longestBody ≤ length octets → areLetters letters ≡ true
+    → Carries (freshFound images octets letters) freshBus
 unfolding hitIn
-fresh-carried images octets letters ns i o l n =
+fresh-carries images octets letters i o l =
     record {
       periods-is = refl;
       opportunities-is = refl;
@@ -82,18 +173,29 @@ fresh-carried images octets letters ns i o l n =
       images-fit = i;
       octets-fit = o;
       letters-fit = l;
-      notes-fit = n;
+      notes-fit = refl;
     }
 
 pub lists-carried : ListsCarried
-lists-carried images octets letters ns calls i o l n =
-    unfold ran in same-from [] calls (freshKept images octets letters ns) (fresh-carried images octets letters ns i o l n)
+lists-carried images octets letters calls i o l =
+    same-from calls (freshFound images octets letters) freshBus (fresh-carries images octets letters i o l) always-fit
 
--- ---- the notes together
-pub told-same : (k : Kept) (b : Bus) (calls : List Call) → Same k b calls → OctetValues calls → allTold k calls ≡ bus.allNotes b calls
-unfolding Same allTold OctetValues bus.allNotes
-told-same k b [] s v = refl
-told-same k b (c ∷ more) s v = let t = s .1 (v .0) in rw (t .1, told-same (called k c) (after b c) more (t .2) (v .1))
+-- ---- all of a list: what it leaves, and the notes together
+notes-made : (b : Bus) (x : LentCall) (calls : List Call)
+    → bus.allNotes b (cond (isLent x) (callOf x ∷ calls) calls) ≡ notesTo b x ++ bus.allNotes (busAfter b x) calls
+unfolding bus.allNotes
+notes-made b x calls = by-test (isLent x) (λ t. rw t) (λ t. rw t)
+
+pub same-all : (k : Kept) (b : Bus) (xs ys : List LentCall) → AllMayBe xs → Same k b (xs ++ ys)
+    → (allTold k xs ≡ bus.allNotes b (made xs)) × Same (leftAll k xs) (ran b (made xs)) ys
+unfolding Same AllMayBe allTold leftAll made bus.allNotes ran
+same-all k b [] ys m s = (refl, s)
+same-all k b (x ∷ xs) ys m s =
+    let t = s .1 (m .0) in
+    let r = same-all (leftBy k x) (busAfter b x) xs ys (m .1) (t .2) in
+    (rw (notes-made b x (made xs), t .1, r .0), rw (ran-made b x (made xs)) (r .1))
 
 pub told-notes : ToldNotes
-told-notes images octets letters ns calls i o l n v = told-same (freshKept images octets letters ns) freshBus calls (lists-carried images octets letters ns calls i o l n) v
+unfolding Same
+told-notes images octets letters calls i o l m =
+    same-all (freshFound images octets letters) freshBus calls [] m (lists-carried images octets letters (calls ++ []) i o l) .0

@@ -21,12 +21,13 @@ use Rattle.listening.specs.Hears.{hasNote}
 use Rattle.listening.specs.declared.hears.UnitNotes.{UnitNotes}
 use Rattle.bus_record.specs.NetworkSide.{refusedRun}
 use Rattle.bus_record.specs.declared.side.Ran.{Ran}
-use Rattle.call_rules.specs.Kept.{Kept}
+use Rattle.call_rules.specs.Kept.{Kept, settled}
 use Rattle.call_rules.specs.Shown.{busIn}
 use Rattle.call_rules.specs.Period.{terminalsNotes, anyNote, hasNotes, periodRan, keptRun}
 use Rattle.call_rules.specs.Ready.{runReply, goesOn}
 use Rattle.call_rules.specs.Run.{notYet, ran, keptAfter, ranOn, keptOn, SinglePeriod}
-use Rattle.call_rules.specs.Lists.{called, replied, readerTold, terminalsTold, timersTold, periodTold, notesTold, allTold, callsIn, calledAll, runTold, RunIsCalls, RunsAreCalls}
+use Rattle.call_rules.specs.Lists.{called, replied, readerTold, terminalsTold, timersTold, periodTold, notesTold, LentCall, finds, leftBy, callOf, leftAll, allTold, callsIn, runTold, RunIsCalls, RunsAreCalls}
+use Rattle.call_rules.specs.Lists.LentCall.{runs}
 use Rattle.call_rules.proofs.InOrder.{one-left}
 use Rattle.call_rules.proofs.ReadyKept.{ready-kept}
 use Rattle.call_rules.proofs.RunSingle.{stays, first-ran, first-kept, ran-ends, period-single, run-single}
@@ -119,19 +120,28 @@ module _ (k : Kept) where
   unfolding replied
   replied-run = refl
 
-  first-called : (calls : List Call) → calledAll k (period ∷ calls) ≡ calledAll (keptAfter 1 k) calls
-  unfolding called calledAll
-  first-called calls = refl
+  first-left : (calls : List LentCall) → leftAll k (runs (k .notes) ∷ calls) ≡ leftAll (settled (keptAfter 1 k)) calls
+  unfolding called leftAll leftBy finds
+  first-left calls = refl
 
-  first-told : (calls : List Call) → allTold k (period ∷ calls) ≡ notesTold k period ++ allTold (keptAfter 1 k) calls
-  unfolding called allTold
+  first-told : (calls : List LentCall) → allTold k (runs (k .notes) ∷ calls) ≡ notesTold k period ++ allTold (settled (keptAfter 1 k)) calls
+  unfolding called allTold leftBy finds callOf
   first-told calls = refl
+
+  -- where the notes are taken before a run: it is lent its places by itself
+  settled-left : (m : ℕ) → leftAll (settled k) (callsIn (suc m) k) ≡ leftAll k (callsIn (suc m) k)
+  unfolding callsIn leftAll leftBy finds settled
+  settled-left m = refl
+
+  settled-told : (m : ℕ) → allTold (settled k) (callsIn (suc m) k) ≡ allTold k (callsIn (suc m) k)
+  unfolding callsIn allTold leftBy finds settled
+  settled-told m = refl
 
   counted : periodRan k .bus .periods .0 - 1 ≡ k .bus .periods .0
   unfolding periodRan periodRun timed heardBy busIn
   counted = omega arith
 
-  one-told : runTold 1 k ≡ notesTold k period
+  pub one-told : runTold 1 k ≡ notesTold k period
   unfolding runTold notesTold
   one-told =
       rw replied-run
@@ -140,7 +150,7 @@ module _ (k : Kept) where
       (λ t. rw t))
 
   -- a run goes on after a period that has no note
-  goes-quiet : (n : ℕ) → goesOn (ran 1 k) n ≡ true → notesTold k period ≡ []
+  pub goes-quiet : (n : ℕ) → goesOn (ran 1 k) n ≡ true → notesTold k period ≡ []
   unfolding notesTold
   goes-quiet n g =
       let on = goes-by (ran 1 k) n g in
@@ -160,11 +170,11 @@ module _ (k : Kept) where
 
 -- ---- a run
 module _ (n : ℕ) (k : Kept) where
-  calls-on : goesOn (ran 1 k) n ≡ true → callsIn (suc n) k ≡ period ∷ callsIn n (keptAfter 1 k)
+  calls-on : goesOn (ran 1 k) n ≡ true → callsIn (suc n) k ≡ runs (k .notes) ∷ callsIn n (keptAfter 1 k)
   unfolding callsIn
   calls-on g = rw g
 
-  calls-end : goesOn (ran 1 k) n ≡ false → callsIn (suc n) k ≡ period ∷ []
+  calls-end : goesOn (ran 1 k) n ≡ false → callsIn (suc n) k ≡ runs (k .notes) ∷ []
   unfolding callsIn
   calls-end g = rw g
 
@@ -189,11 +199,11 @@ module _ (n : ℕ) (k : Kept) where
   kept-end g = run-single n k .kept-is ∙ rw g
 
   run-ends : goesOn (ran 1 k) n ≡ false → RunIsCalls n k
-  unfolding calledAll allTold
+  unfolding leftAll allTold
   run-ends g =
       record {
         replies = ap (λ (r : Ran). r .reply) (ran-end g) ∙ sym (replied-run k);
-        leaves = kept-end g ∙ rw (calls-end g) (sym (first-called k []));
+        leaves = rw (kept-end g, calls-end g) (sym (first-left k []));
         tells = told-end g ∙ rw (calls-end g, first-told k [], append-nil (notesTold k period)) (one-told k);
       }
 
@@ -206,8 +216,10 @@ run-on m k g rest =
           ∙ (rest .replies
           ∙ (replied-run (keptAfter 1 k)
           ∙ (accepted-zero (keptAfter 1 k) (goes-again k (suc m) g) ∙ sym (replied-run k ∙ eqb-true _ _ (goes-by (ran 1 k) (suc m) g .0)))));
-      leaves = kept-on (suc m) k g ∙ rw (calls-on (suc m) k g, first-called k calls) (rest .leaves);
-      tells = told-on (suc m) k g ∙ rw (calls-on (suc m) k g, first-told k calls, goes-quiet k (suc m) g) (rest .tells);
+      leaves = rw (kept-on (suc m) k g, calls-on (suc m) k g, first-left k calls, settled-left (keptAfter 1 k) m) (rest .leaves);
+      tells =
+          told-on (suc m) k g
+          ∙ rw (calls-on (suc m) k g, first-told k calls, goes-quiet k (suc m) g, settled-told (keptAfter 1 k) m) (rest .tells);
     }
 
 no-more : (last : Ran) → goesOn last 0 ≡ false

@@ -7,7 +7,7 @@ use native.Mathlib.Omega.{arith}
 use lib.Dec.{eqb, ltb, leb}
 use lib.ListN.{length}
 use lib.Seq.{set-getD}
-use borrow.Author.Tests.{eqb-true, eqb-false, leb-true, le-leb}
+use borrow.Author.Tests.{eqb-true, eqb-false, ne-eqb, leb-true, le-leb}
 use Rattle.cases.proofs.ByCases.{by-test, neither}
 use Rattle.cells.specs.Notes.{packedNotes}
 use Rattle.cells.specs.declared.cell.Cell.{Cell}
@@ -29,6 +29,7 @@ use Rattle.terminal.specs.declared.Terminal.{Terminal}
 use Rattle.terminal.specs.declared.TerminalStep.{TerminalStep}
 use Rattle.bus.specs.Bus.{terminals}
 use Rattle.bus.specs.Event.{ON, OFF, AR, D1, D2, HIT, classOf, eventFor}
+use Rattle.bus.specs.Calls.{Call}
 use Rattle.bus.specs.Calls.Call.{event, period}
 use Rattle.bus.proofs.Ranges.{classGiven}
 use Rattle.bus_record.specs.Record.{recordInRange}
@@ -42,7 +43,7 @@ use Rattle.call_rules.specs.Period.{periodRan, keptRun}
 use Rattle.call_rules.specs.Ready.{eightInRange, lentFits, runReason, runReply, goesOn}
 use Rattle.call_rules.specs.Run.{ranOn, notYet, ran, keptAfter}
 use Rattle.call_rules.specs.Event.{reason, terminalOf, atTerminal, eventTold, terminalsAfter, imagesAfter, lettersAfter}
-use Rattle.call_rules.specs.Lists.{told, called, replied}
+use Rattle.call_rules.specs.Lists.{told, called, replied, notesTold}
 use Rattle.call_rules.specs.Refused.{RefusedKeeps, RefusedRunKeeps, RefusedAlone, RefusedRunAlone, RepliesListed, RunRepliesListed}
 use Rattle.call_rules.proofs.RunSingle.{stays, ran-ends, kept-ends}
 use Rattle.call_rules.proofs.EventLeft.{no-refusal, reader-stays, no-frame, gives-frame}
@@ -278,7 +279,7 @@ module _ (most : ℕ) (k : Kept) where
   unfolding ran notYet refusedRun
   run-accepted z = goes-replies most (notYet most k) k (eqb-true (runReply most k) 0 z)
 
-  refused-ran : eqb (runReply most k) 0 ≡ false → ran most k ≡ refusedRun (runReply most k) (k .bus)
+  pub refused-ran : eqb (runReply most k) 0 ≡ false → ran most k ≡ refusedRun (runReply most k) (k .bus)
   unfolding ran notYet
   refused-ran z = ran-ends most (notYet most k) k (stays most most k z)
 
@@ -312,3 +313,9 @@ pub replies-listed : RepliesListed
 unfolding replied
 replies-listed k (event unit number value) = event-listed unit number value k
 replies-listed k period = run-replies-listed 1 k
+
+-- it has no notes
+pub refused-tells-none : (k : Kept) (c : Call) → (replied k c ≡ 0 → ⊥) → notesTold k c ≡ []
+unfolding notesTold
+refused-tells-none k (event unit number value) h = rw (ne-eqb _ _ h)
+refused-tells-none k period h = rw (ne-eqb _ _ h)

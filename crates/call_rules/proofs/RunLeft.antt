@@ -1,4 +1,4 @@
--- What a run leaves: it is in order, with the images and letters that were found and as many octets; and the record is the one handed back.
+-- What a run leaves: the record that it hands back, the images and letters that it found; and it is in order.
 use mathlib.Core.Bool.{false}
 use mathlib.Core.Path.{_≡_, refl, _∙_}
 use Prim.Native.Nat.{ℕ, zero, suc}
@@ -10,15 +10,39 @@ use Rattle.bus_record.specs.declared.side.Ran.{Ran}
 use Rattle.call_rules.specs.Kept.{Kept}
 use Rattle.call_rules.specs.Ready.{goesOn}
 use Rattle.call_rules.specs.Period.{octetsRun, periodRan, keptRun}
-use Rattle.call_rules.specs.Run.{ranOn, keptOn, notYet, ran, keptAfter}
+use Rattle.call_rules.specs.Run.{ranOn, keptOn, notYet, ran, keptAfter, RunLeaves}
 use Rattle.call_rules.proofs.InOrder.{InOrder}
 use Rattle.call_rules.proofs.ReadyKept.{length-octets, order-kept}
 use Rattle.call_rules.proofs.RunSingle.{goes-facts}
 
+-- ---- Of whatever it finds: `specs/Run.antt`.
+on-bus : (n : ℕ) (last : Ran) (k : Kept) → last .bus ≡ k .bus → ranOn n last k .bus ≡ keptOn n last k .bus
+unfolding ranOn keptOn keptRun
+on-bus zero last k e = e
+on-bus (suc n) last k e = by-test (goesOn last (suc n)) (λ t. rw t (on-bus n (periodRan k) (keptRun k) refl)) (λ t. rw t e)
+
+on-images : (n : ℕ) (last : Ran) (k : Kept) → keptOn n last k .images ≡ k .images
+unfolding keptOn keptRun
+on-images zero last k = refl
+on-images (suc n) last k = by-test (goesOn last (suc n)) (λ t. rw t (on-images n (periodRan k) (keptRun k))) (λ t. rw t)
+
+on-letters : (n : ℕ) (last : Ran) (k : Kept) → keptOn n last k .letters ≡ k .letters
+unfolding keptOn keptRun
+on-letters zero last k = refl
+on-letters (suc n) last k = by-test (goesOn last (suc n)) (λ t. rw t (on-letters n (periodRan k) (keptRun k))) (λ t. rw t)
+
+pub run-leaves : RunLeaves
+unfolding ran keptAfter notYet refusedRun
+run-leaves most k =
+    record {
+      bus-is = on-bus most (notYet most k) k refl;
+      images-stay = on-images most (notYet most k) k;
+      letters-stay = on-letters most (notYet most k) k;
+    }
+
+-- ---- Where all is in order it is so again, with as many octets.
 pub record Left (k k′ : Kept) : Type 0 where
   pub order : InOrder k′
-  pub images-stay : k′ .images ≡ k .images
-  pub letters-stay : k′ .letters ≡ k .letters
   pub octets-long : length (k′ .octets) ≡ length (k .octets)
 
 octets-run : (k : Kept) → length (keptRun k .octets) ≡ length (k .octets)
@@ -27,24 +51,15 @@ octets-run k = length-octets _ (k .bus .reader) (k .octets)
 
 on-left : (n : ℕ) (last : Ran) (k : Kept) → last .bus ≡ k .bus → InOrder k → Left k (keptOn n last k)
 unfolding keptOn keptRun
-on-left zero last k e o = record { order = o; images-stay = refl; letters-stay = refl; octets-long = refl }
+on-left zero last k e o = record { order = o; octets-long = refl }
 on-left (suc n) last k e o =
     by-test (goesOn last (suc n))
     (λ t.
     let a : allRun (k .bus .periods) ≡ false = rw e at (goes-facts last (suc n) t .1) in
     let l = on-left n (periodRan k) (keptRun k) refl (order-kept k o a) in
-    rw t (record { order = l .order; images-stay = l .images-stay; letters-stay = l .letters-stay; octets-long = l .octets-long ∙ octets-run k }))
-    (λ t. rw t (record { order = o; images-stay = refl; letters-stay = refl; octets-long = refl }))
+    rw t (record { order = l .order; octets-long = l .octets-long ∙ octets-run k }))
+    (λ t. rw t (record { order = o; octets-long = refl }))
 
 pub run-left : (most : ℕ) (k : Kept) → InOrder k → Left k (keptAfter most k)
 unfolding keptAfter notYet refusedRun
 run-left most k o = on-left most (notYet most k) k refl o
-
-on-bus : (n : ℕ) (last : Ran) (k : Kept) → last .bus ≡ k .bus → ranOn n last k .bus ≡ keptOn n last k .bus
-unfolding ranOn keptOn keptRun
-on-bus zero last k e = e
-on-bus (suc n) last k e = by-test (goesOn last (suc n)) (λ t. rw t (on-bus n (periodRan k) (keptRun k) refl)) (λ t. rw t e)
-
-pub run-bus : (most : ℕ) (k : Kept) → ran most k .bus ≡ keptAfter most k .bus
-unfolding ran keptAfter notYet refusedRun
-run-bus most k = on-bus most (notYet most k) k refl

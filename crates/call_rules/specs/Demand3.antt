@@ -7,28 +7,28 @@ use mathlib.Core.Path.{_≡_}
 use Prim.Native.Nat.{ℕ, _≤_}
 use lib.ListN.{length}
 use Rattle.hdlc.specs.Image.{longestBody}
-use Rattle.bus.specs.Bus.{terminals, freshBus}
-use Rattle.bus.specs.Calls.{Call, ran, allNotes}
+use Rattle.bus.specs.Bus.{freshBus}
+use Rattle.bus.specs.Calls.{ran, allNotes}
 use Rattle.bus.specs.Stretch.{Stretch}
 use Rattle.bus.specs.Claims.{Claimed}
-use Rattle.listening.specs.declared.hears.UnitNotes.{UnitNotes}
 use Rattle.bus_event.specs.Event.{imagesRoom, areLetters}
 use Rattle.call_rules.specs.Kept.{Kept}
-use Rattle.call_rules.specs.Lists.{Same, freshKept, calledAll, allTold, OctetValues}
+use Rattle.call_rules.specs.Lists.{LentCall, Same, freshFound, made, leftAll, allTold, AllMayBe}
 
--- What is claimed of a stretch `during` of the list `before`, `during`, `after` of calls, the first of which finds k.
-pub record ClaimedOnCalls (k : Kept) (before during after : List Call) : Type 0 where
+-- What is claimed of a stretch `during` of the list `before`, `during`, `after` of calls, the first of which finds k. Calls that are not lent what
+-- they must be stand in the list, too; they are refused with 2, and the rules have nothing for them (specs/Lists.antt `made`).
+pub record ClaimedOnCalls (k : Kept) (before during after : List LentCall) : Type 0 where
   -- the sentences of demand 3, of the bus that document 01's rules give for the same calls
-  pub claims : Claimed before during after
+  pub claims : Claimed (made before) (made during) (made after)
   -- each call of the whole list gives the reply and the notes of those rules, and what it leaves stands for the bus after it
   pub carried : Same k freshBus (before ++ (during ++ after))
   -- "the calls in it hand back exactly the notes that those rules give"
-  pub notes-of-stretch : allTold (calledAll k before) during ≡ allNotes (ran freshBus before) during
+  pub notes-of-stretch : allTold (leftAll k before) during ≡ allNotes (ran freshBus (made before)) (made during)
 
 -- For whatever is lent with the fresh record, and every list of calls whose values are octets (proofs/Demand3.antt).
 abbrev pub Demand3OnCalls : Type 0
 Demand3OnCalls =
-    (images octets letters : List ℕ) (ns : List UnitNotes) (before during after : List Call)
-    → length images ≡ imagesRoom → longestBody ≤ length octets → areLetters letters ≡ true → length ns ≡ terminals
-    → OctetValues (before ++ (during ++ after)) → Stretch (ran freshBus before) during
-    → ClaimedOnCalls (freshKept images octets letters ns) before during after
+    (images octets letters : List ℕ) (before during after : List LentCall)
+    → length images ≡ imagesRoom → longestBody ≤ length octets → areLetters letters ≡ true
+    → AllMayBe (before ++ (during ++ after)) → Stretch (ran freshBus (made before)) (made during)
+    → ClaimedOnCalls (freshFound images octets letters) before during after

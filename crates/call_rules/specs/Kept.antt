@@ -27,3 +27,7 @@ kept bus terminals images octets letters notes =
 -- what is found where nobody has kept the notes of the last period: those of none
 abbrev pub found : BusRecord → List Terminal → List ℕ → List ℕ → List ℕ → Kept
 found bus ts images octets letters = kept bus ts images octets letters (replicate rules.terminals noNotes)
+
+-- the notes of the last period are taken
+unfoldable pub settled : Kept → Kept
+settled k = found (k .bus) (k .terminals) (k .images) (k .octets) (k .letters)

@@ -1,6 +1,6 @@
 -- Lists of calls on the record and what is lent with it. Each list hands back the replies and the notes that crate `bus` has for the same
 -- calls (specs/Calls.antt there), so that demand 3 (specs/Claims.antt there) speaks of these calls: Demand3.antt.
-use mathlib.Core.Bool.{Bool, true, false, cond}
+use mathlib.Core.Bool.{Bool, true, false, cond, _&&_}
 use mathlib.Core.List.{List, [], _∷_, _++_, map}
 use mathlib.Core.Path.{_≡_}
 use Prim.Native.Nat.{ℕ, zero, suc, _+_, _-_, _≤_, _<_, min}
@@ -20,12 +20,13 @@ use Rattle.bus.specs.Stretch.{seatAt}
 use Rattle.exchange.specs.Part.{imageOf}
 use Rattle.listening.specs.declared.hears.UnitNotes.{UnitNotes}
 use Rattle.bus_record.specs.Record.{freshRecord}
+use Rattle.bus_record.specs.NetworkSide.{noNotes}
 use Rattle.bus_event.specs.Event.{imagesRoom, areLetters}
 use Rattle.bus_record.specs.declared.side.Ran.{Ran}
 use Rattle.bus_event.specs.declared.event.Told.{Told}
-use Rattle.call_rules.specs.Kept.{Kept, kept}
+use Rattle.call_rules.specs.Kept.{Kept, kept, found, settled}
 use Rattle.bus_record.specs.Echo.{hitIn}
-use Rattle.call_rules.specs.Ready.{goesOn}
+use Rattle.call_rules.specs.Ready.{lentFits, goesOn}
 use Rattle.call_rules.specs.Run.{ran, keptAfter}
 use Rattle.call_rules.specs.Event.{eventTold, terminalsAfter, imagesAfter, lettersAfter}
 
@@ -100,56 +101,126 @@ pub record Carries (k : Kept) (b : Bus) : Type 0 where
   pub letters-fit : areLetters (k .letters) ≡ true
   pub notes-fit : length (k .notes) ≡ terminals
 
--- ---- Lists.
+-- ---- Lists. Each call gets the record, the terminals, the images, the octets and the letters that the one before left: "nobody else writes record
+-- or slice between". The places for notes are the caller's own, and each call that runs a period is lent some: of any number, with any contents.
+
+pub data LentCall : Type 0 where
+  -- an event: a unit, a number and a value; no places for notes are lent with it
+  gives : (unit number : ℕ) (value : List ℕ) → LentCall
+  -- a period, with these places for notes
+  runs : (places : List UnitNotes) → LentCall
+  -- any call that is lent other slices than those that are kept, which do not fit it
+  amiss : (c : Call) (images octets letters : List ℕ) (places : List UnitNotes) → LentCall
+
+-- what it asks for
+unfoldable pub callOf : LentCall → Call
+callOf (gives unit number value) = event unit number value
+callOf (runs places) = period
+callOf (amiss c images octets letters places) = c
+
+-- what it finds
+unfoldable pub finds : Kept → LentCall → Kept
+finds k (gives unit number value) = k
+finds k (runs places) = kept (k .bus) (k .terminals) (k .images) (k .octets) (k .letters) places
+finds k (amiss c images octets letters places) = kept (k .bus) (k .terminals) images octets letters places
+
+-- what it leaves for the next one: what was lent otherwise is none of what is kept
+unfoldable pub leftBy : Kept → LentCall → Kept
+leftBy k (gives unit number value) = settled (called k (event unit number value))
+leftBy k (runs places) = settled (called (finds k (runs places)) period)
+leftBy k (amiss c images octets letters places) =
+    let after = called (finds k (amiss c images octets letters places)) c in
+    found (after .bus) (after .terminals) (k .images) (k .octets) (k .letters)
+
+-- Whether it is lent what it must be, with what is kept: a period eight places.
+unfoldable pub isLent : LentCall → Bool
+isLent (gives unit number value) = true
+isLent (runs places) = eqb (length places) terminals
+isLent (amiss c images octets letters places) = false
+
+-- whether such slices would fit a call (refusal 2)
+unfoldable pub wouldFit : Call → List ℕ → List ℕ → List ℕ → List UnitNotes → Bool
+wouldFit (event unit number value) images octets letters places = eqb (length images) imagesRoom && areLetters letters
+wouldFit period images octets letters places = lentFits (length images) (length octets) letters (length places)
 
 -- values are octets
 abbrev pub OctetValue : Call → Type 0
 OctetValue (event unit number value) = (i : ℕ) → getD value i 0 < 256
 OctetValue period = Unit
 
--- each call of a list, where it comes, gives the same reply and the same notes, and what it leaves stands for the bus after it
-unfoldable pub Same : Kept → Bus → List Call → Type 0
-Same k b [] = Carries k b
-Same k b (c ∷ more) =
-    Carries k b × (OctetValue c → (replied k c ≡ reply b c) × (notesTold k c ≡ notes b c) × Same (called k c) (after b c) more)
+-- What a list may hold: events whose values are octets, periods with whatever places, and calls that are lent what does not fit them.
+abbrev pub MayBe : LentCall → Type 0
+MayBe (gives unit number value) = OctetValue (event unit number value)
+MayBe (runs places) = Unit
+MayBe (amiss c images octets letters places) = wouldFit c images octets letters places ≡ false
 
--- A fresh record with eight fresh terminals. In `ListsCarried` what is lent has the lengths that it must have, and the letters are letters;
--- else they are any octets. The caller lends the same images, octets and letters to every call, as the one before left them: "nobody else
--- writes record or slice between".
-abbrev pub freshKept : List ℕ → List ℕ → List ℕ → List UnitNotes → Kept
-freshKept images octets letters ns = kept freshRecord (replicate terminals terminal.fresh) images octets letters ns
+-- ---- What document 01's rules have for it: refusal 2 where it is not lent what it must be, and then nothing changes.
+abbrev pub replyTo : Bus → LentCall → ℕ
+replyTo b x = cond (isLent x) (reply b (callOf x)) 2
+
+abbrev pub notesTo : Bus → LentCall → List Note
+notesTo b x = cond (isLent x) (notes b (callOf x)) []
+
+abbrev pub busAfter : Bus → LentCall → Bus
+busAfter b x = cond (isLent x) (after b (callOf x)) b
+
+-- each call of a list, where it comes, gives that reply and those notes, and what it leaves stands for the bus after it
+unfoldable pub Same : Kept → Bus → List LentCall → Type 0
+Same k b [] = Carries k b
+Same k b (x ∷ more) =
+    Carries k b
+    × (MayBe x
+    → (replied (finds k x) (callOf x) ≡ replyTo b x) × (notesTold (finds k x) (callOf x) ≡ notesTo b x) × Same (leftBy k x) (busAfter b x) more)
+
+-- A fresh record with eight fresh terminals. In `ListsCarried` what is lent with it has the lengths that it must have, and the letters are letters;
+-- else they are any octets.
+abbrev pub freshFound : List ℕ → List ℕ → List ℕ → Kept
+freshFound images octets letters = found freshRecord (replicate terminals terminal.fresh) images octets letters
 
 abbrev pub ListsCarried : Type 0
 ListsCarried =
-    (images octets letters : List ℕ) (ns : List UnitNotes) (calls : List Call)
-    → length images ≡ imagesRoom → longestBody ≤ length octets → areLetters letters ≡ true → length ns ≡ terminals
-    → Same (freshKept images octets letters ns) freshBus calls
+    (images octets letters : List ℕ) (calls : List LentCall)
+    → length images ≡ imagesRoom → longestBody ≤ length octets → areLetters letters ≡ true
+    → Same (freshFound images octets letters) freshBus calls
 
--- ---- All notes of a list together are those of crate `bus`.
-unfoldable pub allTold : Kept → List Call → List Note
+-- ---- All notes of a list together are those that the rules give for the calls in it that are lent what they must be.
+unfoldable pub made : List LentCall → List Call
+made [] = []
+made (x ∷ more) = cond (isLent x) (callOf x ∷ made more) (made more)
+
+unfoldable pub leftAll : Kept → List LentCall → Kept
+leftAll k [] = k
+leftAll k (x ∷ more) = leftAll (leftBy k x) more
+
+unfoldable pub allTold : Kept → List LentCall → List Note
 allTold k [] = []
-allTold k (c ∷ more) = notesTold k c ++ allTold (called k c) more
+allTold k (x ∷ more) = notesTold (finds k x) (callOf x) ++ allTold (leftBy k x) more
+
+unfoldable pub AllMayBe : List LentCall → Type 0
+AllMayBe [] = Unit
+AllMayBe (x ∷ more) = MayBe x × AllMayBe more
+
+abbrev pub ToldNotes : Type 0
+ToldNotes =
+    (images octets letters : List ℕ) (calls : List LentCall)
+    → length images ≡ imagesRoom → longestBody ≤ length octets → areLetters letters ≡ true → AllMayBe calls
+    → allTold (freshFound images octets letters) calls ≡ allNotes freshBus (made calls)
+
+-- ---- Calls that are all lent what they must be: a period eight places that hold no notes.
+unfoldable pub lend : Call → LentCall
+lend (event unit number value) = gives unit number value
+lend period = runs (replicate terminals noNotes)
 
 unfoldable pub OctetValues : List Call → Type 0
 OctetValues [] = Unit
 OctetValues (c ∷ more) = OctetValue c × OctetValues more
 
-abbrev pub ToldNotes : Type 0
-ToldNotes =
-    (images octets letters : List ℕ) (ns : List UnitNotes) (calls : List Call)
-    → length images ≡ imagesRoom → longestBody ≤ length octets → areLetters letters ≡ true → length ns ≡ terminals → OctetValues calls
-    → allTold (freshKept images octets letters ns) calls ≡ allNotes freshBus calls
-
 -- ---- Runs. A run hands back the notes of its last period; the periods before it, as single calls, have none (proofs/QuietRuns.antt).
 
--- the calls that a run of at most so many periods makes
-unfoldable pub callsIn : ℕ → Kept → List Call
+-- the calls that a run of at most so many periods makes, each with the places for notes as the one before left them
+unfoldable pub callsIn : ℕ → Kept → List LentCall
 callsIn zero k = []
-callsIn (suc n) k = period ∷ cond (goesOn (ran 1 k) n) (callsIn n (keptAfter 1 k)) []
-
-unfoldable pub calledAll : Kept → List Call → Kept
-calledAll k [] = k
-calledAll k (c ∷ more) = calledAll (called k c) more
+callsIn (suc n) k = runs (k .notes) ∷ cond (goesOn (ran 1 k) n) (callsIn n (keptAfter 1 k)) []
 
 -- the notes of a run of at least one period: the last one's number is one less than the periods run
 unfoldable pub runTold : ℕ → Kept → List Note
@@ -160,7 +231,7 @@ runTold most k =
 pub record RunIsCalls (n : ℕ) (k : Kept) : Type 0 where
   -- the first is refused or none
   pub replies : ran (suc n) k .reply ≡ replied k period
-  pub leaves : keptAfter (suc n) k ≡ calledAll k (callsIn (suc n) k)
+  pub leaves : settled (keptAfter (suc n) k) ≡ leftAll k (callsIn (suc n) k)
   pub tells : runTold (suc n) k ≡ allTold k (callsIn (suc n) k)
 
 abbrev pub RunsAreCalls : Type 0

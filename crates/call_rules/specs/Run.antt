@@ -53,3 +53,12 @@ pub record SinglePeriod (k : Kept) : Type 0 where
 
 abbrev pub PeriodSingle : Type 0
 PeriodSingle = (k : Kept) → runReply 1 k ≡ 0 → SinglePeriod k
+
+-- ---- What a run leaves, of whatever it finds: the record that it hands back, and the images and the letters as they were (proofs/RunLeft.antt).
+pub record RunLeft (most : ℕ) (k : Kept) : Type 0 where
+  pub bus-is : ran most k .bus ≡ keptAfter most k .bus
+  pub images-stay : keptAfter most k .images ≡ k .images
+  pub letters-stay : keptAfter most k .letters ≡ k .letters
+
+abbrev pub RunLeaves : Type 0
+RunLeaves = (most : ℕ) (k : Kept) → RunLeft most k

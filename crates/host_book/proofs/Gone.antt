@@ -14,10 +14,10 @@ use Rattle.combining.specs.Hit.{noneLetter}
 use Rattle.hdlc.specs.Image.{longestBody}
 use Rattle.bus.specs.Calls.{Call}
 use Rattle.bus_event.specs.Event.{imagesRoom}
-use Rattle.call_rules.specs.Kept.{Kept}
+use Rattle.call_rules.specs.Kept.{Kept, settled}
 use Rattle.call_rules.proofs.InOrder.{InOrder, in-order, order-reply}
 use Rattle.note_text.specs.Room.{laid}
-use Rattle.report.specs.Told.{settled, done, doneAll}
+use Rattle.report.specs.Told.{done, doneAll}
 use Rattle.report.specs.Ahead.{Stand, Sound, Stopped}
 use Rattle.report.proofs.Order.{order-done}
 use Rattle.report.proofs.Driving.{stays-sound}

@@ -6,7 +6,7 @@ use Rattle.symbols.specs.Symbols.{lineLength}
 use Rattle.hdlc.specs.Image.{longestBody}
 use Rattle.bus_event.specs.Event.{imagesRoom}
 use Rattle.call_rules.specs.Kept.{Kept}
-use Rattle.report.specs.Told.{freshFound}
+use Rattle.call_rules.specs.Lists.{freshFound}
 use Rattle.bus_octets.specs.Layout.{busOctets}
 
 -- a fresh record with eight fresh terminals; what is lent with them holds nothing but 0

@@ -17,7 +17,8 @@ use Rattle.note_text.specs.Room.{laid}
 use Rattle.bus_octets.specs.Layout.{recordIn, octetsIn, busOctets, shown, isBus}
 use Rattle.host_steps.specs.Stepping.{notesOctets, reason, eventNumber, hostReply, hostBus, hostNotes, hostRunReply, hostRunBus, hostRunNotes}
 use Rattle.host_steps.proofs.Numbered.{same-call}
-use Rattle.host_steps.proofs.Told.{event-notes, run-notes, one-period}
+use Rattle.call_rules.proofs.QuietRuns.{one-told}
+use Rattle.host_steps.proofs.Told.{event-notes, run-notes}
 use Rattle.host_steps.proofs.Answers.{not-lent, turned-down, stepped, lent-bus}
 
 module _ (s room : List ℕ) where
@@ -93,4 +94,4 @@ module _ (s room : List ℕ) where
   -- a run of one period is a period
   pub period-ended : (r : ℕ) (s′ room′ : List ℕ) → Ran-to 1 r s′ room′ → Ended period r s′ room′
   unfolding hostRunReply hostRunBus hostRunNotes hostReply hostBus hostNotes replied called
-  period-ended r s′ room′ h = (h .0, h .1, h .2 ∙ rw (one-period (shown s)))
+  period-ended r s′ room′ h = (h .0, h .1, h .2 ∙ rw (one-told (shown s)))

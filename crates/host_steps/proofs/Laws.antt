@@ -15,17 +15,17 @@ use Rattle.symbols.specs.Symbols.{lineLength, within, fits}
 use Rattle.hdlc.specs.Bits.{bitOf}
 use Rattle.hdlc.specs.Image.{longestBody}
 use Rattle.bus.specs.Bus.{Bus, Note, freshBus, notesOf}
-use Rattle.bus.specs.Calls.{Call, after, ran, allNotes}
+use Rattle.bus.specs.Calls.{Call, reply, after, ran, allNotes}
 use Rattle.bus.specs.Calls.Call.{event, period}
 use Rattle.bus_event.specs.Event.{imagesRoom, areLetters}
-use Rattle.call_rules.specs.Kept.{Kept}
+use Rattle.call_rules.specs.Kept.{Kept, settled}
 use Rattle.call_rules.specs.Ready.{goesOn}
-use Rattle.call_rules.specs.Lists.{Carries, isCode, coded, told, called, replied, notesTold, runTold, OctetValues, callsIn, calledAll, allTold, periodTold, readerTold, terminalsTold, timersTold}
+use Rattle.call_rules.specs.Lists.{Carries, isCode, coded, told, called, replied, notesTold, runTold, OctetValue, LentCall, callOf, finds, leftBy, isLent, Same, made, leftAll, allTold, AllMayBe, lend, callsIn, periodTold, readerTold, terminalsTold, timersTold}
 use Rattle.call_rules.specs.Run.{ran as once, ranOn, keptOn, notYet, keptAfter}
 use Rattle.call_rules.proofs.InOrder.{InOrder, order-reply}
 use Rattle.call_rules.proofs.Fitting.{Fit, always-fit}
-use Rattle.call_rules.proofs.Lists.{call-carried, all-carried}
-use Rattle.call_rules.proofs.QuietRuns.{runs-are-calls}
+use Rattle.call_rules.proofs.Lists.{call-carried, settled-carries, same-from, same-all, fresh-carries}
+use Rattle.call_rules.proofs.QuietRuns.{one-told, runs-are-calls}
 use Rattle.call_rules.proofs.QuietEnds as quiet-ends
 use Rattle.call_rules.proofs.Codes.{run-notes-coded}
 use Rattle.call_rules.proofs.Refused as turned-down
@@ -35,9 +35,8 @@ use Rattle.note_text.specs.NoteText.{notesIn}
 use Rattle.note_text.specs.NoteOctets.{noteOctets}
 use Rattle.note_text.specs.declared.form.Form.the-variants.{Octets}
 use Rattle.period_text.proofs.Room.{period-octets-fit, event-octets-fit}
-use Rattle.report.specs.Told.{settled}
 use Rattle.report.proofs.Order.{order-called}
-use Rattle.report.proofs.ToldRight.{settled-carries, fresh-carries, fresh-ready}
+use Rattle.report.proofs.ToldRight.{fresh-ready}
 use Rattle.bus_octets.specs.Layout.{busOctets, shown, isBus}
 use Rattle.bus_octets.specs.Laws.{StoredAndShown}
 use Rattle.bus_octets.proofs.Exact.{exact}
@@ -50,7 +49,7 @@ use Rattle.host_steps.specs.Laws as laws
 use Rattle.host_steps.specs.Laws.HostCall.{step, runTo}
 use Rattle.host_steps.proofs.Answers.{lent-bus, lent-room}
 use Rattle.host_steps.proofs.Stepped.{order}
-use Rattle.host_steps.proofs.Told.{left-fits, one-period}
+use Rattle.host_steps.proofs.Told.{left-fits}
 
 -- ---- A refused call.
 module _ (s room : List ℕ) (reply : ℕ) (left : Kept) (notes : List Note) where
@@ -95,19 +94,13 @@ told-fit k (event unit number value) o long =
     rw (length-append (notesIn Octets (notesTold k (event unit number value))) (0 ∷ []))
     (by-test (eqb (replied k (event unit number value)) 0)
     (λ t. rw t (omega (arith, event-octets-fit (k .bus .periods .0) unit (told unit number value k .notes)))) (λ t. rw t (omega arith)))
-told-fit k period o long = rw (← one-period k) (ran-fit k 1 o long)
+told-fit k period o long = rw (← one-told k) (ran-fit k 1 o long)
 
 pub notes-fit : laws.NotesFit
 notes-fit s c h = told-fit (shown s) c (order s h) (exact s h .octets-fit)
 
 pub run-notes-fit : laws.RunNotesFit
 run-notes-fit s most h = ran-fit (shown s) most (order s h) (exact s h .octets-fit)
-
--- a refused event or period has none
-none-told-refused : (k : Kept) (c : Call) → (replied k c ≡ 0 → ⊥) → notesTold k c ≡ []
-unfolding notesTold
-none-told-refused k (event unit number value) n = rw (ne-eqb _ _ n)
-none-told-refused k period n = rw (ne-eqb _ _ n)
 
 -- ---- What a call leaves.
 pub octets-called : (k : Kept) (c : Call) → InOrder k → length (called k c .octets) ≡ length (k .octets)
@@ -121,10 +114,15 @@ left-stored s c h =
     round-trip (called (shown s) c) (order-reply 0 (called (shown s) c) o) (octets-called (shown s) c (order s h) ∙ exact s h .octets-fit)
 
 -- ---- What stands for a bus, through the calls of document 01 and through a run of periods.
-periods-values : (n : ℕ) (k : Kept) → OctetValues (callsIn n k)
-unfolding callsIn OctetValues
-periods-values zero k = tt
-periods-values (suc n) k = (tt, by-test (goesOn (once 1 k) n) (λ t. rw t (periods-values n (keptAfter 1 k))) (λ t. rw t tt))
+periods-may-be : (n : ℕ) (k : Kept) → AllMayBe (callsIn n k)
+unfolding callsIn AllMayBe
+periods-may-be zero k = tt
+periods-may-be (suc n) k = (tt, by-test (goesOn (once 1 k) n) (λ t. rw t (periods-may-be n (keptAfter 1 k))) (λ t. rw t tt))
+
+may-be : (c : Call) → OctetValue c → AllMayBe (lend c ∷ [])
+unfolding lend AllMayBe
+may-be (event unit number value) v = (v, tt)
+may-be period v = (tt, tt)
 
 pub ran-append : (b : Bus) (xs ys : List Call) → ran b (xs ++ ys) ≡ ran (ran b xs) ys
 unfolding ran
@@ -145,35 +143,53 @@ module _ (s : List ℕ) (h : isBus s ≡ true) where
   none-told = rw (exact s h .ready) refl
 
 record Goes (b : Bus) (calls : List Call) (reply : ℕ) (left : Kept) (told : List Note) : Type 0 where
-  carries : Carries left (ran b calls)
+  carries : Carries (settled left) (ran b calls)
   replies : reply ≡ laws.firstReply b calls
   tells : told ≡ allNotes b calls
 
 module _ (s : List ℕ) (b : Bus) (h : isBus s ≡ true) (fit : (later : List Call) → Fit (ran b later)) (c : Carries (shown s) b) where
-  one-goes : (x : Call) → OctetValues (x ∷ []) → Goes b (x ∷ []) (replied (shown s) x) (called (shown s) x) (notesTold (shown s) x)
-  unfolding laws.firstReply calledAll allTold ran OctetValues
+  -- a list of calls on what the octets stand for: its notes, and what it leaves
+  carried : (calls : List LentCall) → AllMayBe calls
+      → (allTold (shown s) calls ≡ allNotes b (made calls)) × Carries (leftAll (shown s) calls) (ran b (made calls))
+  unfolding Same
+  carried calls m = same-all (shown s) b calls [] m (same-from (calls ++ []) (shown s) b c fit)
+
+  one-goes : (x : Call) → OctetValue x → Goes b (made (lend x ∷ [])) (replied (shown s) x) (called (shown s) x) (notesTold (shown s) x)
+  unfolding ran
   one-goes x v =
-      let a = all-carried (x ∷ []) (shown s) b c fit v in
+      let a = carried (lend x ∷ []) (may-be x v) in
       record {
-        carries = a .0;
-        replies = call-carried (shown s) b c (fit []) x (v .0) .replies;
-        tells = sym (append-nil (notesTold (shown s) x)) ∙ a .1;
+        carries = rw (one-left x) (a .1);
+        replies = call-carried (shown s) b c (fit []) x v .replies ∙ one-reply x;
+        tells = sym (one-told x) ∙ a .0;
       }
+    where
+      one-left : (y : Call) → settled (called (shown s) y) ≡ leftAll (shown s) (lend y ∷ [])
+      one-left (event unit number value) = unfold leftAll leftBy lend in refl
+      one-left period = unfold leftAll leftBy lend finds shown in refl
 
-  none-left : Carries (keptAfter 0 (shown s)) (ran b [])
+      one-reply : (y : Call) → reply b y ≡ laws.firstReply b (made (lend y ∷ []))
+      one-reply (event unit number value) = unfold laws.firstReply made lend isLent callOf in refl
+      one-reply period = unfold laws.firstReply made lend isLent callOf in refl
+
+      one-told : (y : Call) → allTold (shown s) (lend y ∷ []) ≡ notesTold (shown s) y
+      one-told (event unit number value) = unfold allTold lend finds callOf in append-nil _
+      one-told period = unfold allTold lend finds callOf shown in append-nil _
+
+  none-left : Carries (settled (keptAfter 0 (shown s))) (ran b [])
   unfolding keptAfter keptOn ran
-  none-left = c
+  none-left = settled-carries (shown s) b c
 
-  run-goes : (most : ℕ) → Goes b (callsIn most (shown s)) (once most (shown s) .reply) (keptAfter most (shown s)) (runTold most (shown s))
-  unfolding laws.firstReply callsIn ran allNotes
+  run-goes : (most : ℕ) → Goes b (made (callsIn most (shown s))) (once most (shown s) .reply) (keptAfter most (shown s)) (runTold most (shown s))
+  unfolding laws.firstReply callsIn ran allNotes made isLent callOf shown
   run-goes zero = record { carries = none-left; replies = none-refused s h; tells = none-told s h }
   run-goes (suc n) =
       let r = runs-are-calls n (shown s) in
-      let a = all-carried (callsIn (suc n) (shown s)) (shown s) b c fit (periods-values (suc n) (shown s)) in
+      let a = carried (callsIn (suc n) (shown s)) (periods-may-be (suc n) (shown s)) in
       record {
-        carries = rw (r .leaves) (a .0);
+        carries = rw (r .leaves) (a .1);
         replies = r .replies ∙ call-carried (shown s) b c (fit []) period tt .replies;
-        tells = r .tells ∙ a .1;
+        tells = r .tells ∙ a .0;
       }
 
 -- ---- A run without notes.
@@ -232,14 +248,14 @@ abbrev Steps : Bus → List ℕ → laws.HostCall → Type 0
 Steps b s x = laws.SteppedBy b s x × laws.OctetsCarry (laws.busAfter s x) (ran b (laws.callsOf s x))
 
 module _ (s : List ℕ) (b : Bus) (o : laws.OctetsCarry s b) (x : laws.HostCall) (reply : ℕ) (left : Kept) (told : List Note)
-    (p : Parts s x reply left told) (g : Goes b (laws.asked s x) reply left told) where
+    (p : Parts s x reply left told) (g : Goes b (made (laws.asked s x)) reply left told) where
   -- with room
   module _ (t : ltb (length (laws.roomOf x)) notesRoom ≡ false) where
     passed : eqb (reason s (laws.roomOf x)) 0 ≡ true
     unfolding lentReason
     passed = rw (o .is-bus, t)
 
-    asked-for : laws.callsOf s x ≡ laws.asked s x
+    asked-for : laws.callsOf s x ≡ made (laws.asked s x)
     unfolding laws.callsOf
     asked-for = rw t
 
@@ -263,9 +279,7 @@ module _ (s : List ℕ) (b : Bus) (o : laws.OctetsCarry s b) (x : laws.HostCall)
 
     enough-left : laws.OctetsCarry (laws.busAfter s x) (ran b (laws.callsOf s x))
     unfolding busWith settled
-    enough-left =
-        rw (asked-for, p .bus-is, passed)
-        (record { is-bus = p .stored .is-bus; carries = rw (p .stored .shown-is) (settled-carries left (ran b (laws.asked s x)) (g .carries)) })
+    enough-left = rw (asked-for, p .bus-is, passed) (record { is-bus = p .stored .is-bus; carries = rw (p .stored .shown-is) (g .carries) })
 
   -- with too little
   module _ (t : ltb (length (laws.roomOf x)) notesRoom ≡ true) where
@@ -308,7 +322,7 @@ module _ (s room : List ℕ) (h : isBus s ≡ true) where
         bus-is = refl;
         notes-are = refl;
         refused = refused-keeps s room x;
-        silent = none-told-refused (shown s) x;
+        silent = turned-down.refused-tells-none (shown s) x;
         fits = notes-fit s x h;
         stored = left-stored s x h;
       }
@@ -329,12 +343,12 @@ module _ (s room : List ℕ) (h : isBus s ≡ true) where
 
 from : (list : List laws.HostCall) (s : List ℕ) (b : Bus) → ((later : List Call) → Fit (ran b later)) → laws.OctetsCarry s b
     → laws.SteppedAll b s list
-unfolding laws.SteppedAll laws.asked OctetValues
+unfolding laws.SteppedAll laws.asked
 from [] s b fit o = o
 from (step x room ∷ more) s b fit o = (
   o,
   λ v.
-      let n = steps s b o (step x room) _ _ _ (step-parts s room (o .is-bus) x) (one-goes s b (o .is-bus) fit (o .carries) x (v, tt)) in
+      let n = steps s b o (step x room) _ _ _ (step-parts s room (o .is-bus) x) (one-goes s b (o .is-bus) fit (o .carries) x v) in
       (n .0, from more _ _ (fit-on b _ fit) (n .1)),
 )
 from (runTo until room ∷ more) s b fit o = (

@@ -18,7 +18,7 @@ use Rattle.call_rules.specs.Run.{ran, keptAfter}
 use Rattle.call_rules.specs.Event.{eventTold, terminalsAfter, imagesAfter, lettersAfter}
 use Rattle.call_rules.specs.Lists.{told, called}
 use Rattle.call_rules.proofs.InOrder.{InOrder, in-order}
-use Rattle.call_rules.proofs.RunLeft.{run-left, run-bus}
+use Rattle.call_rules.proofs.RunLeft.{run-left, run-leaves}
 use Rattle.call_rules.specs.Kept.{found}
 use Rattle.bus_held.specs.declared.HeldEvent.{HeldEvent}
 use Rattle.bus_held.specs.declared.HeldRun.{HeldRun}
@@ -110,14 +110,15 @@ module _ (s : List ℕ) (h : isBus s ≡ true) where
       unfolding shown
       went a t n o e =
           let l = run-left most (shown s) order in
+          let stays = run-leaves most (shown s) in
           let a′ : r .ran ≡ ran most (shown s) = a ∙ rw from-is in
-          let bus′ : r .ran .bus ≡ ended .bus = rw a′ (run-bus most (shown s)) in
+          let bus′ : r .ran .bus ≡ ended .bus = rw a′ (stays .bus-is) in
           let t′ : r .terminals ≡ ended .terminals = t ∙ rw from-is in
           let o′ : octets′ ≡ ended .octets = o ∙ rw from-is in
-          let letters′ : letters ≡ ended .letters = letters-is ∙ (letters-are ∙ sym (l .letters-stay)) in (
+          let letters′ : letters ≡ ended .letters = letters-is ∙ (letters-are ∙ sym (stays .letters-stay)) in (
             a′,
             n ∙ rw from-is,
             e ∙ (rw (bus′, t′, o′, letters′)
                 (stored-over s ended (l .order .eight) (letters-long ended (l .order)) (l .octets-long ∙ exact s h .octets-fit) (omega (arith, long))
-                (sym (l .images-stay)))),
+                (sym (stays .images-stay)))),
           )

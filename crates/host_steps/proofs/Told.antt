@@ -50,11 +50,3 @@ module _ (s : List ℕ) (h : isBus s ≡ true) (most : ℕ) where
       → periodTold (ran most (shown s) .bus .periods .0 - 1) (ran most (shown s)) (ended .notes) (octetsIn (busOctets ended)) ≡ runTold most (shown s)
   unfolding runTold
   run-notes z = rw (z, octets-left)
-
--- ---- A run of one period is a single call.
-no-more : (b : Bool) → cond {A = List Call} b [] [] ≡ []
-no-more b = by-test b (λ t. rw t) (λ t. rw t)
-
-pub one-period : (k : Kept) → runTold 1 k ≡ notesTold k period
-unfolding callsIn allTold
-one-period k = runs-are-calls 0 k .tells ∙ rw (no-more (goesOn (ran 1 k) 0)) (append-nil (notesTold k period))

@@ -8,7 +8,7 @@ use lib.ListN.{length, getD, take}
 use Rattle.timing.specs.Counts.{mostPeriods}
 use Rattle.bus.specs.Bus.{Bus, Note, freshBus}
 use Rattle.bus.specs.Calls.{Call, reply, ran, allNotes}
-use Rattle.call_rules.specs.Lists.{Carries, OctetValue, notesTold, callsIn, runTold}
+use Rattle.call_rules.specs.Lists.{Carries, LentCall, OctetValue, made, lend, notesTold, callsIn, runTold}
 use Rattle.bus_octets.specs.Layout.{shown, isBus}
 use Rattle.host_bus.specs.Fresh.{freshOctets}
 use Rattle.host_steps.specs.Stepping.{notesOctets, notesRoom, hostReply, hostBus, hostNotes, mostTo, hostRunReply, hostRunBus, hostRunNotes}
@@ -61,17 +61,18 @@ unfoldable pub notesAfter : List ℕ → HostCall → List ℕ
 notesAfter s (step c room) = hostNotes s room c
 notesAfter s (runTo until room) = hostRunNotes s room (mostTo until s)
 
--- The calls of document 01 that it asks for: a run for as many periods as it runs (crate `call_rules`, specs/Lists.antt).
-unfoldable pub asked : List ℕ → HostCall → List Call
-asked s (step c room) = c ∷ []
+-- The calls of crate `call_rules` (specs/Lists.antt) that it asks for, with their own places for notes: a run for as many periods as it runs.
+unfoldable pub asked : List ℕ → HostCall → List LentCall
+asked s (step c room) = lend c ∷ []
 asked s (runTo until room) = callsIn (mostTo until s) (shown s)
 
 -- With too little room for notes it makes none of them.
 abbrev pub shortOf : {A : Type 0} → A → HostCall → A → A
 shortOf short x enough = cond (ltb (length (roomOf x)) notesRoom) short enough
 
+-- the calls of document 01 that it makes
 unfoldable pub callsOf : List ℕ → HostCall → List Call
-callsOf s x = shortOf [] x (asked s x)
+callsOf s x = shortOf [] x (made (asked s x))
 
 -- of a run the first period is refused or none; a run of no periods is not refused
 unfoldable pub firstReply : Bus → List Call → ℕ

@@ -19,7 +19,7 @@ use Rattle.bus.specs.Event.{HIT}
 use Rattle.bus.specs.Calls.{Call}
 use Rattle.bus.specs.Calls.Call.{event, period}
 use Rattle.bus_event.specs.Event as parts
-use Rattle.call_rules.specs.Kept.{Kept}
+use Rattle.call_rules.specs.Kept.{Kept, settled}
 use Rattle.call_rules.specs.Event.{reason, eventTold}
 use Rattle.call_rules.specs.Lists as lists
 use Rattle.call_rules.specs.Lists.{called}
@@ -27,7 +27,7 @@ use Rattle.note_text.specs.NoteText.{heading, notesIn, notesText, stoppedLine}
 use Rattle.note_text.specs.declared.form.Form.the-variants.{Line}
 use Rattle.note_text.proofs.NoteLaws.{form-append}
 use Rattle.report.specs.Report.{callAt, callsOf, stopOf}
-use Rattle.report.specs.Told.{settled, done, doneAll, bookTold, allBookTold}
+use Rattle.report.specs.Told.{done, doneAll, bookTold, allBookTold}
 use Rattle.report.specs.Ahead.{Stand, answersAhead, callsAhead, textAhead}
 
 -- ---- From a stand to another: the calls made between, and the text that they and the lines between put into the report.

@@ -22,18 +22,18 @@ use Rattle.bus.specs.Calls.Call.{period}
 use Rattle.bus_record.specs.NetworkSide.{refusedRun}
 use Rattle.listening.specs.declared.hears.UnitNotes.{UnitNotes}
 use Rattle.bus_record.specs.declared.side.Ran.{Ran}
-use Rattle.call_rules.specs.Kept.{Kept}
+use Rattle.call_rules.specs.Kept.{Kept, settled}
 use Rattle.call_rules.specs.Shown.{busIn}
 use Rattle.call_rules.specs.Period.{dRead, readerRun, octetsRun, bodyOf, answersIn, hasNotes, periodRan, keptRun}
 use Rattle.call_rules.specs.Ready.{runReply, goesOn}
 use Rattle.call_rules.specs.Run.{ranOn, notYet, ran, keptAfter}
-use Rattle.call_rules.specs.Lists.{called, replied, notesTold, periodTold, allTold, callsIn, runTold, readerTold}
+use Rattle.call_rules.specs.Lists.{called, replied, notesTold, periodTold, runTold, readerTold}
 use Rattle.call_rules.proofs.InOrder.{InOrder, in-order, order-reply}
 use Rattle.call_rules.proofs.RunSingle.{goes-facts, first-ran, first-kept, period-single, run-single}
-use Rattle.call_rules.proofs.QuietRuns.{runs-are-calls}
-use Rattle.call_rules.proofs.RunLeft.{run-left, run-bus}
+use Rattle.call_rules.proofs.QuietRuns as quiet
+use Rattle.call_rules.proofs.RunLeft.{run-left, run-leaves}
 use Rattle.period_text.proofs.Room.{period-fits}
-use Rattle.report.specs.Told.{settled, done, doneAll, bookTold, allBookTold, RunsOn, OneRun, RunFits}
+use Rattle.report.specs.Told.{done, doneAll, bookTold, allBookTold, RunsOn, OneRun, RunFits}
 use Rattle.report.proofs.Order.{order-settled, order-called}
 
 -- ---- A period looks at no notes of the one before.
@@ -77,7 +77,6 @@ module _ (k : Kept) (o : InOrder k) (l : k .bus .periods .0 < mostPeriods) where
         some = omega arith;
         within = omega arith;
         accepted = rw (s .ran-is, g) one-accepted;
-        same-bus = rw (s .ran-is, s .kept-is, g) (run-bus 1 k);
         left = rw (s .kept-is, g);
         run = rw (s .ran-is, g) one-more;
         tells =
@@ -96,10 +95,7 @@ unfolding runTold
 run-told n k e = rw e
 
 told-on : (n : ℕ) (k : Kept) → goesOn (ran 1 k) (suc n) ≡ true → runTold (suc (suc n)) k ≡ notesTold k period ++ runTold (suc n) (keptAfter 1 k)
-unfolding callsIn allTold called
-told-on n k g =
-    runs-are-calls (suc n) k .tells
-    ∙ rw g (ap (λ (ns : List Note). notesTold k period ++ ns) (sym (runs-are-calls n (keptAfter 1 k) .tells)))
+told-on n k g = quiet.told-on (suc n) k g ∙ rw (quiet.goes-quiet k (suc n) g)
 
 -- ---- .. or goes on from there, whatever the notes of the first: it has none.
 module _ (n : ℕ) (k : Kept) (o : InOrder k) (l : k .bus .periods .0 + 1 < mostPeriods) (g : goesOn (ran 1 k) (suc n) ≡ true) where
@@ -114,7 +110,7 @@ module _ (n : ℕ) (k : Kept) (o : InOrder k) (l : k .bus .periods .0 + 1 < most
   next-order = order-called k period o
 
   next-periods : next .bus .periods .0 ≡ k .bus .periods .0 + 1
-  next-periods = rw (sym (run-bus 1 k)) (one-more k o first)
+  next-periods = rw (sym (run-leaves 1 k .bus-is)) (one-more k o first)
 
   settled-periods : settled next .bus .periods .0 ≡ k .bus .periods .0 + 1
   unfolding settled
@@ -146,7 +142,6 @@ module _ (n : ℕ) (k : Kept) (o : InOrder k) (l : k .bus .periods .0 + 1 < most
         some = omega arith;
         within = omega (arith, r .within);
         accepted = all;
-        same-bus = rw (ran-is, kept-is) (rw (ran-on, kept-on) at (r .same-bus));
         left = rw kept-is (rw kept-on at (r .left));
         run = rw ran-is (omega (arith, settled-periods, rw ran-on at (r .run)));
         tells =

@@ -26,7 +26,7 @@ use Rattle.bus_record.specs.Record.{recordInRange}
 use Rattle.bus_event.specs.Event.{imagesRoom, areLetters, firstReason, takenOver, imagePut, frameReason, imagesWith, networkTold, terminalTold}
 use Rattle.bus_event.specs.Event as parts
 use Rattle.bus_event.proofs.Laws.{event-record-kept, event-terminal-kept}
-use Rattle.call_rules.specs.Kept.{Kept, kept}
+use Rattle.call_rules.specs.Kept.{Kept, kept, settled}
 use Rattle.call_rules.specs.Ready.{eightInRange, lentFits, runReason, runReply}
 use Rattle.call_rules.specs.Run.{notYet, keptAfter}
 use Rattle.call_rules.specs.Event.{reason, eventTold, terminalsAfter, imagesAfter, lettersAfter}
@@ -34,7 +34,7 @@ use Rattle.call_rules.specs.Lists.{told, called}
 use Rattle.call_rules.proofs.InOrder.{InOrder, in-order, one-left, order-reply, order-ranges, eight-in-range}
 use Rattle.call_rules.proofs.ReadyKept.{order-kept}
 use Rattle.call_rules.proofs.RunSingle.{period-single, stays, kept-ends}
-use Rattle.report.specs.Told.{Ready, settled, done, doneAll, StaysReady}
+use Rattle.report.specs.Told.{Ready, done, doneAll, StaysReady}
 
 -- ---- The images: whatever is put among them, of whatever octets, they are as many.
 image-room : (body : List ℕ) → length body ≤ longestBody → octetsFor (length (image body)) ≤ imageRoom

@@ -1,74 +1,57 @@
--- What the program puts into the report is what document 01's rules give for the same calls: the record and what is lent stand for the bus
--- after every list of calls, also where the notes are taken after each.
+-- What the program puts into the report is what document 01's rules give for the same calls: the lists of crate `call_rules` (specs/Lists.antt),
+-- whose calls are all lent what they must be.
 use mathlib.Core.Path.{_≡_, refl}
 use mathlib.Core.Bool.{true}
-use mathlib.Core.List.{List, [], _∷_}
-use Prim.Native.Nat.{ℕ, _≤_}
-use lib.ListN.{length, replicate, length-replicate}
-use Rattle.hdlc.specs.Image.{longestBody}
-use Rattle.bus.specs.Bus.{Bus, terminals, freshBus}
-use Rattle.bus.specs.Calls.{Call, after, ran}
+use mathlib.Core.List.{List, [], _∷_, map}
+use Rattle.bus.specs.Bus.{Bus, freshBus}
+use Rattle.bus.specs.Calls.{Call, after, ran, reply, notes}
 use Rattle.bus.specs.Calls.Call.{event, period}
-use Rattle.bus_record.specs.NetworkSide.{noNotes}
-use Rattle.bus_event.specs.Event.{imagesRoom, areLetters}
-use Rattle.call_rules.specs.Kept.{Kept}
-use Rattle.call_rules.specs.Lists.{Carries, Same, OctetValues, called}
-use Rattle.call_rules.proofs.Fitting.{Fit, always-fit, in-order}
-use Rattle.call_rules.proofs.EventCarried.{Carried}
-use Rattle.call_rules.proofs.Lists.{call-carried, lists-carried}
+use Rattle.call_rules.specs.Kept.{Kept, settled}
+use Rattle.call_rules.specs.Lists.{Carries, callOf, finds, leftBy, isLent, MayBe, Same, OctetValue, OctetValues, called, replied, notesTold, freshFound, lend}
+use Rattle.call_rules.proofs.Fitting.{always-fit, in-order}
+use Rattle.call_rules.proofs.Lists.{fresh-carries, lists-carried}
 use Rattle.report.specs.Report.{refusedNotes, bookNotes, allBookNotes}
-use Rattle.report.specs.Told.{settled, done, refusedTold, bookTold, allBookTold, freshFound, ToldRight, FreshReady}
+use Rattle.report.specs.Told.{done, refusedTold, bookTold, allBookTold, ToldRight, FreshReady}
 use Rattle.report.proofs.Order.{order-ready}
 
--- taking the notes leaves what stands for the bus
-pub settled-carries : (k : Kept) (b : Bus) → Carries k b → Carries (settled k) b
-unfolding settled
-settled-carries k b c =
-    record {
-      periods-is = c .periods-is;
-      opportunities-is = c .opportunities-is;
-      network-is = c .network-is;
-      heard-is = c .heard-is;
-      hit-is = c .hit-is;
-      terminals-are = c .terminals-are;
-      images-are = c .images-are;
-      reader-is = c .reader-is;
-      reader-fits = c .reader-fits;
-      images-fit = c .images-fit;
-      octets-fit = c .octets-fit;
-      letters-fit = c .letters-fit;
-      notes-fit = refl;
-    }
+-- ---- a call that is lent what it must be: it finds what is kept
+record Lent (k : Kept) (b : Bus) (c : Call) (more : List Call) : Type 0 where
+  periods-is : k .bus .periods .0 ≡ b .periods
+  replies : replied k c ≡ reply b c
+  tells : notesTold k c ≡ notes b c
+  leaves : Same (done k c) (after b c) (map lend more)
 
--- ---- a call
-refused-same : (k : Kept) (b : Bus) (c : Call) → Carries k b → Carried k b c → refusedTold k c ≡ refusedNotes b c
+lent : (k : Kept) → settled k ≡ k → (b : Bus) (c : Call) (more : List Call) → OctetValue c → Same k b (map lend (c ∷ more)) → Lent k b c more
+unfolding Same lend callOf finds leftBy isLent done settled
+lent k e b (event unit number value) more v s =
+    let t = s .1 v in record { periods-is = s .0 .periods-is; replies = t .0; tells = t .1; leaves = t .2 }
+lent k e b period more v s =
+    let t = rw e at (s .1 tt) in record { periods-is = s .0 .periods-is; replies = t .0; tells = t .1; leaves = t .2 }
+
+refused-same : (k : Kept) (b : Bus) (c : Call) (more : List Call) → Lent k b c more → refusedTold k c ≡ refusedNotes b c
 unfolding refusedTold refusedNotes
-refused-same k b (event unit number value) c d = rw (d .replies, c .periods-is)
-refused-same k b period c d = refl
+refused-same k b (event unit number value) more d = rw (d .replies, d .periods-is)
+refused-same k b period more d = refl
 
-call-same : (k : Kept) (b : Bus) (c : Call) → Carries k b → Carried k b c → bookTold k c ≡ bookNotes b c
+call-same : (k : Kept) (b : Bus) (c : Call) (more : List Call) → Lent k b c more → bookTold k c ≡ bookNotes b c
 unfolding bookTold bookNotes
-call-same k b c h d = rw (d .replies, d .tells, refused-same k b c h d)
+call-same k b c more d = rw (d .replies, d .tells, refused-same k b c more d)
 
--- ---- lists of calls, from a record that stands for the bus on; whatever calls come, the bus is such as the calls carry
-told-from : (calls : List Call) (k : Kept) (b : Bus) → ((later : List Call) → Fit (ran b later)) → Carries k b → OctetValues calls
+-- it leaves no notes
+taken : (k : Kept) (c : Call) → settled (done k c) ≡ done k c
+unfolding settled done
+taken k c = refl
+
+-- ---- lists of calls
+told-same : (calls : List Call) (k : Kept) → settled k ≡ k → (b : Bus) → OctetValues calls → Same k b (map lend calls)
     → allBookTold k calls ≡ allBookNotes b calls
-unfolding allBookTold allBookNotes OctetValues done ran
-told-from [] k b fit c v = refl
-told-from (x ∷ more) k b fit c v =
-    let d = call-carried k b c (fit []) x (v .0) in
-    rw (
-      call-same k b x c d,
-      told-from more (settled (called k x)) (after b x) (λ later. fit (x ∷ later)) (settled-carries (called k x) (after b x) (d .carries)) (v .1),
-    )
+unfolding allBookTold allBookNotes OctetValues
+told-same [] k e b v s = refl
+told-same (c ∷ more) k e b v s =
+    let d = lent k e b c more (v .0) s in
+    rw (call-same k b c more d, told-same more (done k c) (taken k c) (after b c) (v .1) (d .leaves))
 
 -- ---- the fresh record
-pub fresh-carries : (images octets letters : List ℕ) → length images ≡ imagesRoom → longestBody ≤ length octets → areLetters letters ≡ true
-    → Carries (freshFound images octets letters) freshBus
-unfolding Same
-fresh-carries images octets letters i o l =
-    lists-carried images octets letters (replicate terminals noNotes) [] i o l (length-replicate terminals noNotes)
-
 pub fresh-ready : FreshReady
 unfolding ran
 fresh-ready images octets letters i o l =
@@ -76,5 +59,6 @@ fresh-ready images octets letters i o l =
     order-ready k (in-order k freshBus (fresh-carries images octets letters i o l) (always-fit []))
 
 pub told-right : ToldRight
+unfolding settled
 told-right images octets letters calls i o l v =
-    told-from calls (freshFound images octets letters) freshBus always-fit (fresh-carries images octets letters i o l) v
+    told-same calls (freshFound images octets letters) refl freshBus v (lists-carried images octets letters (map lend calls) i o l)

@@ -8,6 +8,7 @@ use Rattle.hdlc.specs.Image.{longestBody}
 use Rattle.bus.specs.Calls.{Call}
 use Rattle.bus_event.specs.Event.{imagesRoom, areLetters}
 use Rattle.call_rules.specs.Kept.{Kept}
+use Rattle.call_rules.specs.Lists.{freshFound}
 use Rattle.book_line.specs.Line.{longestLine}
 use Rattle.book_reader.specs.Book.{Answer}
 use Rattle.book_reader.specs.Step.{BEFORE-FIRST-LINE, stepAt}
@@ -16,7 +17,7 @@ use Rattle.book_reader.specs.declared.step.Step.{Step}
 use Rattle.note_text.specs.NoteText.{heading, notesText}
 use Rattle.period_text.specs.PeriodText.{periodRoom}
 use Rattle.report.specs.Report.{callsOf, stopOf, report, bookCalls}
-use Rattle.report.specs.Told.{Ready, doneAll, allBookTold, freshFound}
+use Rattle.report.specs.Told.{Ready, doneAll, allBookTold}
 
 -- How far a book has come. The last line's period is the number of periods run: the periods before a line are run up to its own. A stand on
 -- which periods are run while the book's first line is to come is none of a book from its beginning; its lines come after those periods.

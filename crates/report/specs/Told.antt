@@ -1,5 +1,5 @@
--- The same on the record and what is lent with it (crate `call_rules`, specs/Lists.antt), as the program goes through a book. The notes of a
--- period are taken at once: no call finds any of the one before.
+-- The same on the record and what is lent with it, as the program goes through a book: lists of calls of crate `call_rules` (specs/Lists.antt) that
+-- are all lent what they must be (`lend` there). The notes of a period are taken at once: no call finds any of the one before.
 use mathlib.Core.Bool.{true, cond}
 use mathlib.Core.List.{List, [], _∷_, _++_}
 use mathlib.Core.Path.{_≡_}
@@ -9,17 +9,14 @@ use lib.ListN.{length, replicate}
 use Rattle.cells.specs.Notes.{REFUSED}
 use Rattle.hdlc.specs.Image.{longestBody}
 use Rattle.timing.specs.Counts.{mostPeriods}
-use Rattle.terminal.specs.Terminal as terminal
-use Rattle.bus.specs.Bus.{Note, terminals, freshBus}
+use Rattle.bus.specs.Bus.{Note, freshBus}
 use Rattle.bus.specs.Calls.{Call}
 use Rattle.bus.specs.Calls.Call.{event, period}
-use Rattle.bus_record.specs.Record.{freshRecord}
 use Rattle.bus_event.specs.Event.{imagesRoom, areLetters}
-use Rattle.call_rules.specs.Kept.{Kept}
+use Rattle.call_rules.specs.Kept.{Kept, settled}
 use Rattle.call_rules.specs.Ready.{runReply}
 use Rattle.call_rules.specs.Run.{ran, keptAfter}
-use Rattle.call_rules.specs.Lists.{called, replied, notesTold, periodTold, OctetValues}
-use Rattle.call_rules.specs.Kept.{found}
+use Rattle.call_rules.specs.Lists.{called, replied, notesTold, periodTold, freshFound, OctetValues}
 use Rattle.note_text.specs.NoteText.{notesText}
 use Rattle.period_text.specs.PeriodText.{periodRoom}
 use Rattle.report.specs.Report.{allBookNotes}
@@ -27,10 +24,6 @@ use Rattle.report.specs.Report.{allBookNotes}
 -- nothing is refused for the record's sake or that of what is lent: 1 and 2
 abbrev pub Ready : Kept → Type 0
 Ready k = runReply 0 k ≡ 0
-
--- the notes of the last period are taken
-unfoldable pub settled : Kept → Kept
-settled k = found (k .bus) (k .terminals) (k .images) (k .octets) (k .letters)
 
 -- a call, and a list of them
 unfoldable pub done : Kept → Call → Kept
@@ -52,10 +45,6 @@ bookTold k c = cond (eqb (replied k c) 0) (notesTold k c) (refusedTold k c)
 unfoldable pub allBookTold : Kept → List Call → List Note
 allBookTold k [] = []
 allBookTold k (c ∷ more) = bookTold k c ++ allBookTold (done k c) more
-
--- a fresh record with eight fresh terminals, and whatever octets are lent with them
-abbrev pub freshFound : List ℕ → List ℕ → List ℕ → Kept
-freshFound images octets letters = found freshRecord (replicate terminals terminal.fresh) images octets letters
 
 -- ---- It is what document 01's rules give for the same calls (proofs/ToldRight.antt).
 abbrev pub ToldRight : Type 0
@@ -80,7 +69,6 @@ pub record RunsOn (k : Kept) (n : ℕ) : Type 0 where
   pub some : 1 ≤ count
   pub within : count ≤ n
   pub accepted : ran n k .reply ≡ 0
-  pub same-bus : ran n k .bus ≡ keptAfter n k .bus
   pub left : settled (keptAfter n k) ≡ doneAll k (replicate count period)
   pub run : ran n k .bus .periods .0 ≡ k .bus .periods .0 + count
   pub tells : periodTold (ran n k .bus .periods .0 - 1) (ran n k) (keptAfter n k .notes) (keptAfter n k .octets)
