@@ -1,2 +1,2 @@
-// An event of the book on the bus record, on the network end and on one terminal.
+// An event of the book: the reasons for which it is turned down, and what it does to one terminal.
 pub mod event;

@@ -6,9 +6,9 @@ use Prim.Native.Nat.{_-_, _≤_, _<_}
 use lib.ListN.{length, take, getD, length-set}
 use lib.Seq.{take-suc, take-suc-set, take-all}
 use borrow.Author.Tests.{eq-eqb, ne-eqb}
 use Rattle.bus_event.specs.Event.{takenOver}
-use Rattle.bus_event.proofs.event.take_over.Statement.{statement}
-use Rattle.bus_event.proofs.event.take_over.Tie as tie
+use Rattle.bus_calls.proofs.network_end.take_over.Statement.{statement}
+use Rattle.bus_calls.proofs.network_end.take_over.Tie as tie
 
 abbrev Inv-loop : tie.InvT-loop
 Inv-loop value letters₀ i₀ letters i = (i ≤ length value) × (length letters ≡ length value) × (take i letters ≡ take i value)

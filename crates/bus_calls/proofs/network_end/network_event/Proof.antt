@@ -1,9 +1,9 @@
 -- `network_event` meets its contract: a hit, or a request.
 use borrow.Author.Tests.{eq-eqb, ne-eqb}
 use Rattle.bus_event.specs.Event.{networkTold, lettersAfter}
 use borrow.Author.Needs.{needs}
-use Rattle.bus_event.proofs.event.network_event.Statement.{statement}
-use Rattle.bus_event.proofs.event.network_event.Tie as tie
+use Rattle.bus_calls.proofs.network_end.network_event.Statement.{statement}
+use Rattle.bus_calls.proofs.network_end.network_event.Tie as tie
 
 take-over-requires : tie.Need-take-over-requires
 take-over-requires c κs = search needs

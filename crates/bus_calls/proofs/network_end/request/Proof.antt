@@ -6,10 +6,10 @@ use lib.Dec.{eqb}
 use borrow.Author.Tests.{eq-eqb, ne-eqb}
 use Rattle.table_6_3.specs.Table63 as table63
 use Rattle.bus.specs.Event.{AR}
 use Rattle.bus_event.specs.Event.{networkAsked, asked}
 use borrow.Author.Needs.{needs}
-use Rattle.bus_event.proofs.event.request.Statement.{statement}
-use Rattle.bus_event.proofs.event.request.Tie as tie
+use Rattle.bus_calls.proofs.network_end.request.Statement.{statement}
+use Rattle.bus_calls.proofs.network_end.request.Tie as tie
 
 request-requires : tie.Need-request-requires
 request-requires c κs = search needs

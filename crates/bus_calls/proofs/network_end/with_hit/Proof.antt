@@ -1,8 +1,8 @@
 -- `with_hit` meets its contract: a hit is pending.
 use mathlib.Core.Path.{refl}
 use Rattle.bus_event.specs.Event.{withHit}
-use Rattle.bus_event.proofs.event.with_hit.Statement.{statement}
-use Rattle.bus_event.proofs.event.with_hit.Tie as tie
+use Rattle.bus_calls.proofs.network_end.with_hit.Statement.{statement}
+use Rattle.bus_calls.proofs.network_end.with_hit.Tie as tie
 
 returns : tie.Need-returns
 unfolding withHit

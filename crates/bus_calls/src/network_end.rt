@@ -1,0 +1,79 @@
+// An event of unit 0, where the call has looked at it (event): no other crate gives one.
+ghost use mathlib.Core.Path.{_≡_};
+ghost use Rattle.bus_event.specs.Event as spec;
+use bus_event::event::AR;
+use bus_event::event::HIT;
+use bus_event::event::Told;
+use bus_event::event::replied;
+use bus_record::record::BusRecord;
+use bus_record::side::reader_after;
+use cells::cell::NO_NOTES;
+use table_6_3::G3;
+
+// The letters of a hit are taken over, where they are as many as the letters lent.
+fn take_over(value: &[u8], letters: &mut [u8])
+    ensures { λ _. ⌜ now (letters .exit) ≡ spec.takenOver (now (value .entry)) (now (letters .entry)) ⌝ }
+{
+    if value.len() == letters.len() {
+        let mut i: usize = 0;
+        while i < letters.len() {
+            letters[i] = value[i];
+            i += 1;
+        }
+    }
+}
+
+// The record with a hit pending.
+fn with_hit(bus: BusRecord) -> BusRecord
+    ensures { λ r. ⌜ r ≡ spec.withHit bus ⌝ }
+{
+    let network = bus.network;
+    let periods = bus.periods;
+    let opportunities = bus.opportunities;
+    let reader = bus.reader;
+    BusRecord {
+        network,
+        periods,
+        opportunities,
+        reader,
+        heard: bus.heard,
+        hit: true,
+    }
+}
+
+// A request to the network end: `ar`, and every other number as `dr`: the event has been looked at.
+fn request(bus: BusRecord, event: u8) -> Told
+    ensures { λ r. ⌜ r ≡ spec.networkAsked event bus ⌝ }
+{
+    let number = if event == AR {
+        table_6_3::AR
+    } else {
+        table_6_3::DR
+    };
+    let step = bus.network.request(number, bus.periods);
+    let network = step.network;
+    let notes = step.notes;
+    let periods = bus.periods;
+    let opportunities = bus.opportunities;
+    let left = (bus.network.state == G3) & (network.state != G3);
+    let after = BusRecord {
+        network,
+        periods,
+        opportunities,
+        reader: reader_after(left, bus.reader),
+        heard: bus.heard,
+        hit: bus.hit,
+    };
+    replied(after, notes, step.reply)
+}
+
+// An event of unit 0.
+pub(crate) fn network_event(bus: BusRecord, letters: &mut [u8], event: u8, value: &[u8]) -> Told
+    ensures { λ r. ⌜ (r ≡ spec.networkTold event bus) × (now (letters .exit) ≡ spec.lettersAfter event (now (value .entry)) (now (letters .entry))) ⌝ }
+{
+    if event == HIT {
+        take_over(value, letters);
+        return replied(with_hit(bus), NO_NOTES, 0);
+    }
+    request(bus, event)
+}
