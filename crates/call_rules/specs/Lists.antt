@@ -2,7 +2,7 @@
 -- calls (specs/Calls.antt there), so that demand 3 (specs/Claims.antt there) speaks of these calls: Demand3.antt.
 use mathlib.Core.Bool.{Bool, true, false, cond, _&&_}
 use mathlib.Core.List.{List, [], _∷_, _++_, map}
-use mathlib.Core.Path.{_≡_}
+use mathlib.Core.Path.{_≡_, refl}
 use Prim.Native.Nat.{ℕ, zero, suc, _+_, _-_, _≤_, _<_, min}
 use lib.Dec.{eqb, ltb}
 use lib.ListN.{length, getD, take, replicate}
@@ -205,6 +205,19 @@ ToldNotes =
     (images octets letters : List ℕ) (calls : List LentCall)
     → length images ≡ imagesRoom → longestBody ≤ length octets → areLetters letters ≡ true → AllMayBe calls
     → allTold (freshFound images octets letters) calls ≡ allNotes freshBus (made calls)
+
+-- ---- Computed: a period that is lent seven places for notes, or nine, is refused, and so is one that is lent nothing.
+pub seven-places : replyTo freshBus (runs (replicate 7 noNotes)) ≡ 2
+unfolding isLent
+seven-places = refl
+
+pub nine-places : replyTo freshBus (runs (replicate 9 noNotes)) ≡ 2
+unfolding isLent
+nine-places = refl
+
+pub nothing-lent : (wouldFit period [] [] [] [] ≡ false) × (replyTo freshBus (amiss period [] [] [] []) ≡ 2)
+unfolding isLent wouldFit lentFits
+nothing-lent = (refl, refl)
 
 -- ---- Calls that are all lent what they must be: a period eight places that hold no notes.
 unfoldable pub lend : Call → LentCall
