@@ -14,7 +14,7 @@ use Rattle.text.proofs.Pieces.{upto-le, split-upto, split-some, same-length}
 use Rattle.book_line.specs.Line.{longestLine, formed, judged, inOrder, isEnd, periodOf, unitOf, eventOf, valueOf}
 use Rattle.book_reader.specs.Book.{firstLine, nothing, closing, lines, answersFrom}
 use Rattle.book_reader.specs.Book.Answer.{entry, fault}
-use Rattle.book_reader.specs.Step.{BEFORE-FIRST-LINE, AT-LINES, headStep, ruled, unended, window, lineStep, tailStep, stepOf, stepAt}
+use Rattle.book_reader.specs.Step.{BEFORE-FIRST-LINE, AT-LINES, headStep, ruled, unended, window, lineStep, tailStep, stepOf, stepAt, takenBy}
 use Rattle.book_reader.specs.Parts.{Place, begun, past, toCome}
 use Rattle.book_reader.specs.Laws.{Law}
 use Rattle.book_reader.specs.declared.step.Step.{Step}
@@ -122,34 +122,33 @@ module _ (p : Place) (text : List ℕ) (at : ℕ) (whole : Bool) (later : List �
 
   -- ---- the book's first line
   module _ (s : eqb (p .stage) BEFORE-FIRST-LINE ≡ true) where
-    head-few : length t < length firstLine → Law p text at whole later (headStep t at whole)
+    head-few : length t < length firstLine → Law p text at whole later (headStep t whole)
     unfolding headStep answersFrom
     head-few h =
         let l : ltb (length t) (length firstLine) ≡ true = lt-ltb (length t) (length firstLine) h in
         let n : answersFrom (p .last) t ≡ fault 11 ∷ [] = rw
         (same-length (take (length firstLine) t) firstLine (λ e. omega (arith, length-take (length firstLine) t))) in
         by-test whole
-        (λ w. law-at (headStep t at whole) (Fault 11) (rw (l, w)) (come-head p (t ++ later) s ∙ (ap (answersFrom (p .last)) (all-at-hand w) ∙ n)))
-        (λ w. law-at (headStep t at whole) More (rw (l, w)) (record { cut = w; few = omega arith }))
+        (λ w. law-at (headStep t whole) (Fault 11) (rw (l, w)) (come-head p (t ++ later) s ∙ (ap (answersFrom (p .last)) (all-at-hand w) ∙ n)))
+        (λ w. law-at (headStep t whole) More (rw (l, w)) (record { cut = w; few = omega arith }))
 
-    head-long : length firstLine ≤ length t → Law p text at whole later (headStep t at whole)
+    head-long : length firstLine ≤ length t → Law p text at whole later (headStep t whole)
     unfolding headStep answersFrom
     head-long h =
         let l : ltb (length t) (length firstLine) ≡ false = le-ltb (length t) (length firstLine) h in
         let k : take (length firstLine) (t ++ later) ≡ take (length firstLine) t = take-append-le (length firstLine) t later h in
         by-test (same (take (length firstLine) t) firstLine)
-        (λ e. law-at (headStep t at whole) (Begun (at + length firstLine)) (rw (l, e))
+        (λ e. law-at (headStep t whole) Begun (rw (l, e))
         (record {
-          is = refl;
           within = omega (arith, length-drop at text);
           said =
               come-head p (t ++ later) s
               ∙ (rw (k, e, drop-append-le (length firstLine) t later h, drop-drop (length firstLine) at text)
               (sym (come-lines (begun p) (drop (at + length firstLine) text ++ later) refl refl)));
         }))
-        (λ e. law-at (headStep t at whole) (Fault 11) (rw (l, e)) (come-head p (t ++ later) s ∙ rw (k, e)))
+        (λ e. law-at (headStep t whole) (Fault 11) (rw (l, e)) (come-head p (t ++ later) s ∙ rw (k, e)))
 
-    head-law : Law p text at whole later (headStep t at whole)
+    head-law : Law p text at whole later (headStep t whole)
     head-law =
         by-test (ltb (length t) (length firstLine))
         (λ h. head-few (ltb-true (length t) (length firstLine) h))
@@ -199,21 +198,21 @@ module _ (p : Place) (text : List ℕ) (at : ℕ) (whole : Bool) (later : List �
       first-line =
           come-lines p (t ++ later) s r ∙ (ap (lines (p .last)) split-found ∙ lines-go (p .last) line (split LF after) (split-some LF after))
 
-      found-law : Law p text at whole later (ruled (p .last) (at + k) (judged line))
+      found-law : Law p text at whole later (ruled (p .last) (k + 1) (judged line))
       unfolding ruled judged
       found-law =
           by-test (formed line)
           (λ e. by-test (inOrder (p .last) (periodOf line))
-          (λ f. law-at (ruled (p .last) (at + k) (judged line)) (Entry (periodOf line) (unitOf line) (eventOf line) (at + k)) (rw (e, f))
-          (let a : at + k - at ≡ k = omega arith in let b : at + k + 1 ≡ at + suc k = omega arith in
+          (λ f. law-at (ruled (p .last) (k + 1) (judged line)) (Entry (periodOf line) (unitOf line) (eventOf line) (k + 1)) (rw (e, f))
+          (let a : k + 1 - 1 ≡ k = omega arith in let b : at + (k + 1) ≡ at + suc k = omega arith in
           record {
             within = omega (arith, length-drop at text);
-            beyond = omega arith;
+            lf = omega arith;
             few = omega arith;
             said = rw (a, b) (first-line ∙ rw (e, f, come-past (periodOf line) (unitOf line) (eventOf line) after));
           }))
-          (λ f. law-at (ruled (p .last) (at + k) (judged line)) (Fault 13) (rw (e, f)) (first-line ∙ rw (e, f))))
-          (λ e. law-at (ruled (p .last) (at + k) (judged line)) (Fault 12) (rw e) (first-line ∙ rw e))
+          (λ f. law-at (ruled (p .last) (k + 1) (judged line)) (Fault 13) (rw (e, f)) (first-line ∙ rw (e, f))))
+          (λ e. law-at (ruled (p .last) (k + 1) (judged line)) (Fault 12) (rw e) (first-line ∙ rw e))
 
     -- without
     module _ (n : length (window t) ≤ upto LF (window t)) where
@@ -237,27 +236,39 @@ module _ (p : Place) (text : List ℕ) (at : ℕ) (whole : Bool) (later : List �
           (λ w. law-at (unended (length t) whole) More (rw (h, w)) (record { cut = w; few = few })))
           (λ h. law-at (unended (length t) whole) (Fault 12) (rw h) (none-long (ltb-false (length t) longestLine h)))
 
-    line-law : Law p text at whole later (lineStep t at (p .last) whole)
+    line-law : Law p text at whole later (lineStep t (p .last) whole)
     unfolding lineStep
     line-law =
         by-test (ltb (upto LF (window t)) (length (window t)))
         (λ h. let l : upto LF (window t) < length (window t) = ltb-true (upto LF (window t)) (length (window t)) h in
-        law-at (lineStep t at (p .last) whole) (ruled (p .last) (at + upto LF (window t)) (judged (take (upto LF (window t)) t))) (rw h)
+        law-at (lineStep t (p .last) whole) (ruled (p .last) (upto LF (window t) + 1) (judged (take (upto LF (window t)) t))) (rw h)
         (found-law (upto LF (window t)) (found-later LF longestLine t later l) (omega (arith, length-take longestLine t))
         (omega (arith, length-take longestLine t))))
         (λ h. let l : length (window t) ≤ upto LF (window t) = ltb-false (upto LF (window t)) (length (window t)) h in
-        law-at (lineStep t at (p .last) whole) (unended (length t) whole) (rw h) (none-law l))
+        law-at (lineStep t (p .last) whole) (unended (length t) whole) (rw h) (none-law l))
 
   -- ---- any call
   step-law : Law p text at whole later (stepAt text at (p .stage) (p .last) whole)
   unfolding stepOf
   step-law =
       by-test (eqb (p .stage) BEFORE-FIRST-LINE)
-      (λ s. law-at (stepAt text at (p .stage) (p .last) whole) (headStep t at whole) (rw s) (head-law s))
+      (λ s. law-at (stepAt text at (p .stage) (p .last) whole) (headStep t whole) (rw s) (head-law s))
       (λ s. by-test (eqb (p .stage) AT-LINES)
-      (λ r. law-at (stepAt text at (p .stage) (p .last) whole) (lineStep t at (p .last) whole) (rw (s, r)) (line-law s r))
+      (λ r. law-at (stepAt text at (p .stage) (p .last) whole) (lineStep t (p .last) whole) (rw (s, r)) (line-law s r))
       (λ r. law-at (stepAt text at (p .stage) (p .last) whole) (tailStep (length t) whole) (rw (s, r)) (tail-law s r)))
 
   -- at the answer that it gave
   pub call-law : (a : Step) → stepAt text at (p .stage) (p .last) whole ≡ a → Law p text at whole later a
   call-law a e = subst (Law p text at whole later) e step-law
+
+  -- what it takes lies in the text
+  within-of : (a : Step) → Law p text at whole later a → at ≤ length text → at + takenBy a ≤ length text
+  unfolding takenBy
+  within-of Begun law h = law .within
+  within-of (Entry period unit event octets) law h = law .within
+  within-of Done law h = omega arith
+  within-of (Fault n) law h = omega arith
+  within-of More law h = omega arith
+
+  pub taken-within : at ≤ length text → at + takenBy (stepAt text at (p .stage) (p .last) whole) ≤ length text
+  taken-within h = within-of (stepAt text at (p .stage) (p .last) whole) step-law h

@@ -7,7 +7,7 @@ use native.Mathlib.Omega.{arith}
 use lib.ListN.{length, drop, length-drop, length-append}
 use Rattle.cases.proofs.ByCases.{clash}
 use Rattle.book_line.specs.Line.{valueOf}
-use Rattle.book_reader.specs.Book.{Answer, answers}
+use Rattle.book_reader.specs.Book.{Answer, firstLine, answers}
 use Rattle.book_reader.specs.Book.Answer.{entry, fault}
 use Rattle.book_reader.specs.Step.{stepAt, lineAt}
 use Rattle.book_reader.specs.Parts.{Place, start, begun, past, toCome, joined, Handed}
@@ -30,11 +30,11 @@ said p text at whole parts fit = call-law p text at whole (joined parts) (λ w. 
 handed-right : {p : Place} {text : List ℕ} {at : ℕ} {whole : Bool} {parts : List (List ℕ)} {got : List Answer} → Handed p text at whole parts got
     → (whole ≡ true → parts ≡ []) → toCome p (drop at text ++ joined parts) ≡ got
 unfolding joined
-handed-right (first {p = p} {text = text} {at = at} {whole = whole} {parts = parts} next e h) fit =
-    said p text at whole parts fit (Begun next) e .said ∙ handed-right h fit
-handed-right (line {p = p} {text = text} {at = at} {whole = whole} {parts = parts} period unit event end e h) fit =
-    said p text at whole parts fit (Entry period unit event end) e .said
-    ∙ ap (λ (l : List Answer). entry period unit event (valueOf (lineAt text at end)) ∷ l) (handed-right h fit)
+handed-right (first {p = p} {text = text} {at = at} {whole = whole} {parts = parts} e h) fit =
+    said p text at whole parts fit Begun e .said ∙ handed-right h fit
+handed-right (line {p = p} {text = text} {at = at} {whole = whole} {parts = parts} period unit event octets e h) fit =
+    said p text at whole parts fit (Entry period unit event octets) e .said
+    ∙ ap (λ (l : List Answer). entry period unit event (valueOf (lineAt text at octets)) ∷ l) (handed-right h fit)
 handed-right (stops {p = p} {text = text} {at = at} {whole = whole} {parts = parts} n e) fit = said p text at whole parts fit (Fault n) e
 handed-right (ends {p = p} {text = text} {at = at} {whole = whole} {parts = parts} e) fit = said p text at whole parts fit Done e
 handed-right (more {p = p} {text = text} {at = at} {part = part} {parts = parts} text′ at′ e m h) fit =
@@ -72,18 +72,20 @@ module _ (fuel : ℕ) (rec : (p : Place) (text : List ℕ) (at : ℕ) (whole : B
   on-step : (p : Place) (text : List ℕ) (at : ℕ) (whole : Bool) (parts : List (List ℕ)) → (whole ≡ true → parts ≡ [])
       → toGo text at whole parts < suc fuel → (a : Step) → stepAt text at (p .stage) (p .last) whole ≡ a → Got p text at whole parts
   unfolding toGo
-  on-step p text at whole parts fit h (Begun next) e =
-      let f = said p text at whole parts fit (Begun next) e in
-      let g = rec (begun p) text next whole parts fit (omega (arith, f .is, f .within, length-drop at text, length-drop next text)) in
-      record { taken = g .taken; handed = first next e (g .handed) }
-  on-step p text at whole parts fit h (Entry period unit event end) e =
-      let k = said p text at whole parts fit (Entry period unit event end) e in
+  on-step p text at whole parts fit h Begun e =
+      let f = said p text at whole parts fit Begun e in
       let g =
-      rec (past period unit event) text (end + 1) whole parts fit
-      (omega (arith, k .within, k .beyond, length-drop at text, length-drop (end + 1) text)) in
+      rec (begun p) text (at + length firstLine) whole parts fit
+      (omega (arith, f .within, length-drop at text, length-drop (at + length firstLine) text)) in
+      record { taken = g .taken; handed = first e (g .handed) }
+  on-step p text at whole parts fit h (Entry period unit event octets) e =
+      let k = said p text at whole parts fit (Entry period unit event octets) e in
+      let g =
+      rec (past period unit event) text (at + octets) whole parts fit
+      (omega (arith, k .within, k .lf, length-drop at text, length-drop (at + octets) text)) in
       record {
-        taken = entry period unit event (valueOf (lineAt text at end)) ∷ g .taken;
-        handed = line {got = g .taken} period unit event end e (g .handed);
+        taken = entry period unit event (valueOf (lineAt text at octets)) ∷ g .taken;
+        handed = line {got = g .taken} period unit event octets e (g .handed);
       }
   on-step p text at whole parts fit h Done e = record { taken = []; handed = ends e }
   on-step p text at whole parts fit h (Fault n) e = record { taken = fault n ∷ []; handed = stops n e }

@@ -5,10 +5,12 @@ use Prim.Native.Nat.{ℕ, zero, suc, _+_, _-_, _≤_, _<_, min}
 use native.Mathlib.Nat.{zero-add}
 use native.Mathlib.Numerals.{add-one}
 use native.Mathlib.Omega.{arith}
-use lib.ListN.{length, getD, set, take, drop, length-drop, length-take, length-append}
-use lib.Seq.{getD-drop, take-nil, paste, paste-suc, drop-paste, length-paste, take-append-seam, drop-append-seam, length-take-le}
+use lib.Dec.{ltb}
+use lib.ListN.{length, getD, set, take, drop, length-drop, length-take, length-append, drop-of-length-le}
+use lib.Seq.{getD-drop, take-all, take-nil, paste, paste-suc, drop-paste, length-paste, take-append-seam, drop-append-seam, length-take-le}
+use borrow.Author.Tests.{ltb-true, ltb-false}
+use Rattle.cases.proofs.ByCases.{by-test}
 use Rattle.book_reader.specs.Rest.{restOf, kept}
-use Rattle.book_reader.proofs.Returns.{line-at}
 
 -- i octets from start on have been moved
 abbrev pub fronted : ℕ → ℕ → List ℕ → List ℕ
@@ -49,10 +51,25 @@ rest-is (suc f) zero l = let z : 0 - suc f ≡ 0 = omega arith in rw z
 rest-is (suc f) (suc e) [] = take-nil (suc e - suc f)
 rest-is (suc f) (suc e) (x ∷ l) = let z : suc e - suc f ≡ e - f = omega arith in rw z (rest-is f e l)
 
+-- an end past the text's end, or before its start, changes nothing
+clipped : (text : List ℕ) (at end from to : ℕ) → to ≡ min end (length text) → from ≡ min at to
+    → take (to - from) (drop from text) ≡ take (end - at) (drop at text)
+clipped text at end from to t f =
+    by-test (ltb at (length text))
+    (λ h. let i : at < length text = ltb-true at (length text) h in by-test (ltb end (length text))
+    (λ k. let j : end < length text = ltb-true end (length text) k in by-test (ltb end at)
+    (λ b. let z : to - from ≡ 0 = omega (arith, ltb-true end at b) in let y : end - at ≡ 0 = omega (arith, ltb-true end at b) in rw (z, y))
+    (λ b. let z : to ≡ end = omega arith in let y : from ≡ at = omega (arith, ltb-false end at b) in rw (z, y)))
+    (λ k. let j : length text ≤ end = ltb-false end (length text) k in let y : from ≡ at = omega arith in
+    rw y (take-all (to - at) (drop at text) (omega (arith, length-drop at text)) ∙ sym
+    (take-all (end - at) (drop at text) (omega (arith, length-drop at text))))))
+    (λ h. let i : length text ≤ at = ltb-false at (length text) h in let z : to - from ≡ 0 = omega arith in
+    rw (z, drop-of-length-le text {i = at} i) (sym (take-nil (end - at))))
+
 -- the positions as far as they are there
 module _ (buf : List ℕ) (from end to start : ℕ) (t : to ≡ min end (length buf)) (s : start ≡ min from to) where
   moved-is : take (to - start) (drop start buf) ≡ restOf from end buf
-  moved-is = line-at buf from end start to t s ∙ rest-is from end buf
+  moved-is = clipped buf from end start to t s ∙ rest-is from end buf
 
   pub moved-count : to - start ≡ length (restOf from end buf)
   moved-count = sym (length-take-le (to - start) (drop start buf) (omega (arith, length-drop start buf))) ∙ ap length moved-is

@@ -6,7 +6,7 @@ use Prim.Native.Nat.{ℕ, _+_, _-_, _≤_, _<_, min}
 use native.Mathlib.Omega.{arith}
 use lib.Dec.{ltb}
 use lib.ListN.{length, take, drop, length-take, length-drop, drop-of-length-le}
-use lib.Seq.{take-all, take-nil}
+use lib.Seq.{take-all}
 use borrow.Author.Tests.{eq-eqb, ne-eqb, lt-ltb, le-ltb, ltb-true, ltb-false}
 use Rattle.cases.proofs.ByCases.{by-test}
 use Rattle.text.specs.Text.{LF, upto}
@@ -30,25 +30,25 @@ module _ (last end : ℕ) where
   ruled-entry p u e j q f = let z : Step.Entry p u e end ≡ ruled last end (Judged.Entry p u e) = rw f in z ∙ ap (ruled last end) q
 
 -- ---- the search for a line's LF
-looked-at : (t : List ℕ) (n : ℕ) → n ≡ min longestLine (length t) → take n t ≡ window t
-looked-at t n e =
-    by-test (ltb (length t) longestLine)
-    (λ h. take-all n t (omega (arith, ltb-true (length t) longestLine h)) ∙ sym
-    (take-all longestLine t (omega (arith, ltb-true (length t) longestLine h))))
-    (λ h. let z : n ≡ longestLine = omega (arith, ltb-false (length t) longestLine h) in rw z)
+-- no more than are there
+take-least : (t : List ℕ) (most n : ℕ) → n ≡ min most (length t) → take n t ≡ take most t
+take-least t most n e =
+    by-test (ltb (length t) most)
+    (λ h. take-all n t (omega (arith, ltb-true (length t) most h)) ∙ sym (take-all most t (omega (arith, ltb-true (length t) most h))))
+    (λ h. let z : n ≡ most = omega (arith, ltb-false (length t) most h) in rw z)
 
-module _ (t : List ℕ) (at last : ℕ) (whole : Bool) (n end : ℕ) (most : n ≡ min longestLine (length t)) (ends : end ≡ 0 + upto LF (take n t)) where
+module _ (t : List ℕ) (last : ℕ) (whole : Bool) (n end : ℕ) (most : n ≡ min longestLine (length t)) (ends : end ≡ 0 + upto LF (take n t)) where
   here : end ≡ upto LF (window t)
-  here = let w : 0 + upto LF (take n t) ≡ upto LF (take n t) = omega arith in ends ∙ (w ∙ ap (upto LF) (looked-at t n most))
+  here = let w : 0 + upto LF (take n t) ≡ upto LF (take n t) = omega arith in ends ∙ (w ∙ ap (upto LF) (take-least t longestLine n most))
 
-  pub step-line : end < n → ruled last (at + end) (judged (take end t)) ≡ lineStep t at last whole
+  pub step-line : end < n → ruled last (end + 1) (judged (take end t)) ≡ lineStep t last whole
   unfolding lineStep
   step-line h =
       let l : ltb (upto LF (window t)) (length (window t)) ≡ true = lt-ltb (upto LF (window t)) (length (window t))
       (omega (arith, here, length-take longestLine t)) in
       rw l (rw (sym here))
 
-  pub step-unended : n ≤ end → unended (length t) whole ≡ lineStep t at last whole
+  pub step-unended : n ≤ end → unended (length t) whole ≡ lineStep t last whole
   unfolding lineStep
   step-unended h =
       let l : ltb (upto LF (window t)) (length (window t)) ≡ false = le-ltb (upto LF (window t)) (length (window t))
@@ -64,52 +64,35 @@ module _ (text : List ℕ) (at from : ℕ) (least : from ≡ min at (length text
       (λ h. drop-of-length-le text {i = from} (omega (arith, ltb-false at (length text) h)) ∙ sym
       (drop-of-length-le text {i = at} (ltb-false at (length text) h)))
 
-  from-head : (whole : Bool) → headStep (drop from text) from whole ≡ headStep (drop at text) at whole
-  unfolding headStep
-  from-head whole =
-      by-test (ltb at (length text))
-      (λ h. let z : from ≡ at = omega (arith, ltb-true at (length text) h) in rw z)
-      (λ h. rw (from-drop, drop-of-length-le text {i = at} (ltb-false at (length text) h)))
-
-  from-line : (last : ℕ) (whole : Bool) → lineStep (drop from text) from last whole ≡ lineStep (drop at text) at last whole
-  unfolding lineStep upto
-  from-line last whole =
-      by-test (ltb at (length text))
-      (λ h. let z : from ≡ at = omega (arith, ltb-true at (length text) h) in rw z)
-      (λ h. rw (from-drop, drop-of-length-le text {i = at} (ltb-false at (length text) h)))
-
-  rest-whole : take (length text - from) (drop from text) ≡ drop from text
-  rest-whole = take-all (length text - from) (drop from text) (omega (arith, length-drop from text))
+  rest-whole : take (length text - from) (drop from text) ≡ drop at text
+  rest-whole = take-all (length text - from) (drop from text) (omega (arith, length-drop from text)) ∙ from-drop
 
   pub at-head : (stage last : ℕ) (whole : Bool) → stage ≡ BEFORE-FIRST-LINE
-      → headStep (take (length text - from) (drop from text)) from whole ≡ stepAt text at stage last whole
+      → headStep (take (length text - from) (drop from text)) whole ≡ stepAt text at stage last whole
   unfolding stepOf
-  at-head stage last whole e = ap (λ (t : List ℕ). headStep t from whole) rest-whole ∙ (from-head whole ∙ rw (eq-eqb stage BEFORE-FIRST-LINE e))
+  at-head stage last whole e = ap (λ (t : List ℕ). headStep t whole) rest-whole ∙ rw (eq-eqb stage BEFORE-FIRST-LINE e)
 
   pub at-line : (stage last : ℕ) (whole : Bool) → (stage ≡ BEFORE-FIRST-LINE → ⊥) → stage ≡ AT-LINES
-      → lineStep (take (length text - from) (drop from text)) from last whole ≡ stepAt text at stage last whole
+      → lineStep (take (length text - from) (drop from text)) last whole ≡ stepAt text at stage last whole
   unfolding stepOf
   at-line stage last whole n e =
-      ap (λ (t : List ℕ). lineStep t from last whole) rest-whole ∙
-      (from-line last whole ∙ rw (ne-eqb stage BEFORE-FIRST-LINE n, eq-eqb stage AT-LINES e))
+      ap (λ (t : List ℕ). lineStep t last whole) rest-whole ∙ rw (ne-eqb stage BEFORE-FIRST-LINE n, eq-eqb stage AT-LINES e)
 
   pub at-tail : (stage last : ℕ) (whole : Bool) → (stage ≡ BEFORE-FIRST-LINE → ⊥) → (stage ≡ AT-LINES → ⊥)
       → tailStep (length (take (length text - from) (drop from text))) whole ≡ stepAt text at stage last whole
   unfolding stepOf
   at-tail stage last whole n m =
-      ap (λ (t : List ℕ). tailStep (length t) whole) (rest-whole ∙ from-drop) ∙ rw (ne-eqb stage BEFORE-FIRST-LINE n, ne-eqb stage AT-LINES m)
+      ap (λ (t : List ℕ). tailStep (length t) whole) rest-whole ∙ rw (ne-eqb stage BEFORE-FIRST-LINE n, ne-eqb stage AT-LINES m)
 
--- ---- an end past the text's end, or before its start, changes nothing
-pub line-at : (text : List ℕ) (at end from to : ℕ) → to ≡ min end (length text) → from ≡ min at to
-    → take (to - from) (drop from text) ≡ lineAt text at end
-line-at text at end from to t f =
-    by-test (ltb at (length text))
-    (λ h. let i : at < length text = ltb-true at (length text) h in by-test (ltb end (length text))
-    (λ k. let j : end < length text = ltb-true end (length text) k in by-test (ltb end at)
-    (λ b. let z : to - from ≡ 0 = omega (arith, ltb-true end at b) in let y : end - at ≡ 0 = omega (arith, ltb-true end at b) in rw (z, y))
-    (λ b. let z : to ≡ end = omega arith in let y : from ≡ at = omega (arith, ltb-false end at b) in rw (z, y)))
-    (λ k. let j : length text ≤ end = ltb-false end (length text) k in let y : from ≡ at = omega arith in
-    rw y (take-all (to - at) (drop at text) (omega (arith, length-drop at text)) ∙ sym
-    (take-all (end - at) (drop at text) (omega (arith, length-drop at text))))))
-    (λ h. let i : length text ≤ at = ltb-false at (length text) h in let z : to - from ≡ 0 = omega arith in
-    rw (z, drop-of-length-le text {i = at} i) (sym (take-nil (end - at))))
+  -- the line of so many octets, its LF left off, as far as the text goes
+  pub line-at : (octets n to : ℕ) → n ≡ octets - min octets 1 → to ≡ from + min n (length text - from)
+      → take (to - from) (drop from text) ≡ lineAt text at octets
+  line-at octets n to e f =
+      take-least (drop from text) n (to - from) (back from (min n (length text - from)) to f ∙ ap (min n) (sym (length-drop from text)))
+      ∙ (ap (λ (m : ℕ). take m (drop from text)) (less octets n e) ∙ ap (take (octets - 1)) from-drop)
+    where
+      back : (a b c : ℕ) → c ≡ a + b → c - a ≡ b
+      back a b c h = omega arith
+
+      less : (a b : ℕ) → b ≡ a - min a 1 → b ≡ a - 1
+      less a b h = omega arith

@@ -24,15 +24,15 @@ use Rattle.book_reader.proofs.Cut.{call-law}
 
 -- ---- what is no entry
 isEntry : Step → Bool
-isEntry (Begun next) = false
-isEntry (Entry p u e end) = true
+isEntry Begun = false
+isEntry (Entry p u e octets) = true
 isEntry Done = false
 isEntry (Fault n) = false
 isEntry More = false
 
-head-none : (t : List ℕ) (at : ℕ) (whole : Bool) → isEntry (headStep t at whole) ≡ false
+head-none : (t : List ℕ) (whole : Bool) → isEntry (headStep t whole) ≡ false
 unfolding isEntry headStep
-head-none t at whole =
+head-none t whole =
     by-test (ltb (length t) (length firstLine))
     (λ h. by-test whole (λ w. rw (h, w)) (λ w. rw (h, w)))
     (λ h. by-test (same (take (length firstLine) t) firstLine) (λ e. rw (h, e)) (λ e. rw (h, e)))
@@ -45,19 +45,19 @@ tail-none : (n : ℕ) (whole : Bool) → isEntry (tailStep n whole) ≡ false
 unfolding isEntry tailStep
 tail-none n whole = by-test (eqb n 0) (λ h. by-test whole (λ w. rw (h, w)) (λ w. rw (h, w))) (λ h. rw h)
 
-module _ (period unit event end : ℕ) where
-  no-entry {ℓ} : {X : Type ℓ} (a : Step) → isEntry a ≡ false → a ≡ Entry period unit event end → X
+module _ (period unit event octets : ℕ) where
+  no-entry {ℓ} : {X : Type ℓ} (a : Step) → isEntry a ≡ false → a ≡ Entry period unit event octets → X
   unfolding isEntry
   no-entry a n e = clash (isEntry a) (ap isEntry e) n
 
   -- ---- a line that is an entry
-  module _ (last at : ℕ) (line : List ℕ) where
+  module _ (last n : ℕ) (line : List ℕ) where
     record Ruled : Type 0 where
       form : formed line ≡ true
       order : inOrder last (periodOf line) ≡ true
-      is : Entry (periodOf line) (unitOf line) (eventOf line) at ≡ Entry period unit event end
+      is : Entry (periodOf line) (unitOf line) (eventOf line) n ≡ Entry period unit event octets
 
-    ruled-is : ruled last at (judged line) ≡ Entry period unit event end → Ruled
+    ruled-is : ruled last n (judged line) ≡ Entry period unit event octets → Ruled
     unfolding isEntry ruled judged
     ruled-is e =
         by-test (formed line)
@@ -66,7 +66,7 @@ module _ (period unit event end : ℕ) where
         (λ o. no-entry (Fault 13) refl (rw (f, o) at e)))
         (λ f. no-entry (Fault 12) refl (rw f at e))
 
-module _ (text : List ℕ) (at stage last : ℕ) (whole : Bool) (period unit event end : ℕ) where
+module _ (text : List ℕ) (at stage last : ℕ) (whole : Bool) (period unit event octets : ℕ) where
   abbrev t : List ℕ
   t = drop at text
 
@@ -76,26 +76,26 @@ module _ (text : List ℕ) (at stage last : ℕ) (whole : Bool) (period unit eve
   record Found : Type 0 where
     lines : eqb stage AT-LINES ≡ true
     found : ltb k (length (window t)) ≡ true
-    ruled-so : Ruled period unit event end last (at + k) (take k t)
+    ruled-so : Ruled period unit event octets last (k + 1) (take k t)
 
-  found : stepAt text at stage last whole ≡ Entry period unit event end → Found
+  found : stepAt text at stage last whole ≡ Entry period unit event octets → Found
   unfolding stepOf lineStep
   found e =
       by-test (eqb stage BEFORE-FIRST-LINE)
-      (λ s. no-entry period unit event end (headStep t at whole) (head-none t at whole) (rw s at e))
+      (λ s. no-entry period unit event octets (headStep t whole) (head-none t whole) (rw s at e))
       (λ s. by-test (eqb stage AT-LINES)
       (λ r. by-test (ltb k (length (window t)))
-      (λ f. record { lines = r; found = f; ruled-so = ruled-is period unit event end last (at + k) (take k t) (rw (s, r, f) at e) })
-      (λ f. no-entry period unit event end (unended (length t) whole) (unended-none (length t) whole) (rw (s, r, f) at e)))
-      (λ r. no-entry period unit event end (tailStep (length t) whole) (tail-none (length t) whole) (rw (s, r) at e)))
+      (λ f. record { lines = r; found = f; ruled-so = ruled-is period unit event octets last (k + 1) (take k t) (rw (s, r, f) at e) })
+      (λ f. no-entry period unit event octets (unended (length t) whole) (unended-none (length t) whole) (rw (s, r, f) at e)))
+      (λ r. no-entry period unit event octets (tailStep (length t) whole) (tail-none (length t) whole) (rw (s, r) at e)))
 
   -- ---- what is known of an entry
-  pub entered : stepAt text at stage last whole ≡ Entry period unit event end → Entered text at stage last period unit event end
+  pub entered : stepAt text at stage last whole ≡ Entry period unit event octets → Entered text at stage last period unit event octets
   unfolding inOrder
   entered e =
       let f = found e in let r = f .ruled-so in
-      let z : at + k ≡ end = cc in
-      let d : end - at ≡ k = omega arith in
+      let z : k + 1 ≡ octets = cc in
+      let d : octets - 1 ≡ k = omega arith in
       let q : period ≡ periodOf (take k t) = cc in
       let q′ : event ≡ eventOf (take k t) = cc in
       let l : k < length (window t) = ltb-true k (length (window t)) (f .found) in
@@ -103,7 +103,7 @@ module _ (text : List ℕ) (at stage last : ℕ) (whole : Bool) (period unit eve
       record {
         lines = eqb-true stage AT-LINES (f .lines);
         within = omega (arith, length-take longestLine t, length-drop at text);
-        beyond = omega arith;
+        lf = omega arith;
         few = omega (arith, length-take longestLine t);
         form = rw d (r .form);
         period-is = rw d (cc);
@@ -115,8 +115,8 @@ module _ (text : List ℕ) (at stage last : ℕ) (whole : Bool) (period unit eve
       }
 
   -- ---- any number up to the line's period in place of last
-  pub run-on-step : (m : ℕ) → m ≤ period → stepAt text at stage last whole ≡ Entry period unit event end
-      → stepAt text at stage m whole ≡ Entry period unit event end
+  pub run-on-step : (m : ℕ) → m ≤ period → stepAt text at stage last whole ≡ Entry period unit event octets
+      → stepAt text at stage m whole ≡ Entry period unit event octets
   unfolding stepOf lineStep ruled judged inOrder
   run-on-step m h e =
       let f = found e in let r = f .ruled-so in
@@ -133,9 +133,9 @@ module _ (text : List ℕ) (at stage last : ℕ) (whole : Bool) (period unit eve
       ) (r .is)
 
   -- what is then still to come is the same, whatever octets come later
-  pub run-on : (m : ℕ) → m ≤ period → stepAt text at stage last whole ≡ Entry period unit event end
+  pub run-on : (m : ℕ) → m ≤ period → stepAt text at stage last whole ≡ Entry period unit event octets
       → (later : List ℕ) → (whole ≡ true → later ≡ [])
       → toCome (record { stage = stage; last = m }) (drop at text ++ later) ≡ toCome (record { stage = stage; last = last }) (drop at text ++ later)
   run-on m h e later fit =
-      call-law (record { stage = stage; last = m }) text at whole later fit (Entry period unit event end) (run-on-step m h e) .said
-      ∙ sym (call-law (record { stage = stage; last = last }) text at whole later fit (Entry period unit event end) e .said)
+      call-law (record { stage = stage; last = m }) text at whole later fit (Entry period unit event octets) (run-on-step m h e) .said
+      ∙ sym (call-law (record { stage = stage; last = last }) text at whole later fit (Entry period unit event octets) e .said)

@@ -4,10 +4,10 @@ use mathlib.Core.Bool.{Bool, true, false, cond}
 use mathlib.Core.List.{List, [], _∷_, _++_}
 use Prim.Native.Nat.{ℕ, _+_}
 use lib.Dec.{eqb}
-use lib.ListN.{drop}
+use lib.ListN.{length, drop}
 use Rattle.text.specs.Text.{LF, split}
 use Rattle.book_line.specs.Line.{isEnd, valueOf}
-use Rattle.book_reader.specs.Book.{Answer, answersFrom, lines, closing}
+use Rattle.book_reader.specs.Book.{Answer, firstLine, answersFrom, lines, closing}
 use Rattle.book_reader.specs.Book.Answer.{entry, fault}
 use Rattle.book_reader.specs.Step.{BEFORE-FIRST-LINE, AT-LINES, AFTER-END, stepAt, lineAt}
 use Rattle.book_reader.specs.declared.step.Step.{Step}
@@ -41,13 +41,13 @@ joined (part ∷ parts) = part ++ joined parts
 -- A caller that holds text, has taken it up to at, and has these parts of the book yet to be handed: the answers that it gets.
 -- `whole` is the flag that it passes. Where more text is needed it may move what is left wherever it likes: only what is left counts.
 pub data Handed : Place → List ℕ → ℕ → Bool → List (List ℕ) → List Answer → Type 0 where
-  first : {p : Place} {text : List ℕ} {at : ℕ} {whole : Bool} {parts : List (List ℕ)} {got : List Answer} (next : ℕ)
-      → stepAt text at (p .stage) (p .last) whole ≡ Step.Begun next
-      → Handed (begun p) text next whole parts got → Handed p text at whole parts got
-  line : {p : Place} {text : List ℕ} {at : ℕ} {whole : Bool} {parts : List (List ℕ)} {got : List Answer} (period unit event end : ℕ)
-      → stepAt text at (p .stage) (p .last) whole ≡ Step.Entry period unit event end
-      → Handed (past period unit event) text (end + 1) whole parts got
-      → Handed p text at whole parts (entry period unit event (valueOf (lineAt text at end)) ∷ got)
+  first : {p : Place} {text : List ℕ} {at : ℕ} {whole : Bool} {parts : List (List ℕ)} {got : List Answer}
+      → stepAt text at (p .stage) (p .last) whole ≡ Step.Begun
+      → Handed (begun p) text (at + length firstLine) whole parts got → Handed p text at whole parts got
+  line : {p : Place} {text : List ℕ} {at : ℕ} {whole : Bool} {parts : List (List ℕ)} {got : List Answer} (period unit event octets : ℕ)
+      → stepAt text at (p .stage) (p .last) whole ≡ Step.Entry period unit event octets
+      → Handed (past period unit event) text (at + octets) whole parts got
+      → Handed p text at whole parts (entry period unit event (valueOf (lineAt text at octets)) ∷ got)
   stops : {p : Place} {text : List ℕ} {at : ℕ} {whole : Bool} {parts : List (List ℕ)} (n : ℕ)
       → stepAt text at (p .stage) (p .last) whole ≡ Step.Fault n → Handed p text at whole parts (fault n ∷ [])
   ends : {p : Place} {text : List ℕ} {at : ℕ} {whole : Bool} {parts : List (List ℕ)}

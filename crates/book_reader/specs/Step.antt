@@ -1,5 +1,5 @@
 -- One call on lent text, "what lies in" the program's buffer: what it answers, from the octets not yet taken.
--- `whole` says that the text reaches to the book's end.
+-- An answer says how many of them it takes, not where they stand. `whole` says that the text reaches to the book's end.
 use mathlib.Core.Bool.{Bool, cond}
 use mathlib.Core.List.{List}
 use Prim.Native.Nat.{ℕ, _+_, _-_}
@@ -22,15 +22,15 @@ abbrev pub AFTER-END : ℕ
 AFTER-END = 2
 
 -- The book's first line (11): as many octets as it has are looked at.
-unfoldable pub headStep : List ℕ → ℕ → Bool → Step
-headStep t at whole =
+unfoldable pub headStep : List ℕ → Bool → Step
+headStep t whole =
     cond (ltb (length t) (length firstLine)) (cond whole (Step.Fault 11) Step.More)
-    (cond (same (take (length firstLine) t) firstLine) (Step.Begun (at + length firstLine)) (Step.Fault 11))
+    (cond (same (take (length firstLine) t) firstLine) Step.Begun (Step.Fault 11))
 
--- A line whose LF stands at end (12, then 13).
+-- A line of so many octets, its LF included (12, then 13).
 unfoldable pub ruled : ℕ → ℕ → Judged → Step
-ruled last end Judged.Wrong = Step.Fault 12
-ruled last end (Judged.Entry p u e) = cond (inOrder last p) (Step.Entry p u e end) (Step.Fault 13)
+ruled last octets Judged.Wrong = Step.Fault 12
+ruled last octets (Judged.Entry p u e) = cond (inOrder last p) (Step.Entry p u e octets) (Step.Fault 13)
 
 -- n octets without LF: too long a line (12); or the book ends here, after a LF (14) or without one (12); or the line is cut.
 unfoldable pub unended : ℕ → Bool → Step
@@ -40,28 +40,37 @@ unended n whole = cond (ltb n longestLine) (cond whole (Step.Fault (cond (eqb n 
 abbrev pub window : List ℕ → List ℕ
 window t = take longestLine t
 
-unfoldable pub lineStep : List ℕ → ℕ → ℕ → Bool → Step
-lineStep t at last whole =
+unfoldable pub lineStep : List ℕ → ℕ → Bool → Step
+lineStep t last whole =
     cond (ltb (upto LF (window t)) (length (window t)))
-    (ruled last (at + upto LF (window t)) (judged (take (upto LF (window t)) t)))
+    (ruled last (upto LF (window t) + 1) (judged (take (upto LF (window t)) t)))
     (unended (length t) whole)
 
 -- n octets after `end` (14, the second half).
 unfoldable pub tailStep : ℕ → Bool → Step
 tailStep n whole = cond (eqb n 0) (cond whole Step.Done Step.More) (Step.Fault 14)
 
-unfoldable pub stepOf : List ℕ → ℕ → ℕ → ℕ → Bool → Step
-stepOf t at stage last whole =
-    cond (eqb stage BEFORE-FIRST-LINE) (headStep t at whole)
-    (cond (eqb stage AT-LINES) (lineStep t at last whole) (tailStep (length t) whole))
+-- What these octets say, where the book has come so far and last is the last line's period.
+unfoldable pub stepOf : List ℕ → ℕ → ℕ → Bool → Step
+stepOf t stage last whole =
+    cond (eqb stage BEFORE-FIRST-LINE) (headStep t whole)
+    (cond (eqb stage AT-LINES) (lineStep t last whole) (tailStep (length t) whole))
 
--- What the text says from at on, where the book has come so far and last is the last line's period.
+-- What the text says from at on.
 abbrev pub stepAt : List ℕ → ℕ → ℕ → ℕ → Bool → Step
-stepAt text at stage last whole = stepOf (drop at text) at stage last whole
+stepAt text at stage last whole = stepOf (drop at text) stage last whole
 
--- The octets of the text from at to end, and field `which` of the line that they are.
+-- The octets that an answer takes: those of the first line, or of the entry's line.
+unfoldable pub takenBy : Step → ℕ
+takenBy Step.Begun = length firstLine
+takenBy (Step.Entry p u e octets) = octets
+takenBy Step.Done = 0
+takenBy (Step.Fault n) = 0
+takenBy Step.More = 0
+
+-- The line of so many octets, its LF included, that stands at `at` of the text: its LF is left off; and its field `which`.
 abbrev pub lineAt : List ℕ → ℕ → ℕ → List ℕ
-lineAt text at end = take (end - at) (drop at text)
+lineAt text at octets = take (octets - 1) (drop at text)
 
 abbrev pub fieldOf : List ℕ → ℕ → ℕ → ℕ → List ℕ
-fieldOf text at end which = field which (lineAt text at end)
+fieldOf text at octets which = field which (lineAt text at octets)

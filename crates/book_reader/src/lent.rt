@@ -32,16 +32,16 @@ pub fn read_at(text: &[u8], at: usize, stage: u8, last: u32, whole: bool) -> Ste
     next(new(text, at), stage, last, whole)
 }
 
-// Field `which` of the line that ends at `end`, as the part of the lent text that it is.
-pub fn part<'a>(r: Reader<'a>, end: usize, which: usize) -> &'a [u8]
-    ensures { λ s. ⌜ now s ≡ fieldOf (now (r .entry .text)) (r .entry .at) end which ⌝ }
+// Field `which` of the line of so many octets, its LF included, as the part of the lent text that it is.
+pub fn part<'a>(r: Reader<'a>, octets: usize, which: usize) -> &'a [u8]
+    ensures { λ s. ⌜ now s ≡ fieldOf (now (r .entry .text)) (r .entry .at) octets which ⌝ }
 {
-    field_of(r.text, r.at, end, which)
+    field_of(r.text, r.at, octets, which)
 }
 
 // The same of a lent text whose line starts at `at`: the reader is made and asked. Its parameters are plain.
-pub fn part_at(text: &[u8], at: usize, end: usize, which: usize) -> &[u8]
-    ensures { λ s. ⌜ now s ≡ fieldOf (now (text .entry)) at end which ⌝ }
+pub fn part_at(text: &[u8], at: usize, octets: usize, which: usize) -> &[u8]
+    ensures { λ s. ⌜ now s ≡ fieldOf (now (text .entry)) at octets which ⌝ }
 {
-    part(new(text, at), end, which)
+    part(new(text, at), octets, which)
 }

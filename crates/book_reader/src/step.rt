@@ -1,7 +1,6 @@
 // One call on lent text from a position on: the first line, a line's entry, a fault, or that more text is needed.
+// An answer says how many octets it takes, not where they stand.
 ghost use mathlib.Core.Path.{_≡_};
-ghost use Prim.Native.Nat.{_+_, _<_, _^_};
-ghost use lib.ListN.{length};
 ghost use Rattle.book_line.specs.Line.{judged, inOrder};
 ghost use Rattle.book_reader.specs.Step as spec;
 use book_line::line::Judged;
@@ -26,16 +25,14 @@ const FIRST_LINE_LENGTH: usize = 24;
 
 // What a call answers.
 pub enum Step {
-    // The book's first line has been taken; lines start at next.
-    Begun {
-        next: usize,
-    },
-    // A line whose LF stands at end.
+    // The book's first line has been read.
+    Begun,
+    // A line of so many octets, its LF included.
     Entry {
         period: u32,
         unit: u32,
         event: u8,
-        end: usize,
+        octets: usize,
     },
     // The book has ended with its accepted `end` line.
     Done,
@@ -45,10 +42,27 @@ pub enum Step {
     More,
 }
 
+// The octets that an answer takes.
+pub fn octets_of(step: Step) -> usize
+    ensures { λ r. ⌜ r ≡ spec.takenBy step ⌝ }
+{
+    match step {
+        Step::Begun => FIRST_LINE_LENGTH,
+        Step::Entry {
+            period: _,
+            unit: _,
+            event: _,
+            octets,
+        } => octets,
+        Step::Done => 0,
+        Step::Fault(_) => 0,
+        Step::More => 0,
+    }
+}
+
 // At the book's first line: it is looked at once all its octets are there, or the book has ended.
-fn head_step(t: &[u8], at: usize, whole: bool) -> Step
-    requires { ⌜ at + length (now t) < 2 ^ 64 ⌝ }
-    ensures { λ r. ⌜ r ≡ spec.headStep (now (t .entry)) at whole ⌝ }
+fn head_step(t: &[u8], whole: bool) -> Step
+    ensures { λ r. ⌜ r ≡ spec.headStep (now (t .entry)) whole ⌝ }
 {
     if t.len() < FIRST_LINE_LENGTH {
         if whole {
@@ -57,9 +71,7 @@ fn head_step(t: &[u8], at: usize, whole: bool) -> Step
         return Step::More;
     }
     if same(&t[..FIRST_LINE_LENGTH], b"period unit event value\n") {
-        return Step::Begun {
-            next: at + FIRST_LINE_LENGTH,
-        };
+        return Step::Begun;
     }
     Step::Fault(11)
 }
@@ -71,9 +83,9 @@ fn in_order(last: u32, period: u32) -> bool
     (last <= period) & (period <= MOST_PERIODS)
 }
 
-// A line whose LF stands at end: go on with the entry, else stop with 12.
-fn rule(line: &[u8], end: usize, last: u32) -> Step
-    ensures { λ r. ⌜ r ≡ spec.ruled last end (judged (now (line .entry))) ⌝ }
+// A line of so many octets, its LF included: go on with the entry, else stop with 12 or 13.
+fn rule(line: &[u8], octets: usize, last: u32) -> Step
+    ensures { λ r. ⌜ r ≡ spec.ruled last octets (judged (now (line .entry))) ⌝ }
 {
     let Judged::Entry {
         period,
@@ -90,7 +102,7 @@ fn rule(line: &[u8], end: usize, last: u32) -> Step
         period,
         unit,
         event,
-        end,
+        octets,
     }
 }
 
@@ -111,14 +123,13 @@ fn unended(n: usize, whole: bool) -> Step
 }
 
 // At a line: its LF is looked for among the first 600 octets.
-fn line_step(t: &[u8], at: usize, last: u32, whole: bool) -> Step
-    requires { ⌜ at + length (now t) < 2 ^ 64 ⌝ }
-    ensures { λ r. ⌜ r ≡ spec.lineStep (now (t .entry)) at last whole ⌝ }
+fn line_step(t: &[u8], last: u32, whole: bool) -> Step
+    ensures { λ r. ⌜ r ≡ spec.lineStep (now (t .entry)) last whole ⌝ }
 {
     let n = least(LONGEST_LINE, t.len());
     let end = long_piece_end(&t[..n], 0, LF);
     if end < n {
-        return rule(&t[..end], at + end, last);
+        return rule(&t[..end], end + 1, last);
     }
     unended(t.len(), whole)
 }
@@ -143,19 +154,20 @@ pub fn step_at(text: &[u8], at: usize, stage: u8, last: u32, whole: bool) -> Ste
     let from = least(at, text.len());
     let t = &text[from..];
     if stage == BEFORE_FIRST_LINE {
-        return head_step(t, from, whole);
+        return head_step(t, whole);
     }
     if stage == AT_LINES {
-        return line_step(t, from, last, whole);
+        return line_step(t, last, whole);
     }
     tail_step(t.len(), whole)
 }
 
-// Field `which` of the line from `at` to `end`, as the part of the text that it is.
-pub fn field_of(text: &[u8], at: usize, end: usize, which: usize) -> &[u8]
-    ensures { λ r. ⌜ now r ≡ spec.fieldOf (now (text .entry)) at end which ⌝ }
+// Field `which` of the line of so many octets, its LF included, from `at` on, as the part of the text that it is.
+pub fn field_of(text: &[u8], at: usize, octets: usize, which: usize) -> &[u8]
+    ensures { λ r. ⌜ now r ≡ spec.fieldOf (now (text .entry)) at octets which ⌝ }
 {
-    let to = least(end, text.len());
-    let from = least(at, to);
+    let from = least(at, text.len());
+    let n = octets - least(octets, 1);
+    let to = from + least(n, text.len() - from);
     field(&text[from..to], which)
 }

@@ -36,31 +36,31 @@ abbrev FieldOf : {M : Type 1} (𝓤 : URA M) (H : Heap 𝓤) (A : Atoms 𝓤) (m
 FieldOf 𝓤 H A mem run = tripleOf 𝓤 H A field-of.signature (field-of.spec 𝓤 H A mem run)
 
 module _ {M : Type 1} (𝓤 : URA M) (H : Heap 𝓤) (A : Atoms 𝓤) (W : Given 𝓤 H A) (mem : Memory → SProp 𝓤) (run : Routine → Fun 𝓤) (κ : Lft)
-    (q : Share) (d : Reader) (end which : ℕ) (ok-end : end < 2 ^ 64) (ok-which : which < 2 ^ 64) where
+    (q : Share) (d : Reader) (octets which : ℕ) (ok-octets : octets < 2 ^ 64) (ok-which : which < 2 ^ 64) where
   abbrev mach : Val
   mach = T′.lowered d
 
   abbrev at : Vals part.signature (κ, tt)
-  at = (mach ∷ [], (vint w64 end ∷ [], (vint w64 which ∷ [], tt)))
+  at = (mach ∷ [], (vint w64 octets ∷ [], (vint w64 which ∷ [], tt)))
 
   abbrev bound : walkOf 𝓤 H A part.ended (stays-of part.ended ways) (part.clauses 𝓤 H A mem run) .Ghost
-  bound = (((κ, tt), (q, tt), tt, (d, (end, (which, tt))), at), tt)
+  bound = (((κ, tt), (q, tt), tt, (d, (octets, (which, tt))), at), tt)
 
   abbrev Post : Val → SProp 𝓤
   Post = walkOf 𝓤 H A part.ended (stays-of part.ended ways) (part.clauses 𝓤 H A mem run) .post bound
 
   abbrev entry : SProp 𝓤
-  entry = onEntry 𝓤 H A part.signature (κ, tt) (q, tt) (d, (end, (which, tt))) at
+  entry = onEntry 𝓤 H A part.signature (κ, tt) (q, tt) (d, (octets, (which, tt))) at
 
   abbrev Own : Fml
   Own = B (κ, tt) .own d (mach ∷ [])
 
   -- what all the parameters own
   abbrev Kept : Fml
-  Kept = owns (B (κ, tt) ∷ usize ∷ usize ∷ []) (d, (end, (which, tt))) at
+  Kept = owns (B (κ, tt) ∷ usize ∷ usize ∷ []) (d, (octets, (which, tt))) at
 
   abbrev found : List ℕ
-  found = fieldOf (now (d .text)) (d .at) end which
+  found = fieldOf (now (d .text)) (d .at) octets which
 
   -- the call of `field_of`
   abbrev to : FieldOf 𝓤 H A mem run .Ghost
@@ -69,8 +69,8 @@ module _ {M : Type 1} (𝓤 : URA M) (H : Heap 𝓤) (A : Atoms 𝓤) (W : Given
       (κ, tt),
       (q, tt),
       tt,
-      (d .text, (d .at, (end, (which, tt)))),
-      (lent (d .text) ∷ [], (vint w64 (d .at) ∷ [], (vint w64 end ∷ [], (vint w64 which ∷ [], tt)))),
+      (d .text, (d .at, (octets, (which, tt)))),
+      (lent (d .text) ∷ [], (vint w64 (d .at) ∷ [], (vint w64 octets ∷ [], (vint w64 which ∷ [], tt)))),
     ),
     tt,
   )
@@ -81,7 +81,7 @@ module _ {M : Type 1} (𝓤 : URA M) (H : Heap 𝓤) (A : Atoms 𝓤) (W : Given
       move ! (1 ∷ []) $ fsplit ! $ use1 W (‵ Own ⊛ ‵ (Text κ (d .text))) (text-too 𝓤 H A W κ d) $ split ! $ move ! (0 ∷ 2 ∷ []) $ fjoin ! $
       -- [what all own; what the text owns; the token]
       move ! (1 ∷ []) $ nothing ! $ owned ! usize (Is usize) (uint-makes 𝓤 H A W w64) which _ (refl, ok-which) $ fjoin ! $
-      owned ! usize (Is usize) (uint-makes 𝓤 H A W w64) end _ (refl, ok-end) $ fjoin ! $
+      owned ! usize (Is usize) (uint-makes 𝓤 H A W w64) octets _ (refl, ok-octets) $ fjoin ! $
       owned ! usize (Is usize) (uint-makes 𝓤 H A W w64) (d .at) _ (refl, fits) $ fjoin ! $ move ! (1 ∷ 0 ∷ []) $ fjoin ! $
       -- [what the callee's arguments own; what all own; the token]
       move ! (2 ∷ 0 ∷ []) $ join ! $ use1 W (raw (FieldOf 𝓤 H A mem run .pre to))
@@ -96,10 +96,10 @@ module _ {M : Type 1} (𝓤 : URA M) (H : Heap 𝓤) (A : Atoms 𝓤) (W : Given
       move ! (1 ∷ []) $ frame ! $ move ! (1 ∷ []) $ frame ! $ done !
 
   walk : (𝓣 : Tables 𝓤 H) → Triple 𝓤 (𝓣 .C #field-of) (FieldOf 𝓤 H A mem run) → Holds (hasTy (T′.mir (named 0)) mach) × WT mach
-      → ent 𝓤 entry (WpFn 𝓤 H (𝓣 .C) (𝓣 .Λ) code.function (mach ∷ vint w64 end ∷ vint w64 which ∷ []) Post)
+      → ent 𝓤 entry (WpFn 𝓤 H (𝓣 .C) (𝓣 .Λ) code.function (mach ∷ vint w64 octets ∷ vint w64 which ∷ []) Post)
   walk 𝓣 known wt =
-      qed W (raw entry ∷ []) ∵ enters ! (𝓣 .C) (𝓣 .Λ) code.function (mach ∷ vint w64 end ∷ vint w64 which ∷ []) Post
-      (wt, ((tt, record { fits = ok-end }), ((tt, record { fits = ok-which }), tt))) (λ bs.
+      qed W (raw entry ∷ []) ∵ enters ! (𝓣 .C) (𝓣 .Λ) code.function (mach ∷ vint w64 octets ∷ vint w64 which ∷ []) Post
+      (wt, ((tt, record { fits = ok-octets }), ((tt, record { fits = ok-which }), tt))) (λ bs.
       sets ! (of-opd ! (part ! tt refl refl refl)) tt (tt, wt .1 .0) $ sets ! (of-opd ! (part ! tt refl refl refl)) tt (tt, wt .1 .1 .0) $
       move ! (1 ∷ []) $ use1 W (raw (FieldOf 𝓤 H A mem run .pre to) ⊛ ‵ Kept) (apart (wt .1 .1 .0 .fits)) $ split ! $ move ! (2 ∷ 0 ∷ []) $
       calls-own ! 𝓣 field-of.ended (field-of.clauses 𝓤 H A mem run) known to (id⊢ 𝓤 _) (‵ (flft κ q) ⊛ ‵ ftrue) (id⊢ 𝓤 _) (λ r. now r ≡ found)

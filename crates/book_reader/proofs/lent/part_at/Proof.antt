@@ -38,26 +38,26 @@ abbrev Part : {M : Type 1} (𝓤 : URA M) (H : Heap 𝓤) (A : Atoms 𝓤) (mem 
 Part 𝓤 H A mem run = tripleOf 𝓤 H A part.signature (part.spec 𝓤 H A mem run)
 
 module _ {M : Type 1} (𝓤 : URA M) (H : Heap 𝓤) (A : Atoms 𝓤) (W : Given 𝓤 H A) (mem : Memory → SProp 𝓤) (run : Routine → Fun 𝓤) (κ : Lft)
-    (q : Share) (s : RefT (List ℕ)) (n : ℕ) (ok : n < 2 ^ 64) (end which : ℕ) (ok-end : end < 2 ^ 64) (ok-which : which < 2 ^ 64) where
+    (q : Share) (s : RefT (List ℕ)) (n : ℕ) (ok : n < 2 ^ 64) (octets which : ℕ) (ok-octets : octets < 2 ^ 64) (ok-which : which < 2 ^ 64) where
   -- the struct's type as a local of a body has it
   abbrev αᵉ : NamedLft
   αᵉ = record { mir = erased; lft = κ }
 
   abbrev at : Vals part-at.signature (κ, tt)
-  at = (lent s ∷ [], (vint w64 n ∷ [], (vint w64 end ∷ [], (vint w64 which ∷ [], tt))))
+  at = (lent s ∷ [], (vint w64 n ∷ [], (vint w64 octets ∷ [], (vint w64 which ∷ [], tt))))
 
   abbrev bound : walkOf 𝓤 H A part-at.ended (stays-of part-at.ended ways) (part-at.clauses 𝓤 H A mem run) .Ghost
-  bound = (((κ, tt), (q, tt), tt, (s, (n, (end, (which, tt)))), at), tt)
+  bound = (((κ, tt), (q, tt), tt, (s, (n, (octets, (which, tt)))), at), tt)
 
   abbrev Post : Val → SProp 𝓤
   Post = walkOf 𝓤 H A part-at.ended (stays-of part-at.ended ways) (part-at.clauses 𝓤 H A mem run) .post bound
 
   abbrev entry : SProp 𝓤
-  entry = onEntry 𝓤 H A part-at.signature (κ, tt) (q, tt) (s, (n, (end, (which, tt)))) at
+  entry = onEntry 𝓤 H A part-at.signature (κ, tt) (q, tt) (s, (n, (octets, (which, tt)))) at
 
   -- what all the parameters own
   abbrev Kept : Fml
-  Kept = owns (ShrSlice (named 0) κ u8 ∷ usize ∷ usize ∷ usize ∷ []) (s, (n, (end, (which, tt)))) at
+  Kept = owns (ShrSlice (named 0) κ u8 ∷ usize ∷ usize ∷ usize ∷ []) (s, (n, (octets, (which, tt)))) at
 
   first : ent 𝓤 entry (sep 𝓤 (New 𝓤 H A mem run .pre (to-new 𝓤 H A W mem run κ q s n)) (sem 𝓤 H A Kept))
   first =
@@ -70,17 +70,17 @@ module _ {M : Type 1} (𝓤 : URA M) (H : Heap 𝓤) (A : Atoms 𝓤) (W : Given
 
   -- the call of `part`, at the struct r with the machine value u
   abbrev to-part : Reader → Val → Part 𝓤 H A mem run .Ghost
-  to-part r u = (((κ, tt), (q, tt), tt, (r, (end, (which, tt))), (u ∷ [], (vint w64 end ∷ [], (vint w64 which ∷ [], tt)))), tt)
+  to-part r u = (((κ, tt), (q, tt), tt, (r, (octets, (which, tt))), (u ∷ [], (vint w64 octets ∷ [], (vint w64 which ∷ [], tt)))), tt)
 
   goes-part : (r : Reader) (u : Val)
       → ent 𝓤 (⋆ 𝓤 H A (‵ (B (κ, tt) .own r (u ∷ [])) ∷ (‵ (flft κ q) ⊛ ‵ ftrue) ∷ [])) (Part 𝓤 H A mem run .pre (to-part r u))
   goes-part r u =
       qed W (‵ (B (κ, tt) .own r (u ∷ [])) ∷ (‵ (flft κ q) ⊛ ‵ ftrue) ∷ []) ∵
       nothing ! $ owned ! usize (Is usize) (uint-makes 𝓤 H A W w64) which _ (refl, ok-which) $ fjoin ! $
-      owned ! usize (Is usize) (uint-makes 𝓤 H A W w64) end _ (refl, ok-end) $ fjoin ! $
+      owned ! usize (Is usize) (uint-makes 𝓤 H A W w64) octets _ (refl, ok-octets) $ fjoin ! $
       move ! (1 ∷ 0 ∷ []) $ fjoin ! $ move ! (1 ∷ 0 ∷ []) $ join ! $ frame ! $ done !
 
-  exits : (r : RefT (List ℕ)) (u : Val) → now r ≡ fieldOf (now s) n end which
+  exits : (r : RefT (List ℕ)) (u : Val) → now r ≡ fieldOf (now s) n octets which
       → ent 𝓤 (⋆ 𝓤 H A (‵ (ShrSlice (named 0) κ u8 .own r (u ∷ [])) ∷ (‵ (flft κ q) ⊛ ‵ ftrue) ∷ ‵ Kept ∷ [])) (Post u)
   exits r u e =
       qed W (‵ (ShrSlice (named 0) κ u8 .own r (u ∷ [])) ∷ (‵ (flft κ q) ⊛ ‵ ftrue) ∷ ‵ Kept ∷ []) ∵
@@ -90,11 +90,11 @@ module _ {M : Type 1} (𝓤 : URA M) (H : Heap 𝓤) (A : Atoms 𝓤) (W : Given
 
   walk : (𝓣 : Tables 𝓤 H) → Triple 𝓤 (𝓣 .C #new) (New 𝓤 H A mem run) → Triple 𝓤 (𝓣 .C #part) (Part 𝓤 H A mem run)
       → Is (ShrSlice (named 0) κ u8) s (lent s ∷ [])
-      → ent 𝓤 entry (WpFn 𝓤 H (𝓣 .C) (𝓣 .Λ) code.function (lent s ∷ vint w64 n ∷ vint w64 end ∷ vint w64 which ∷ []) Post)
+      → ent 𝓤 entry (WpFn 𝓤 H (𝓣 .C) (𝓣 .Λ) code.function (lent s ∷ vint w64 n ∷ vint w64 octets ∷ vint w64 which ∷ []) Post)
   walk 𝓣 known-new known-part p =
-      qed W (raw entry ∷ []) ∵ enters ! (𝓣 .C) (𝓣 .Λ) code.function (lent s ∷ vint w64 n ∷ vint w64 end ∷ vint w64 which ∷ []) Post (
+      qed W (raw entry ∷ []) ∵ enters ! (𝓣 .C) (𝓣 .Λ) code.function (lent s ∷ vint w64 n ∷ vint w64 octets ∷ vint w64 which ∷ []) Post (
         shr-slice-lawful 𝓤 H A W (named 0) κ u8 .typed s (lent s ∷ []) p .0,
-        ((tt, record { fits = ok }), ((tt, record { fits = ok-end }), ((tt, record { fits = ok-which }), tt))),
+        ((tt, record { fits = ok }), ((tt, record { fits = ok-octets }), ((tt, record { fits = ok-which }), tt))),
       ) (λ bs.
       move ! (1 ∷ []) $ use1 W (raw (New 𝓤 H A mem run .pre (to-new 𝓤 H A W mem run κ q s n)) ⊛ ‵ Kept) first $ split ! $ move ! (2 ∷ 0 ∷ []) $
       calls-own ! 𝓣 new.ended (new.clauses 𝓤 H A mem run) known-new (to-new 𝓤 H A W mem run κ q s n) (id⊢ 𝓤 _) (‵ (flft κ q) ⊛ ‵ ftrue) (id⊢ 𝓤 _)
@@ -103,10 +103,10 @@ module _ {M : Type 1} (𝓤 : URA M) (H : Heap 𝓤) (A : Atoms 𝓤) (W : Given
       -- [the locals; what the struct owns; the token; what all own]
       move ! (1 ∷ 2 ∷ []) $ use2 W (raw (Part 𝓤 H A mem run .pre (to-part d v))) (goes-part d v) $ move ! (1 ∷ 0 ∷ []) $
       calls-own ! 𝓣 part.ended (part.clauses 𝓤 H A mem run) known-part (to-part d v) (id⊢ 𝓤 _) (‵ (flft κ q) ⊛ ‵ ftrue) (id⊢ 𝓤 _)
-      (λ r. now r ≡ fieldOf (now (d .text)) (d .at) end which) (λ r ws. id⊢ 𝓤 _)
+      (λ r. now r ≡ fieldOf (now (d .text)) (d .at) octets which) (λ r ws. id⊢ 𝓤 _)
       (and-then ! (loc ! tt refl) (and-then ! (loc ! tt refl) (and-then ! (loc ! tt refl) (no-more !)))) tt
       (λ r u g. shr-slice-lawful 𝓤 H A W (named 0) κ u8 .typed r _ g .0) (λ r u e. leaves ! Post refl tt refl
-      (exits r u (e ∙ (ap (λ (x : RefT (List ℕ)). fieldOf (now x) (d .at) end which) (made .0) ∙ ap (λ (k : ℕ). fieldOf (now s) k end which)
+      (exits r u (e ∙ (ap (λ (x : RefT (List ℕ)). fieldOf (now x) (d .at) octets which) (made .0) ∙ ap (λ (k : ℕ). fieldOf (now s) k octets which)
       (made .1)))))))
 
 meets : {M : Type 1} (𝓤 : URA M) (H : Heap 𝓤) (A : Atoms 𝓤) (W : Given 𝓤 H A) (mem : Memory → SProp 𝓤) (run : Routine → Fun 𝓤) (𝓣 : Tables 𝓤 H)

@@ -1,4 +1,5 @@
 use mathlib.Core.Path.{ap, _∙_}
+use Prim.Native.Nat.{ℕ, _+_, _-_}
 use borrow.Author.Needs.{needs}
 use Rattle.book_reader.proofs.Returns.{line-at}
 use Rattle.text.specs.Text.{field}
@@ -10,6 +11,18 @@ least-requires c κs = search needs
 
 least-requires-2 : tie.Need-least-requires-2
 least-requires-2 c κs = search needs
+
+sub-n : tie.Need-sub-n
+sub-n c = search needs
+
+sub-least : tie.Need-sub-least
+sub-least c = search needs
+
+least-requires-3 : tie.Need-least-requires-3
+least-requires-3 c κs = search needs
+
+add-to : tie.Need-add-to
+add-to c = search needs
 
 sub-field : tie.Need-sub-field
 sub-field c = search needs
@@ -25,9 +38,12 @@ field-requires c κs = search needs
 
 returns : tie.Need-returns
 returns c =
-    let a = c .before .before .before .before .before .args in
-    let to = c .before .before .before .least in let from = c .before .before .least2 in
-    c .field .ensures ∙ ap (field (a .which)) (line-at (a .text .now) (a .at) (a .end) (from .result) (to .result) (to .ensures) (from .ensures))
+    let a = c .before .before .before .before .before .before .args in let from = c .before .before .before .before .least in
+    let lf = c .before .before .before .least2 in let n = c .before .before .least3 in
+    c .field .ensures
+    ∙ ap (field (a .which))
+    (line-at (a .text .now) (a .at) (from .result) (from .ensures) (a .octets) (a .octets - lf .result) (from .result + n .result)
+    (ap (λ (k : ℕ). a .octets - k) (lf .ensures)) (ap (λ (k : ℕ). from .result + k) (n .ensures)))
 
 pub field-of-spec : {M : Type 1} → statement M
 field-of-spec =
@@ -35,6 +51,10 @@ field-of-spec =
     (tie.spec
     least-requires
     least-requires-2
+    sub-n
+    sub-least
+    least-requires-3
+    add-to
     sub-field
     part-field-start
     part-field-end

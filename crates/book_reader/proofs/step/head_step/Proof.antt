@@ -26,9 +26,6 @@ slice-aggregate-same-2 c = search needs
 same-requires : tie.Need-same-requires
 same-requires c κs = search needs
 
-add-t13 : tie.Need-add-t13
-add-t13 c = search needs
-
 returns-3 : tie.Need-returns-3
 unfolding headStep
 returns-3 c = rw (le-ltb _ (length firstLine) (c .before .before .before .before .if1 .left), sym (c .before .same .ensures) ∙ c .if3 .taken)
@@ -46,6 +43,5 @@ head-step-spec =
     slice-aggregate-same
     slice-aggregate-same-2
     same-requires
-    add-t13
     returns-3
     returns-4)

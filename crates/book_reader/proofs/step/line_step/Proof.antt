@@ -31,7 +31,7 @@ returns c =
     let a = c .before .before .before .before .before .before .before .args in
     let n = c .before .before .before .before .before .least in let end = c .before .before .before .long-piece-end in
     c .rule .ensures
-    ∙ step-line (a .t .now) (a .at) (a .last) (a .whole) (n .result) (end .result) (n .ensures) (end .ensures) (omega arith)
+    ∙ step-line (a .t .now) (a .last) (a .whole) (n .result) (end .result) (n .ensures) (end .ensures) (omega arith)
 
 unended-requires : tie.Need-unended-requires
 unended-requires c κs = search needs
@@ -41,7 +41,7 @@ returns-2 c =
     let a = c .before .before .before .before .before .before .args in
     let n = c .before .before .before .before .least in let end = c .before .before .long-piece-end in
     c .unended .ensures
-    ∙ step-unended (a .t .now) (a .at) (a .last) (a .whole) (n .result) (end .result) (n .ensures) (end .ensures) (omega arith)
+    ∙ step-unended (a .t .now) (a .last) (a .whole) (n .result) (end .result) (n .ensures) (end .ensures) (omega arith)
 
 pub line-step-spec : {M : Type 1} → statement M
 line-step-spec =
