@@ -27,11 +27,11 @@ use Rattle.book.specs.declared.until.Until.{Until}
 use Rattle.book.proofs.Moving.{stops-room, line-ran, line-ends, line-gives}
 
 -- the octets of an entry's value are few
-pub short-value : {text : List ℕ} {at stage last period unit number end : ℕ} → Entered text at stage last period unit number end
-    → length (valueOctets number (fieldOf text at end 3)) ≤ valueRoom
-short-value {text} {at} {end = end} e = rw (e .event-is) (omega (arith, value-length (lineAt text at end) (e .form)))
+pub short-value : {text : List ℕ} {at stage last period unit number size : ℕ} → Entered text at stage last period unit number size
+    → length (valueOctets number (fieldOf text at size 3)) ≤ valueRoom
+short-value {text} {at} {size = size} e = rw (e .event-is) (omega (arith, value-length (lineAt text at size) (e .form)))
 
-module _ (w : Went) (images octets letters text room : List ℕ) (period unit number end : ℕ) (b : w .progress .begun ≡ true)
+module _ (w : Went) (images octets letters text room : List ℕ) (period unit number size : ℕ) (b : w .progress .begun ≡ true)
     (o : w .progress .over ≡ false)
     (u : Until) (octets₁ room₁ : List ℕ)
     (r : RunsTo (found (w .progress .bus) (w .progress .terminals) images octets letters) period room (w .wrote)
@@ -39,7 +39,7 @@ module _ (w : Went) (images octets letters text room : List ℕ) (period unit nu
   -- what a return has to say
   abbrev Returns : List ℕ → List ℕ → List ℕ → Went → Type 0
   Returns images′ letters′ room′ x =
-      ((whole : Bool) → stepAt text (w .taken) (w .progress .stage) (w .progress .bus .periods .0) whole ≡ Entry period unit number end
+      ((whole : Bool) → stepAt text (w .taken) (w .progress .stage) (w .progress .bus .periods .0) whole ≡ Entry period unit number size
       → Steps text whole (standOf (w .progress) images octets letters) (w .taken) room (w .wrote)
       (standOf (x .progress) images′ octets₁ letters′) (x .taken) room′ (x .wrote) (x .why)) × (x .reply ≡ 0)
 
@@ -51,7 +51,7 @@ module _ (w : Went) (images octets letters text room : List ℕ) (period unit nu
   full-line h x e =
       rw e (
         λ whole q. stops-room
-            (line-ran text whole (standOf (w .progress) images octets letters) (w .taken) room (w .wrote) period unit number end way q
+            (line-ran text whole (standOf (w .progress) images octets letters) (w .taken) room (w .wrote) period unit number size way q
             (found (u .bus) (u .terminals) images octets₁ letters) (u .wrote) room₁ r) h o,
         refl,
       )
@@ -67,22 +67,22 @@ module _ (w : Went) (images octets letters text room : List ℕ) (period unit nu
         by-order : (a c : ℕ) → a ≤ c → (a < c → ⊥) → a ≡ c
         by-order a c l n = by-test (ltb a c) (λ t. absurd (n (ltb-true a c t))) (λ t. omega (arith, ltb-false a c t))
 
-    pub end-line : isEnd unit number ≡ true → (x : Went) → x ≡ reached w u AFTER-END (end + 1) 0 → Returns images letters room₁ x
+    pub end-line : isEnd unit number ≡ true → (x : Went) → x ≡ reached w u AFTER-END (w .taken + size) 0 → Returns images letters room₁ x
     end-line t x e =
         rw e (
-          λ whole q. line-ends text whole (standOf (w .progress) images octets letters) (w .taken) room (w .wrote) period unit number end way q
+          λ whole q. line-ends text whole (standOf (w .progress) images octets letters) (w .taken) room (w .wrote) period unit number size way q
               (found (u .bus) (u .terminals) images octets₁ letters) (u .wrote) room₁ r there t,
           refl,
         )
 
-    pub given-line : isEnd unit number ≡ false → (value : List ℕ) → value ≡ valueOf (lineAt text (w .taken) end)
+    pub given-line : isEnd unit number ≡ false → (value : List ℕ) → value ≡ valueOf (lineAt text (w .taken) size)
         → (g : Until) (images′ letters′ room₂ : List ℕ)
         → ((kept : List ℕ) → Gives (found (u .bus) (u .terminals) images kept letters) unit number value room₁ (u .wrote)
         (found (g .bus) (g .terminals) images′ kept letters′) (g .wrote) room₂)
-        → (x : Went) → x ≡ reached w g AT-LINES (end + 1) 0 → Returns images′ letters′ room₂ x
+        → (x : Went) → x ≡ reached w g AT-LINES (w .taken + size) 0 → Returns images′ letters′ room₂ x
     given-line t value v g images′ letters′ room₂ gives x e =
         rw e (
-          λ whole q. line-gives text whole (standOf (w .progress) images octets letters) (w .taken) room (w .wrote) period unit number end way q
+          λ whole q. line-gives text whole (standOf (w .progress) images octets letters) (w .taken) room (w .wrote) period unit number size way q
               (found (u .bus) (u .terminals) images octets₁ letters) (u .wrote) room₁ r there t
               (found (g .bus) (g .terminals) images′ octets₁ letters′) (g .wrote) room₂ (rw v at (gives octets₁)),
           refl,

@@ -12,6 +12,7 @@ use Rattle.bus.specs.Calls.{Call}
 use Rattle.call_rules.specs.Kept.{Kept}
 use Rattle.book_line.specs.Line.{valueOf, isEnd}
 use Rattle.book_reader.specs.Step.{AT-LINES, AFTER-END, stepAt, lineAt}
+use Rattle.book_reader.specs.Book.{firstLine}
 use Rattle.book_reader.specs.Book.Answer.{entry}
 use Rattle.book_reader.specs.Parts.{past, toCome}
 use Rattle.book_reader.specs.Laws.{Entered, First}
@@ -129,32 +130,32 @@ unfolding toDo
 less-text text s s′ at at′ b b′ h l = rw (b, b′) (omega arith)
 
 -- ---- A line.
-module _ (text : List ℕ) (whole : Bool) (s : Stand) (at : ℕ) (room : List ℕ) (wrote period unit number end : ℕ) (way : UnderWay s)
-    (q : stepAt text at (s .stage) (ahead.run s) whole ≡ Entry period unit number end)
+module _ (text : List ℕ) (whole : Bool) (s : Stand) (at : ℕ) (room : List ℕ) (wrote period unit number size : ℕ) (way : UnderWay s)
+    (q : stepAt text at (s .stage) (ahead.run s) whole ≡ Entry period unit number size)
     (k₁ : Kept) (w₁ : ℕ) (room₁ : List ℕ) (r : RunsTo (s .kept) period room wrote k₁ w₁ room₁) where
   abbrev s₁ : Stand
   s₁ = record { kept = k₁; stage = s .stage; begun = s .begun; over = s .over }
 
   abbrev value : List ℕ
-  value = valueOf (lineAt text at end)
+  value = valueOf (lineAt text at size)
 
-  found : Entered text at (s .stage) (ahead.run s) period unit number end
-  found = entered text at (s .stage) (ahead.run s) whole period unit number end q
+  found : Entered text at (s .stage) (ahead.run s) period unit number size
+  found = entered text at (s .stage) (ahead.run s) whole period unit number size q
 
   -- what the book says, whatever number of periods up to the line's is run
   said : (last : ℕ) → last ≤ period → (later : List ℕ) → (whole ≡ true → later ≡ [])
       → toCome (record { stage = s .stage; last = last }) (drop at text ++ later)
-      ≡ entry period unit number value ∷ toCome (past period unit number) (drop (end + 1) text ++ later)
+      ≡ entry period unit number value ∷ toCome (past period unit number) (drop (at + size) text ++ later)
   said last h later fit =
-      call-law (record { stage = s .stage; last = last }) text at whole later fit (Entry period unit number end)
-      (run-on-step text at (s .stage) (ahead.run s) whole period unit number end last h q) .said
+      call-law (record { stage = s .stage; last = last }) text at whole later fit (Entry period unit number size)
+      (run-on-step text at (s .stage) (ahead.run s) whole period unit number size last h q) .said
 
   pub line-ran : Moves text whole s at room wrote s₁ at room₁ w₁
   unfolding answersAhead
   line-ran =
       moves-by (periodsTo (s .kept) k₁) (notesText (allBookTold (s .kept) (periodsTo (s .kept) k₁)))
       (λ later fit. ahead.run-ahead s s₁ (drop at text ++ later) period unit number (ahead.run s₁ - ahead.run s) value
-      (toCome (past period unit number) (drop (end + 1) text ++ later)) way (record { begun-is = way .begun-is; over-is = way .over-is })
+      (toCome (past period unit number) (drop (at + size) text ++ later)) way (record { begun-is = way .begun-is; over-is = way .over-is })
       (r .left) (omega (arith, r .from)) (omega (arith, r .from, r .up-to))
       (said (ahead.run s) (found .after) later fit) (said (ahead.run s₁) (r .up-to) later fit))
       (r .put) (r .fits) (λ h. h)
@@ -165,7 +166,7 @@ module _ (text : List ℕ) (whole : Bool) (s : Stand) (at : ℕ) (room : List �
     wrote-fits = omega (arith, r .put .wrote-is, put-length (r .put))
 
     pub line-ends : isEnd unit number ≡ true
-        → Steps text whole s at room wrote (record { kept = k₁; stage = AFTER-END; begun = s .begun; over = s .over }) (end + 1) room₁ w₁ 0
+        → Steps text whole s at room wrote (record { kept = k₁; stage = AFTER-END; begun = s .begun; over = s .over }) (at + size) room₁ w₁ 0
     unfolding answersAhead
     line-ends t =
         let s₂ : Stand = record { kept = k₁; stage = AFTER-END; begun = s .begun; over = s .over } in
@@ -174,14 +175,14 @@ module _ (text : List ℕ) (whole : Bool) (s : Stand) (at : ℕ) (room : List �
         steps-on
         (moves-then line-ran
         (moves-by [] []
-        (λ later fit. ahead.end-ahead s₁ s₂ (drop at text ++ later) (drop (end + 1) text ++ later) period unit number value way₁ way₂ refl refl there t
+        (λ later fit. ahead.end-ahead s₁ s₂ (drop at text ++ later) (drop (at + size) text ++ later) period unit number value way₁ way₂ refl refl there t
         (said (ahead.run s₁) (r .up-to) later fit))
         (put-none room₁ w₁ wrote-fits) (omega (arith, wrote-fits)) (λ h. omega (arith, found .within))))
-        (less-text text s s₂ at (end + 1) (way .begun-is) (way .begun-is) (omega (arith, found .beyond)) (omega (arith, found .beyond, found .within)))
+        (less-text text s s₂ at (at + size) (way .begun-is) (way .begun-is) (omega (arith, found .lf)) (omega (arith, found .lf, found .within)))
         (way .over-is)
 
     pub line-gives : isEnd unit number ≡ false → (k₂ : Kept) (w₂ : ℕ) (room₂ : List ℕ) → Gives k₁ unit number value room₁ w₁ k₂ w₂ room₂
-        → Steps text whole s at room wrote (record { kept = k₂; stage = AT-LINES; begun = s .begun; over = s .over }) (end + 1) room₂ w₂ 0
+        → Steps text whole s at room wrote (record { kept = k₂; stage = AT-LINES; begun = s .begun; over = s .over }) (at + size) room₂ w₂ 0
     unfolding answersAhead
     line-gives t k₂ w₂ room₂ g =
         let s₂ : Stand = record { kept = k₂; stage = AT-LINES; begun = s .begun; over = s .over } in
@@ -190,11 +191,11 @@ module _ (text : List ℕ) (whole : Bool) (s : Stand) (at : ℕ) (room : List �
         steps-on
         (moves-then line-ran
         (moves-by (given unit number value ∷ []) (notesText (bookTold k₁ (given unit number value)))
-        (λ later fit. ahead.event-ahead s₁ s₂ (drop at text ++ later) (drop (end + 1) text ++ later) period unit number value way₁ way₂
+        (λ later fit. ahead.event-ahead s₁ s₂ (drop at text ++ later) (drop (at + size) text ++ later) period unit number value way₁ way₂
         (g .left) refl there t
         (said (ahead.run s₁) (r .up-to) later fit))
         (g .put) (g .fits) (λ h. omega (arith, found .within))))
-        (less-text text s s₂ at (end + 1) (way .begun-is) (way .begun-is) (omega (arith, found .beyond)) (omega (arith, found .beyond, found .within)))
+        (less-text text s s₂ at (at + size) (way .begun-is) (way .begun-is) (omega (arith, found .lf)) (omega (arith, found .lf, found .within)))
         (way .over-is)
 
 -- ---- The other answers, and the report's first line. Here the later stands are those of `turned` (specs/Progress.antt).
@@ -216,20 +217,21 @@ module _ (text : List ℕ) (whole : Bool) (k : Kept) (stage : ℕ) (begun over :
     way : UnderWay now
     way = record { begun-is = b; over-is = o }
 
-    pub step-first : (next : ℕ) → stepAt text at stage run whole ≡ Begun next
-        → Steps text whole now at room wrote (record { kept = k; stage = AT-LINES; begun = begun; over = over }) next room wrote 0
+    pub step-first : stepAt text at stage run whole ≡ Begun
+        → Steps text whole now at room wrote (record { kept = k; stage = AT-LINES; begun = begun; over = over }) (at + length firstLine) room wrote 0
     unfolding answersAhead
-    step-first next e =
+    step-first e =
         let s′ : Stand = record { kept = k; stage = AT-LINES; begun = begun; over = over } in
-        let law : (later : List ℕ) → (whole ≡ true → later ≡ []) → First (record { stage = stage; last = run }) text at whole later next =
-        λ later fit. call-law (record { stage = stage; last = run }) text at whole later fit (Begun next) e in
+        let law : (later : List ℕ) → (whole ≡ true → later ≡ []) → First (record { stage = stage; last = run }) text at whole later =
+        λ later fit. call-law (record { stage = stage; last = run }) text at whole later fit Begun e in
         let f = law [] (λ w. refl) in
         steps-on
         (moves-by [] []
-        (λ later fit. ahead.first-ahead now s′ (drop at text ++ later) (drop next text ++ later) way (record { begun-is = b; over-is = o }) refl refl
+        (λ later fit. ahead.first-ahead now s′ (drop at text ++ later) (drop (at + length firstLine) text ++ later) way
+        (record { begun-is = b; over-is = o }) refl refl
         (law later fit .said))
         (put-none room wrote fits) (omega arith) (λ h. f .within))
-        (less-text text now s′ at next b b (omega (arith, f .is)) (omega (arith, f .is, f .within)))
+        (less-text text now s′ at (at + length firstLine) b b (omega arith) (omega (arith, f .within)))
         o
 
     pub step-done : stepAt text at stage run whole ≡ Done

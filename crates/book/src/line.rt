@@ -46,6 +46,7 @@ fn reached(w: Went, u: Until, stage: u8, taken: usize, why: u8) -> Went
 }
 
 // The periods before the line's own are run; then, where there is room, comes its event, or the end of the book's lines.
+// The line has `size` octets, its LF included.
 pub(crate) fn line(
     w: Went,
     images: &mut [u8],
@@ -56,14 +57,14 @@ pub(crate) fn line(
     period: u32,
     unit: u32,
     event: u8,
-    end: usize,
+    size: usize,
 ) -> Went
     requires { ⌜ spec.Goes w (now images) (now octets) (now letters) (now text) (now room)
         × (w .progress .begun ≡ true) × (w .progress .over ≡ false) × (w .progress .bus .periods .0 ≤ period)
-        × (period ≤ mostPeriods) × (end < length (now text))
-        × (length (valueOctets event (fieldOf (now text) (w .taken) end 3)) ≤ valueRoom) ⌝ }
+        × (period ≤ mostPeriods) × (w .taken + size ≤ length (now text))
+        × (length (valueOctets event (fieldOf (now text) (w .taken) size 3)) ≤ valueRoom) ⌝ }
     ensures { λ r. ⌜ ((whole : Bool)
-        → stepAt (now (text .entry)) (w .taken) (w .progress .stage) (w .progress .bus .periods .0) whole ≡ Entry period unit event end
+        → stepAt (now (text .entry)) (w .taken) (w .progress .stage) (w .progress .bus .periods .0) whole ≡ Entry period unit event size
         → Steps (now (text .entry)) whole
         (spec.standOf (w .progress) (now (images .entry)) (now (octets .entry)) (now (letters .entry))) (w .taken) (now (room .entry)) (w .wrote)
         (spec.standOf (r .progress) (now (images .exit)) (now (octets .exit)) (now (letters .exit))) (r .taken) (now (room .exit)) (r .wrote) (r .why))
@@ -74,9 +75,9 @@ pub(crate) fn line(
         return reached(w, u, w.progress.stage, w.taken, ROOM);
     }
     if is_end(unit, event) {
-        return reached(w, u, AFTER_END, end + 1, 0);
+        return reached(w, u, AFTER_END, w.taken + size, 0);
     }
-    let value = part_at(text, w.taken, end, VALUE);
+    let value = part_at(text, w.taken, size, VALUE);
     let g = give(u, images, letters, unit, event, value, room);
-    reached(w, g, AT_LINES, end + 1, 0)
+    reached(w, g, AT_LINES, w.taken + size, 0)
 }

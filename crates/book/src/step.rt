@@ -16,6 +16,7 @@ use super::until::has_room;
 use book_reader::lent::read_at;
 use book_reader::step::AT_LINES;
 use book_reader::step::Step;
+use book_reader::step::octets_of;
 use note_text::note::put_heading;
 use note_text::note::put_stopped;
 
@@ -75,13 +76,14 @@ fn carry_out(
 {
     let stage = w.progress.stage;
     let taken = w.taken;
-    match read_at(text, taken, stage, w.progress.bus.periods.0, whole) {
-        Step::Begun { next } => stays(w, AT_LINES, next, 0),
+    let said = read_at(text, taken, stage, w.progress.bus.periods.0, whole);
+    match said {
+        Step::Begun => stays(w, AT_LINES, taken + octets_of(said), 0),
         Step::Entry {
             period,
             unit,
             event,
-            end,
+            octets: size,
         } => line(
             w,
             images,
@@ -92,7 +94,7 @@ fn carry_out(
             period,
             unit,
             event,
-            end,
+            size,
         ),
         Step::Done => turned(w, stage, w.progress.begun, true, taken, w.wrote, OVER),
         Step::Fault(n) => {

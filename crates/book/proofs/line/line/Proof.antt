@@ -36,7 +36,7 @@ returns c =
     let p = start .pre in
     let ran = c .before .before .before .before .before .before .before .run-to in
     let r = c .before .before .has-room in
-    full-line (a .w) (a .images .now) (a .octets .now) (a .letters .now) (a .text .now) (a .room .now) (a .period) (a .unit) (a .event) (a .end)
+    full-line (a .w) (a .images .now) (a .octets .now) (a .letters .now) (a .text .now) (a .room .now) (a .period) (a .unit) (a .event) (a .size)
     (p .1) (p .2) (ran .result) _ _ (ran .ensures .0)
     (sym (r .ensures) ∙ not-true (r .result) (c .before .if1 .taken)) (c .reached .result) (c .reached .ensures)
 
@@ -45,7 +45,7 @@ is-end-requires c κs = search needs
 
 add-reached : tie.Need-add-reached
 add-reached c =
-    let start = c .before .before .before .before .before .before .before .before .before .before .before .before .before .before .before .before
+    let start = c .before .before .before .before .before .before .before .before .before .before .before .before .before .before .before .before .before
     .before .before in omega (arith, start .pre .5, start .good .1 .1 .1 .1 .0 .0)
 
 reached-requires-2 : tie.Need-reached-requires-2
@@ -65,16 +65,16 @@ same-length-8 c = search needs
 
 returns-2 : tie.Need-returns-2
 returns-2 c =
-    let start = c .before .before .before .before .before .before .before .before .before .before .before .before .before .before .before .before
+    let start = c .before .before .before .before .before .before .before .before .before .before .before .before .before .before .before .before .before
     .before .before .before in
     let a = start .args in
     let p = start .pre in
-    let ran = c .before .before .before .before .before .before .before .before .before .run-to in
-    let r = c .before .before .before .before .has-room in
-    end-line (a .w) (a .images .now) (a .octets .now) (a .letters .now) (a .text .now) (a .room .now) (a .period) (a .unit) (a .event) (a .end)
+    let ran = c .before .before .before .before .before .before .before .before .before .before .run-to in
+    let r = c .before .before .before .before .before .has-room in
+    end-line (a .w) (a .images .now) (a .octets .now) (a .letters .now) (a .text .now) (a .room .now) (a .period) (a .unit) (a .event) (a .size)
     (p .1) (p .2) (ran .result) _ _ (ran .ensures .0)
-    (ran .ensures .1) (sym (r .ensures) ∙ not-false (r .result) (c .before .before .before .if1 .left))
-    (sym (c .before .before .is-end .ensures) ∙ c .before .if2 .taken) (c .reached2 .result) (c .reached2 .ensures)
+    (ran .ensures .1) (sym (r .ensures) ∙ not-false (r .result) (c .before .before .before .before .if1 .left))
+    (sym (c .before .before .before .is-end .ensures) ∙ c .before .before .if2 .taken) (c .reached2 .result) (c .reached2 .ensures)
 
 part-at-requires : tie.Need-part-at-requires
 part-at-requires c κs = search needs
@@ -95,7 +95,7 @@ give-requires c κs =
 
 add-reached-2 : tie.Need-add-reached-2
 add-reached-2 c =
-    let start = c .before .before .before .before .before .before .before .before .before .before .before .before .before .before .before .before
+    let start = c .before .before .before .before .before .before .before .before .before .before .before .before .before .before .before .before .before
     .before .before .before .before .before .before .before .before .before .before .before .before .before in omega
     (arith, start .pre .5, start .good .1 .1 .1 .1 .0 .0)
 
@@ -107,7 +107,7 @@ same-length-9 c = search needs
 
 same-length-10 : tie.Need-same-length-10
 same-length-10 c =
-    c .before .before .before .before .before .before .before .before .before .before .before .before .before .before .before .before .before
+    c .before .before .before .before .before .before .before .before .before .before .before .before .before .before .before .before .before .before
     .before .before .before .run-to .kept .1 .1 .0
 
 same-length-11 : tie.Need-same-length-11
@@ -115,27 +115,27 @@ same-length-11 c = search needs
 
 same-length-12 : tie.Need-same-length-12
 same-length-12 c =
-    c .before .before .before .before .before .before .before .give .kept .1 .1 .1 .1 .1 .1 .0 ∙
-    c .before .before .before .before .before .before .before .before .before .before .before .before .before .before .before .before .before
+    c .before .before .before .before .before .before .before .before .give .kept .1 .1 .1 .1 .1 .1 .0 ∙
+    c .before .before .before .before .before .before .before .before .before .before .before .before .before .before .before .before .before .before
     .before .before .before .run-to .kept .1 .1 .1 .1 .0
 
 returns-3 : tie.Need-returns-3
 returns-3 c =
-    let start = c .before .before .before .before .before .before .before .before .before .before .before .before .before .before .before .before
+    let start = c .before .before .before .before .before .before .before .before .before .before .before .before .before .before .before .before .before
     .before .before .before .before .before .before .before .before .before .before .before .before .before .before in
     let a = start .args in
     let p = start .pre in
-    let ran = c .before .before .before .before .before .before .before .before .before .before .before .before .before .before .before .before
+    let ran = c .before .before .before .before .before .before .before .before .before .before .before .before .before .before .before .before .before
     .before .before .before .before .run-to in
-    let r = c .before .before .before .before .before .before .before .before .before .before .before .before .before .before .before .has-room in
-    let v = c .before .before .before .before .before .before .before .before .before .before .before .part-at in
-    let g = c .before .before .before .before .before .before .before .give in
-    given-line (a .w) (a .images .now) (a .octets .now) (a .letters .now) (a .text .now) (a .room .now) (a .period) (a .unit) (a .event) (a .end)
+    let r = c .before .before .before .before .before .before .before .before .before .before .before .before .before .before .before .before .has-room in
+    let v = c .before .before .before .before .before .before .before .before .before .before .before .before .part-at in
+    let g = c .before .before .before .before .before .before .before .before .give in
+    given-line (a .w) (a .images .now) (a .octets .now) (a .letters .now) (a .text .now) (a .room .now) (a .period) (a .unit) (a .event) (a .size)
     (p .1) (p .2) (ran .result) _ _ (ran .ensures .0)
     (ran .ensures .1) (sym (r .ensures) ∙ not-false (r .result)
-    (c .before .before .before .before .before .before .before .before .before .before .before .before .before .before .if1 .left))
-    (sym (c .before .before .before .before .before .before .before .before .before .before .before .before .before .is-end .ensures) ∙
-    c .before .before .before .before .before .before .before .before .before .before .before .before .if2 .left) (v .result .now) (v .ensures)
+    (c .before .before .before .before .before .before .before .before .before .before .before .before .before .before .before .if1 .left))
+    (sym (c .before .before .before .before .before .before .before .before .before .before .before .before .before .before .is-end .ensures) ∙
+    c .before .before .before .before .before .before .before .before .before .before .before .before .before .if2 .left) (v .result .now) (v .ensures)
     (g .result) _ _ _ (g .ensures)
     (c .reached3 .result) (c .reached3 .ensures)
 

@@ -1,11 +1,14 @@
--- `read` meets its contract (Moving.antt): each answer of the book's reader.
-use mathlib.Core.Path.{sym, _∙_}
+-- `carry_out` meets its contract (Moving.antt): each answer of the book's reader.
+use mathlib.Core.Path.{refl, sym, ap, _∙_}
+use mathlib.Core.Bool.{true}
+use mathlib.Core.List.{[]}
+use native.Mathlib.Omega.{arith}
 use borrow.Author.Needs.{needs}
+use Rattle.book_reader.specs.Step.{AT-LINES, takenBy}
+use Rattle.book_reader.proofs.Cut.{taken-within}
 use Rattle.book_reader.proofs.RunOn.{entered}
-use Rattle.book_reader.specs.Step.{AT-LINES}
 use Rattle.call_rules.specs.Kept.{found}
 use Rattle.report.specs.Ahead.{TEXT, OVER}
-use mathlib.Core.Bool.{true}
 use Rattle.book.proofs.Lines.{short-value}
 use Rattle.book.proofs.Moving.{turns, step-first, step-done, step-fault, step-more}
 use Rattle.book.proofs.step.carry_out.Statement.{statement}
@@ -14,14 +17,30 @@ use Rattle.book.proofs.step.carry_out.Tie as tie
 read-at-requires : tie.Need-read-at-requires
 read-at-requires c κs = search needs
 
-enum-known-next : tie.Need-enum-known-next
-enum-known-next c = search needs
+enum-told : tie.Need-enum-told
+enum-told c = search needs
+
+octets-of-requires : tie.Need-octets-of-requires
+octets-of-requires c κs = search needs
+
+add-stays : tie.Need-add-stays
+add-stays c =
+    let start = c .before .before .before .before .before .before .before .before .before in
+    let a = start .args in
+    let g = a .w .progress in
+    let n = c .octets-of .ensures ∙ ap takenBy (c .before .before .before .read-at .ensures) in
+    omega (
+      arith,
+      n,
+      taken-within (record { stage = g .stage; last = g .bus .periods .0 }) (a .text .now) (a .w .taken) (a .whole) [] (λ w. refl) (start .pre .0 .within),
+      start .good .1 .1 .1 .1 .0 .0,
+    )
 
 stays-requires : tie.Need-stays-requires
 stays-requires c κs = search needs
 
-enum-known-period : tie.Need-enum-known-period
-enum-known-period c = search needs
+enum-known-said : tie.Need-enum-known-said
+enum-known-said c = search needs
 
 line-requires : tie.Need-line-requires
 line-requires c κs =
@@ -30,18 +49,18 @@ line-requires c κs =
     let p = start .pre in
     let g = a .w .progress in
     let e = entered (a .text .now) (a .w .taken) (g .stage) (g .bus .periods .0) (a .whole) _ _ _ _
-    (sym (c .before .before .before .before .before .before .before .read-at .ensures) ∙ c .before .before .before .before .before .period .given .1)
+    (sym (c .before .before .before .before .before .before .before .read-at .ensures) ∙ c .before .before .before .before .before .said .given .1)
     in
     (p .0, p .2, p .3, e .after, e .most, e .within, short-value e)
 
-enum-told : tie.Need-enum-told
-enum-told c = search needs
+enum-told-2 : tie.Need-enum-told-2
+enum-told-2 c = search needs
 
 turned-requires : tie.Need-turned-requires
 turned-requires c κs = search needs
 
-enum-known-n : tie.Need-enum-known-n
-enum-known-n c = search needs
+enum-known-said-2 : tie.Need-enum-known-said-2
+enum-known-said-2 c = search needs
 
 put-stopped-requires : tie.Need-put-stopped-requires
 put-stopped-requires c κs = search needs
@@ -49,22 +68,24 @@ put-stopped-requires c κs = search needs
 turned-requires-2 : tie.Need-turned-requires-2
 turned-requires-2 c κs = search needs
 
-enum-told-2 : tie.Need-enum-told-2
-enum-told-2 c = search needs
+enum-told-3 : tie.Need-enum-told-3
+enum-told-3 c = search needs
 
 stays-requires-2 : tie.Need-stays-requires-2
 stays-requires-2 c κs = search needs
 
 returns : tie.Need-returns
+unfolding takenBy
 returns c =
     let start = c .before .before .before .before .before .before .before .before .before .before in
     let a = start .args in
     let p = start .pre in
     let g = a .w .progress in
-    let q = sym (c .before .before .before .before .read-at .ensures) ∙ c .before .before .next .given .1 in
+    let q = sym (c .before .before .before .before .read-at .ensures) ∙ c .before .before .enum-told .given .1 in
+    let n = c .before .octets-of .ensures ∙ ap takenBy (c .before .before .enum-told .given .1) in
     turns (a .w) (a .images .now) (a .octets .now) (a .letters .now) (a .text .now) (a .room .now) (a .whole) AT-LINES (g .begun) (g .over) _
-    (a .w .wrote) 0 _ (step-first (a .text .now) (a .whole) (found (g .bus) (g .terminals) (a .images .now) (a .octets .now) (a .letters .now))
-    (g .stage) (g .begun) (g .over) (a .w .taken) (a .room .now) (a .w .wrote) (p .0 .fits) (p .2) (p .3) _ q) (c .stays .result)
+    (a .w .wrote) 0 _ (rw n (step-first (a .text .now) (a .whole) (found (g .bus) (g .terminals) (a .images .now) (a .octets .now) (a .letters .now))
+    (g .stage) (g .begun) (g .over) (a .w .taken) (a .room .now) (a .w .wrote) (p .0 .fits) (p .2) (p .3) q)) (c .stays .result)
     (c .stays .ensures)
 
 same-length : tie.Need-same-length
@@ -87,7 +108,7 @@ returns-2 c =
     let l = c .before .before .before .before .before .before .before .before .line in (
       l .ensures .0 (a .whole)
           (sym (c .before .before .before .before .before .before .before .before .before .before .before .before .before .before .before .before .read-at
-          .ensures) ∙ c .before .before .before .before .before .before .before .before .before .before .before .before .before .before .period .given .1),
+          .ensures) ∙ c .before .before .before .before .before .before .before .before .before .before .before .before .before .before .said .given .1),
       l .ensures .1,
     )
 
@@ -97,7 +118,7 @@ returns-3 c =
     let a = start .args in
     let p = start .pre in
     let g = a .w .progress in
-    let q = sym (c .before .before .before .read-at .ensures) ∙ c .before .enum-told .given .1 in
+    let q = sym (c .before .before .before .read-at .ensures) ∙ c .before .enum-told2 .given .1 in
     turns (a .w) (a .images .now) (a .octets .now) (a .letters .now) (a .text .now) (a .room .now) (a .whole) (g .stage) (g .begun) true
     (a .w .taken) (a .w .wrote) OVER _
     (step-done (a .text .now) (a .whole) (found (g .bus) (g .terminals) (a .images .now) (a .octets .now) (a .letters .now)) (g .stage) (g .begun)
@@ -113,12 +134,12 @@ returns-4 c =
     let p = start .pre in
     let g = a .w .progress in
     let q = sym (c .before .before .before .before .before .before .before .before .read-at .ensures) ∙
-    c .before .before .before .before .before .before .n .given .1 in
+    c .before .before .before .before .before .before .said2 .given .1 in
     turns (a .w) (a .images .now) (a .octets .now) (a .letters .now) (a .text .now) (a .room .now) (a .whole) (g .stage) (g .begun) true
     (a .w .taken) _ OVER _
     (step-fault (a .text .now) (a .whole) (found (g .bus) (g .terminals) (a .images .now) (a .octets .now) (a .letters .now)) (g .stage) (g .begun)
     (g .over) (a .w .taken) (a .room .now) (a .w .wrote) (p .0 .fits) (p .2) (p .3) _
-    (c .before .before .before .before .before .known-told3 .given .0 .1) q (p .1) _ _ (c .before .before .before .put-stopped .ensures))
+    (c .before .before .before .before .before .known-told2 .given .0 .1) q (p .1) _ _ (c .before .before .before .put-stopped .ensures))
     (c .turned2 .result) (c .turned2 .ensures)
 
 returns-5 : tie.Need-returns-5
@@ -127,7 +148,7 @@ returns-5 c =
     let a = start .args in
     let p = start .pre in
     let g = a .w .progress in
-    let q = sym (c .before .before .before .read-at .ensures) ∙ c .before .enum-told2 .given .1 in
+    let q = sym (c .before .before .before .read-at .ensures) ∙ c .before .enum-told3 .given .1 in
     turns (a .w) (a .images .now) (a .octets .now) (a .letters .now) (a .text .now) (a .room .now) (a .whole) (g .stage) (g .begun) (g .over)
     (a .w .taken) (a .w .wrote) TEXT _
     (step-more (a .text .now) (a .whole) (found (g .bus) (g .terminals) (a .images .now) (a .octets .now) (a .letters .now)) (g .stage) (g .begun)
@@ -138,16 +159,18 @@ carry-out-spec =
     tie.close
     (tie.spec
     read-at-requires
-    enum-known-next
-    stays-requires
-    enum-known-period
-    line-requires
     enum-told
+    octets-of-requires
+    add-stays
+    stays-requires
+    enum-known-said
+    line-requires
+    enum-told-2
     turned-requires
-    enum-known-n
+    enum-known-said-2
     put-stopped-requires
     turned-requires-2
-    enum-told-2
+    enum-told-3
     stays-requires-2
     returns
     same-length
