@@ -90,28 +90,22 @@ piece-le sep (c ∷ t) k =
     (λ e. rw e (skip-le (split sep t) (length t) (λ j. piece-le sep t j) k))
     (λ e. rw e (onto-le c (split sep t) (length t) (λ j. piece-le sep t j) k))
 
--- ---- A loop that passes pieces, with `left` of them left and the piece at `from` ending at `end`.
-module _ (sep : ℕ) (line : List ℕ) (from left end : ℕ) (ends : end ≡ from + upto sep (drop from line)) where
-  -- on to the piece after the separator
-  pub field-turn : 0 < left → end < length line → getD (split sep (drop from line)) left [] ≡ getD (split sep (drop (end + 1) line)) (left - 1) []
-  field-turn h l =
-      let w : left ≡ suc (left - 1) = omega arith in
+-- ---- The pieces of a text from `from` on, the first of which ends at `end`.
+module _ (sep : ℕ) (line : List ℕ) (from end : ℕ) (ends : end ≡ from + upto sep (drop from line)) where
+  -- the first
+  pub piece-at : take (end - from) (drop from line) ≡ getD (split sep (drop from line)) 0 []
+  piece-at = let w : end - from ≡ upto sep (drop from line) = omega arith in rw w (sym (piece-here sep (drop from line)))
+
+  -- those after its separator
+  pub piece-after : (k : ℕ) → end < length line → getD (split sep (drop from line)) (suc k) [] ≡ getD (split sep (drop (end + 1) line)) k []
+  piece-after k l =
       let v : end + 1 ≡ from + suc (upto sep (drop from line)) = omega arith in
-      ap (λ (k : ℕ). getD (split sep (drop from line)) k []) w
-      ∙ (piece-next sep (drop from line) (left - 1) (omega (arith, length-drop from line))
-      ∙ rw (v, drop-drop (suc (upto sep (drop from line))) from line))
+      piece-next sep (drop from line) k (omega (arith, length-drop from line))
+      ∙ rw (v, drop-drop (suc (upto sep (drop from line))) from line)
 
-  -- the line has no further piece
-  pub field-past : 0 < left → length line ≤ end → getD (split sep (drop from line)) left [] ≡ []
-  field-past h l =
-      let w : left ≡ suc (left - 1) = omega arith in
-      ap (λ (k : ℕ). getD (split sep (drop from line)) k []) w
-      ∙ piece-none sep (drop from line) (left - 1) (omega (arith, length-drop from line))
-
-  -- the piece is found
-  pub field-found : left ≡ 0 → take (end - from) (drop from line) ≡ getD (split sep (drop from line)) left []
-  field-found z =
-      let w : end - from ≡ upto sep (drop from line) = omega arith in rw (z, w) (sym (piece-here sep (drop from line)))
+  -- there is no other
+  pub piece-past : (k : ℕ) → length line ≤ end → getD (split sep (drop from line)) (suc k) [] ≡ []
+  piece-past k l = piece-none sep (drop from line) k (omega (arith, length-drop from line))
 
 -- ---- A text cut at its separators, the piece at `from` ending at `end`.
 module _ (sep : ℕ) (t : List ℕ) (from end : ℕ) (ends : end ≡ from + upto sep (drop from t)) where

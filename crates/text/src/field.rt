@@ -1,26 +1,48 @@
 // The fields of a line: single spaces stand between them.
+use crate::length::least;
+use crate::part::part;
 use crate::piece::long_piece_end;
 use crate::piece::piece_end;
 ghost use mathlib.Core.Path.{_≡_};
-ghost use Rattle.text.specs.Text as spec;
+ghost use Rattle.text.specs.Fields as spec;
+ghost use Rattle.text.specs.Part.{IsPart};
 
 // What stands between two fields.
-pub const SPACE: u8 = b' ';
+const SPACE: u8 = b' ';
 
-// Field `which` of a line, from 0, as the part of the line that it is; an empty part where there is none.
-pub fn field(line: &[u8], which: usize) -> &[u8]
-    ensures { λ r. ⌜ now r ≡ spec.field which (now (line .entry)) ⌝ }
+// Where the first four fields of a line end; behind each but the last stands its space.
+pub struct Ends {
+    pub first: usize,
+    pub second: usize,
+    pub third: usize,
+    pub fourth: usize,
+}
+
+// A line split into its fields, in one pass. The fourth may be long as a rule; the others are not.
+pub fn split(line: &[u8]) -> Ends
+    ensures { λ r. ⌜ r ≡ spec.endsOf (now (line .entry)) ⌝ }
 {
-    let mut from: usize = 0;
-    let mut left = which;
-    while left > 0 {
-        let end = piece_end(line, from, SPACE);
-        if end >= line.len() {
-            return &line[end..];
-        }
-        from = end + 1;
-        left -= 1;
+    let first = piece_end(line, 0, SPACE);
+    let second = piece_end(line, first + 1, SPACE);
+    let third = piece_end(line, second + 1, SPACE);
+    let fourth = long_piece_end(line, third + 1, SPACE);
+    Ends {
+        first,
+        second,
+        third,
+        fourth,
     }
-    let end = long_piece_end(line, from, SPACE);
-    &line[from..end]
+}
+
+// Field `which` of a line whose fields have these ends, as the part of the line that it is: 0 to 3, and any other number as 3.
+pub fn field(line: &[u8], ends: Ends, which: usize) -> &[u8]
+    ensures { λ r. ⌜ IsPart (line .entry) (spec.fieldFrom which ends) (spec.fieldTo which ends) r ⌝ }
+{
+    let most = line.len();
+    match which {
+        0 => part(line, 0, ends.first),
+        1 => part(line, least(ends.first, most) + 1, ends.second),
+        2 => part(line, least(ends.second, most) + 1, ends.third),
+        _ => part(line, least(ends.third, most) + 1, ends.fourth),
+    }
 }

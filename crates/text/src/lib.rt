@@ -3,5 +3,6 @@
 pub mod field;
 pub mod length;
 pub mod octets;
+pub mod part;
 pub mod piece;
 pub mod same;

@@ -1,106 +1,79 @@
--- `field::field` meets its contract: field `which` of the line is field `left` of what follows `from`.
-use mathlib.Core.Path.{_≡_, sym, _∙_}
-use mathlib.Core.List.{[]}
-use Prim.Native.Nat.{_-_, _≤_}
-use native.Mathlib.Omega.{arith}
-use lib.ListN.{length, getD, drop, drop-of-length-le}
-use lib.Seq.{take-nil}
+-- `field::field` meets its contract: by the field's number; a field begins behind the end of the one before it.
+use mathlib.Core.Path.{refl}
+use borrow.Author.Tests.{ne-eqb}
 use borrow.Author.Needs.{needs}
-use Rattle.text.specs.Text.{space, split}
-use Rattle.text.proofs.Pieces.{upto-within, field-turn, field-past, field-found}
+use Rattle.text.proofs.Parts.{part-behind}
 use Rattle.text.proofs.field.field.Statement.{statement}
 use Rattle.text.proofs.field.field.Tie as tie
 
-abbrev Inv-loop : tie.InvT-loop
-Inv-loop line which from₀ left₀ from left = (from ≤ length line) × (getD (split space (drop from line)) left [] ≡ getD (split space line) which [])
+part-requires : tie.Need-part-requires
+part-requires c κs = search needs
 
-abbrev μ-loop : tie.MeasureT-loop
-μ-loop line which from₀ left₀ from left = left
+least-requires : tie.Need-least-requires
+least-requires c κs = search needs
 
-loop-holds : tie.Need-loop-holds Inv-loop μ-loop
-loop-holds c = search needs
+add-part : tie.Need-add-part
+add-part c = search needs
 
-piece-end-requires : tie.Need-piece-end-requires Inv-loop μ-loop
-piece-end-requires c κs = search needs
+part-requires-2 : tie.Need-part-requires-2
+part-requires-2 c κs = search needs
 
-sub-result : tie.Need-sub-result Inv-loop μ-loop
-sub-result c =
-    let loop = c .before .before .before in
-    omega (arith, upto-within space (loop .before .before .args .line .now) (loop .loop .from) (loop .loop .inv .0))
+least-requires-2 : tie.Need-least-requires-2
+least-requires-2 c κs = search needs
 
-part-result-start : tie.Need-part-result-start Inv-loop μ-loop
-part-result-start c =
-    let loop = c .before .before .before in
-    omega (arith, upto-within space (loop .before .before .args .line .now) (loop .loop .from) (loop .loop .inv .0))
+add-part-2 : tie.Need-add-part-2
+add-part-2 c = search needs
 
-part-result-end : tie.Need-part-result-end Inv-loop μ-loop
-part-result-end c = search needs
+part-requires-3 : tie.Need-part-requires-3
+part-requires-3 c κs = search needs
 
-returns : tie.Need-returns Inv-loop μ-loop
-returns c =
-    let loop = c .before .before .before .before in
-    let line = loop .before .before .args .line .now in
-    let ended = c .before .before .piece-end in
-    rw (drop-of-length-le line {i = ended .result} (omega arith)) (take-nil (length line - ended .result))
-    ∙ (sym (field-past space line (loop .loop .from) (loop .loop .left) (ended .result) (ended .ensures) (omega arith) (omega arith))
-    ∙ loop .loop .inv .1)
+least-requires-3 : tie.Need-least-requires-3
+least-requires-3 c κs = search needs
 
-add-from : tie.Need-add-from Inv-loop μ-loop
-add-from c = search needs
+add-part-3 : tie.Need-add-part-3
+add-part-3 c = search needs
 
-sub-left : tie.Need-sub-left Inv-loop μ-loop
-sub-left c = search needs
+part-requires-4 : tie.Need-part-requires-4
+part-requires-4 c κs = search needs
 
-loop-less : tie.Need-loop-less Inv-loop μ-loop
-loop-less c = search needs
+returns : tie.Need-returns
+returns c = rw (c .before .match .keys1) (c .part .ensures)
 
-loop-again : tie.Need-loop-again Inv-loop μ-loop
-loop-again c =
-    let loop = c .before .before .before in
-    let line = loop .before .before .args .line .now in (
-      omega arith,
-      sym (field-turn space line (loop .loop .from) (loop .loop .left) _ (c .before .piece-end .ensures) (omega arith) (c .if1 .left))
-          ∙ loop .loop .inv .1,
-    )
-
-long-piece-end-requires : tie.Need-long-piece-end-requires Inv-loop μ-loop
-long-piece-end-requires c κs = search needs
-
-sub-result-2 : tie.Need-sub-result-2 Inv-loop μ-loop
-sub-result-2 c = search needs
-
-part-result-start-2 : tie.Need-part-result-start-2 Inv-loop μ-loop
-part-result-start-2 c = search needs
-
-part-result-end-2 : tie.Need-part-result-end-2 Inv-loop μ-loop
-part-result-end-2 c =
-    let loop = c .before .before in
-    omega (arith, upto-within space (loop .before .before .args .line .now) (loop .loop .from) (loop .loop .inv .0))
-
-returns-2 : tie.Need-returns-2 Inv-loop μ-loop
+returns-2 : tie.Need-returns-2
 returns-2 c =
-    let loop = c .before .before .before in
-    field-found space (loop .before .before .args .line .now) (loop .loop .from) (loop .loop .left) _ (c .before .long-piece-end .ensures) (omega arith)
-    ∙ loop .loop .inv .1
+    let least = c .before .least in
+    let a = c .before .before .before .before .args in
+    rw (c .before .before .match .keys2) (part-behind (a .line) _ _ _ (a .ends .first) (least .result) refl (least .ensures) (c .part2 .ensures))
+
+returns-3 : tie.Need-returns-3
+returns-3 c =
+    let least = c .before .least2 in
+    let a = c .before .before .before .before .args in
+    rw (c .before .before .match .keys3) (part-behind (a .line) _ _ _ (a .ends .second) (least .result) refl (least .ensures) (c .part3 .ensures))
+
+returns-4 : tie.Need-returns-4
+returns-4 c =
+    let least = c .before .least3 in
+    let a = c .before .before .before .before .args in
+    let none = c .before .before .match .rest in
+    rw (ne-eqb _ 0 (none .0 .0 .1), ne-eqb _ 1 (none .0 .1), ne-eqb _ 2 (none .1))
+    (part-behind (a .line) _ _ _ (a .ends .third) (least .result) refl (least .ensures) (c .part4 .ensures))
 
 pub field-spec : {M : Type 1} → statement M
 field-spec =
     tie.close
     (tie.spec
-    Inv-loop
-    μ-loop
-    loop-holds
-    piece-end-requires
-    sub-result
-    part-result-start
-    part-result-end
+    part-requires
+    least-requires
+    add-part
+    part-requires-2
+    least-requires-2
+    add-part-2
+    part-requires-3
+    least-requires-3
+    add-part-3
+    part-requires-4
     returns
-    add-from
-    sub-left
-    loop-less
-    loop-again
-    long-piece-end-requires
-    sub-result-2
-    part-result-start-2
-    part-result-end-2
-    returns-2)
+    returns-2
+    returns-3
+    returns-4)
