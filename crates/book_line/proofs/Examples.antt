@@ -6,11 +6,12 @@ use Prim.Native.String.{String}
 use lib.ListN.{replicate}
 use Rattle.symbols.specs.Symbols.{sameSymbols}
 use Rattle.cells.specs.Names.{ascii}
-use Rattle.text.specs.Text.{split, onto, all, onward}
+use Rattle.text.specs.Text.{split, onto, upto, all, onward}
+use Rattle.text.specs.Fields.{fieldStart}
 use Rattle.book_line.specs.Line.{ON, AR, DR, D1, D2, HIT, END, eventNamed, isNumber, isAbsent, isBody, isHit, valueFits, formed, judged}
 use Rattle.book_line.specs.Value.{hexDigit, pairs, bodyOf, letterCode, valueOctets}
 use Rattle.book_line.specs.declared.line.Judged.{Judged}
-use Rattle.book_line.specs.declared.line.Judged.the-variants.{Entry, Wrong}
+use Rattle.book_line.specs.declared.line.Judged.the-variants.{Entry, Refused}
 
 -- a line, and what it says
 pub record Example : Type 0 where
@@ -27,45 +28,45 @@ says-long line zeros judged = record { line = ascii line ++ replicate zeros 48; 
 abbrev examples : List Example
 examples =
     -- document 01's example
-    says "0 1 on -" (Entry 0 1 ON)
-    ∷ says "1 1 ar -" (Entry 1 1 AR)
-    ∷ says "9 1 d1 00" (Entry 9 1 D1)
-    ∷ says "20 0 end -" (Entry 20 0 END)
+    says "0 1 on -" (Entry 0 1 ON 7)
+    ∷ says "1 1 ar -" (Entry 1 1 AR 7)
+    ∷ says "9 1 d1 00" (Entry 9 1 D1 7)
+    ∷ says "20 0 end -" (Entry 20 0 END 9)
     -- seven digits, leading zeros, an empty body, a unit that is none, an event that is not one for the unit
-    ∷ says "9999999 0000008 d2 -" (Entry 9999999 8 D2)
-    ∷ says "3 9 dr -" (Entry 3 9 DR)
-    ∷ says "5 0 hit kpmnkpmnkpmnkpmnkpmnkpmnkpmnkpmnkpmnkpmnkpmnkpmn" (Entry 5 0 HIT)
+    ∷ says "9999999 0000008 d2 -" (Entry 9999999 8 D2 19)
+    ∷ says "3 9 dr -" (Entry 3 9 DR 7)
+    ∷ says "5 0 hit kpmnkpmnkpmnkpmnkpmnkpmnkpmnkpmnkpmnkpmnkpmnkpmn" (Entry 5 0 HIT 8)
     -- 600 characters with the LF; one more is too long
-    ∷ says-long "0 1 d1 " 592 (Entry 0 1 D1)
-    ∷ says-long "00 1 d1 " 592 Wrong
+    ∷ says-long "0 1 d1 " 592 (Entry 0 1 D1 7)
+    ∷ says-long "00 1 d1 " 592 (Refused 12)
     -- not four fields
-    ∷ says "" Wrong
-    ∷ says "0 1 on" Wrong
-    ∷ says "0 1 on - " Wrong
-    ∷ says "0 1  on -" Wrong
+    ∷ says "" (Refused 12)
+    ∷ says "0 1 on" (Refused 12)
+    ∷ says "0 1 on - " (Refused 12)
+    ∷ says "0 1  on -" (Refused 12)
     -- a period or a unit of the wrong form
-    ∷ says "00000001 1 on -" Wrong
-    ∷ says "+1 1 on -" Wrong
-    ∷ says " 1 on -" Wrong
-    ∷ says "0 1a on -" Wrong
+    ∷ says "00000001 1 on -" (Refused 12)
+    ∷ says "+1 1 on -" (Refused 12)
+    ∷ says " 1 on -" (Refused 12)
+    ∷ says "0 1a on -" (Refused 12)
     -- an event name that is none
-    ∷ says "0 1 onn -" Wrong
-    ∷ says "0 1 ON -" Wrong
+    ∷ says "0 1 onn -" (Refused 12)
+    ∷ says "0 1 ON -" (Refused 12)
     -- hexadecimal digits: an odd number of them, upper case, none
-    ∷ says "0 1 d1 000" Wrong
-    ∷ says "0 1 d1 0A" Wrong
-    ∷ says "0 1 d1 " Wrong
+    ∷ says "0 1 d1 000" (Refused 12)
+    ∷ says "0 1 d1 0A" (Refused 12)
+    ∷ says "0 1 d1 " (Refused 12)
     -- letters of a hit: 47 of them, another letter, none
-    ∷ says "5 0 hit kpmnkpmnkpmnkpmnkpmnkpmnkpmnkpmnkpmnkpmnkpmnkpm" Wrong
-    ∷ says "5 0 hit kpmnkpmnkpmnkpmnkpmnkpmnkpmnkpmnkpmnkpmnkpmnkpmx" Wrong
-    ∷ says "5 0 hit -" Wrong
+    ∷ says "5 0 hit kpmnkpmnkpmnkpmnkpmnkpmnkpmnkpmnkpmnkpmnkpmnkpm" (Refused 12)
+    ∷ says "5 0 hit kpmnkpmnkpmnkpmnkpmnkpmnkpmnkpmnkpmnkpmnkpmnkpmx" (Refused 12)
+    ∷ says "5 0 hit -" (Refused 12)
     -- a value where none belongs
-    ∷ says "0 1 on 00" Wrong
-    ∷ says "0 1 on --" Wrong
+    ∷ says "0 1 on 00" (Refused 12)
+    ∷ says "0 1 on --" (Refused 12)
     ∷ []
 
 pub judgements : map (λ (x : Example). judged (x .line)) examples ≡ map (λ (x : Example). x .says) examples
-unfolding sameSymbols split onto all onward eventNamed isNumber isAbsent isBody isHit valueFits formed judged
+unfolding sameSymbols split onto upto all onward fieldStart eventNamed isNumber isAbsent isBody isHit valueFits formed judged
 judgements = refl
 
 -- The sixteen digits.

@@ -56,11 +56,11 @@ module _ (f : List ℕ) where
   pub few : not sized ≡ false → length f ≤ mostDigits
   few e = leb-true (length f) mostDigits (and-both (leb 1 (length f)) (leb (length f) mostDigits) (not-false sized e) .1)
 
-  pub number-unsized : not sized ≡ true → Number.Wrong ≡ numberOf f
+  pub number-unsized : not sized ≡ true → Number.Refused 12 ≡ numberOf f
   unfolding numberOf isNumber
   number-unsized e = rw (not-true sized e)
 
-  pub number-wrong : all isDigit f ≡ false → Number.Wrong ≡ numberOf f
+  pub number-wrong : all isDigit f ≡ false → Number.Refused 12 ≡ numberOf f
   unfolding numberOf isNumber
   number-wrong e = rw (and-right-false sized (all isDigit f) e)
 

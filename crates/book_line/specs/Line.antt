@@ -9,6 +9,7 @@ use Rattle.symbols.specs.Symbols.{lineLength}
 use Rattle.cells.specs.Names.{ascii}
 use Rattle.timing.specs.Counts.{mostPeriods}
 use Rattle.text.specs.Text.{fields, field, same, all, isDigit, isHex, isLetter, number}
+use Rattle.text.specs.Fields.{fieldStart}
 use Rattle.book_line.specs.declared.number.Number.{Number}
 use Rattle.book_line.specs.declared.line.Judged.{Judged}
 
@@ -114,23 +115,23 @@ inOrder last period = leb last period && leb period mostPeriods
 
 -- ---- The code's answers.
 
--- A number, or that its form is wrong.
+-- A number, or that its form is wrong: 12.
 unfoldable pub numberOf : List ℕ → Number
-numberOf f = cond (isNumber f) (Number.Is (number f)) Number.Wrong
+numberOf f = cond (isNumber f) (Number.Is (number f)) (Number.Refused 12)
 
--- What a line says, or that its form is wrong: 12.
+-- What a line says and where in it its value begins, or that its form is wrong: 12.
 unfoldable pub judged : List ℕ → Judged
-judged line = cond (formed line) (Judged.Entry (periodOf line) (unitOf line) (eventOf line)) Judged.Wrong
+judged line = cond (formed line) (Judged.Entry (periodOf line) (unitOf line) (eventOf line) (fieldStart 3 line)) (Judged.Refused 12)
 
--- What four fields say. This is how the code goes: it is `judged` where they are the fields of a line of right length (proofs/Judging.antt
--- `cut-judged`).
-unfoldable pub judgedFields : List ℕ → List ℕ → List ℕ → List ℕ → Judged
-judgedFields period unit name value =
+-- What four fields say, the last of which begins at `at`. This is how the code goes: it is `judged` where they are the fields of a line of
+-- right length (proofs/Judging.antt `four-judged`).
+unfoldable pub judgedFields : List ℕ → List ℕ → List ℕ → List ℕ → ℕ → Judged
+judgedFields period unit name value at =
     cond (isNumber period && isNumber unit && (not (eqb (eventNamed name) 0) && valueFits (eventNamed name) value))
-    (Judged.Entry (number period) (number unit) (eventNamed name))
-    Judged.Wrong
+    (Judged.Entry (number period) (number unit) (eventNamed name) at)
+    (Judged.Refused 12)
 
 -- The number of the fault that an answer stands for, or 0.
 unfoldable pub faultOf : Judged → ℕ
-faultOf (Judged.Entry period unit event) = 0
-faultOf Judged.Wrong = 12
+faultOf (Judged.Entry period unit event value) = 0
+faultOf (Judged.Refused k) = k

@@ -3,60 +3,74 @@ use crate::event::event_named;
 use crate::form::value_fits;
 use crate::number::Number;
 use crate::number::digits;
-use text::field::SPACE;
-use text::piece::piece_end;
+use text::field::field;
+use text::field::split;
 ghost use mathlib.Core.Path.{_≡_};
 ghost use Rattle.book_line.specs.Line as spec;
 
 // The most characters of a line, its LF included.
 pub const LONGEST_LINE: usize = 600;
 
+// The fields of a line, in order.
+const PERIOD: usize = 0;
+
+const UNIT: usize = 1;
+
+const EVENT: usize = 2;
+
+const VALUE: usize = 3;
+
 // What the judging of a line answers.
 pub enum Judged {
-    // A line of right form; its value is its fourth field.
-    Entry { period: u32, unit: u32, event: u8 },
-    // Reason 12: a line of the wrong form.
-    Wrong,
+    // A line of right form; its value, which is its last field, begins at `value`.
+    Entry {
+        period: u32,
+        unit: u32,
+        event: u8,
+        value: usize,
+    },
+    // A line of the wrong form: 12.
+    Refused(u8),
 }
 
-// What four fields say.
-fn judge_fields(period: &[u8], unit: &[u8], name: &[u8], value: &[u8]) -> Judged
-    ensures { λ r. ⌜ r ≡ spec.judgedFields (now (period .entry)) (now (unit .entry)) (now (name .entry)) (now (value .entry)) ⌝ }
+// What four fields say, the last of which begins at `at`.
+fn judge_fields(period: &[u8], unit: &[u8], name: &[u8], value: &[u8], at: usize) -> Judged
+    ensures { λ r. ⌜ r ≡ spec.judgedFields (now (period .entry)) (now (unit .entry)) (now (name .entry)) (now (value .entry)) at ⌝ }
 {
     let Number::Is(period) = digits(period) else {
-        return Judged::Wrong;
+        return Judged::Refused(12);
     };
     let Number::Is(unit) = digits(unit) else {
-        return Judged::Wrong;
+        return Judged::Refused(12);
     };
     let event = event_named(name);
     if !((event != 0) & value_fits(event, value)) {
-        return Judged::Wrong;
+        return Judged::Refused(12);
     }
     Judged::Entry {
         period,
         unit,
         event,
+        value: at,
     }
 }
 
-// What a line says, its LF left off. It is cut at its first three spaces: no value of right form has a space.
+// What a line says, its LF left off: each of its four fields is taken from the splitter.
 pub fn judge(line: &[u8]) -> Judged
     ensures { λ r. ⌜ r ≡ spec.judged (now (line .entry)) ⌝ }
 {
     if line.len() >= LONGEST_LINE {
-        return Judged::Wrong;
+        return Judged::Refused(12);
     }
-    let first = piece_end(line, 0, SPACE);
-    let second = piece_end(line, first + 1, SPACE);
-    let third = piece_end(line, second + 1, SPACE);
-    if third >= line.len() {
-        return Judged::Wrong;
+    let ends = split(line);
+    if ends.fourth != line.len() {
+        return Judged::Refused(12);
     }
     judge_fields(
-        &line[..first],
-        &line[first + 1..second],
-        &line[second + 1..third],
-        &line[third + 1..],
+        field(line, ends, PERIOD),
+        field(line, ends, UNIT),
+        field(line, ends, EVENT),
+        field(line, ends, VALUE),
+        ends.third + 1,
     )
 }

@@ -10,8 +10,8 @@ const MOST_DIGITS: usize = 7;
 pub enum Number {
     // The number.
     Is(u32),
-    // A field of the wrong form.
-    Wrong,
+    // A field of the wrong form: 12.
+    Refused(u8),
 }
 
 // The number that a field writes in decimal.
@@ -19,14 +19,14 @@ pub fn digits(f: &[u8]) -> Number
     ensures { λ r. ⌜ r ≡ spec.numberOf (now (f .entry)) ⌝ }
 {
     if !((1 <= f.len()) & (f.len() <= MOST_DIGITS)) {
-        return Number::Wrong;
+        return Number::Refused(12);
     }
     let mut n: u32 = 0;
     let mut i: usize = 0;
     while i < f.len() {
         let c = f[i];
         if !is_digit(c) {
-            return Number::Wrong;
+            return Number::Refused(12);
         }
         n = n * 10 + (c - b'0') as u32;
         i += 1;

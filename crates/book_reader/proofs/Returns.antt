@@ -11,23 +11,24 @@ use borrow.Author.Tests.{eq-eqb, ne-eqb, lt-ltb, le-ltb, ltb-true, ltb-false}
 use Rattle.cases.proofs.ByCases.{by-test}
 use Rattle.text.specs.Text.{LF, upto}
 use Rattle.book_line.specs.Line.{longestLine, judged, inOrder}
+use Rattle.book_line.proofs.Judging.{judged-twelve}
 use Rattle.book_line.specs.declared.line.Judged.{Judged}
 use Rattle.book_reader.specs.Step.{BEFORE-FIRST-LINE, AT-LINES, ruled, window, lineStep, unended, headStep, tailStep, stepOf, stepAt, lineAt}
 use Rattle.book_reader.specs.declared.step.Step.{Step}
 
 -- ---- a line that is judged
 module _ (last end : ℕ) where
-  pub ruled-wrong : (j : Judged) → Judged.Wrong ≡ j → Step.Fault 12 ≡ ruled last end j
+  pub ruled-wrong : (k : ℕ) (line : List ℕ) → Judged.Refused k ≡ judged line → Step.Fault 12 ≡ ruled last end (judged line)
   unfolding ruled
-  ruled-wrong j q = ap (ruled last end) q
+  ruled-wrong k line q = ap Step.Fault (sym (judged-twelve line k q)) ∙ ap (ruled last end) q
 
-  pub ruled-late : (p u e : ℕ) (j : Judged) → Judged.Entry p u e ≡ j → inOrder last p ≡ false → Step.Fault 13 ≡ ruled last end j
+  pub ruled-late : (p u e v : ℕ) (j : Judged) → Judged.Entry p u e v ≡ j → inOrder last p ≡ false → Step.Fault 13 ≡ ruled last end j
   unfolding ruled
-  ruled-late p u e j q f = let z : Step.Fault 13 ≡ ruled last end (Judged.Entry p u e) = rw f in z ∙ ap (ruled last end) q
+  ruled-late p u e v j q f = let z : Step.Fault 13 ≡ ruled last end (Judged.Entry p u e v) = rw f in z ∙ ap (ruled last end) q
 
-  pub ruled-entry : (p u e : ℕ) (j : Judged) → Judged.Entry p u e ≡ j → inOrder last p ≡ true → Step.Entry p u e end ≡ ruled last end j
+  pub ruled-entry : (p u e v : ℕ) (j : Judged) → Judged.Entry p u e v ≡ j → inOrder last p ≡ true → Step.Entry p u e end ≡ ruled last end j
   unfolding ruled
-  ruled-entry p u e j q f = let z : Step.Entry p u e end ≡ ruled last end (Judged.Entry p u e) = rw f in z ∙ ap (ruled last end) q
+  ruled-entry p u e v j q f = let z : Step.Entry p u e end ≡ ruled last end (Judged.Entry p u e v) = rw f in z ∙ ap (ruled last end) q
 
 -- ---- the search for a line's LF
 -- no more than are there

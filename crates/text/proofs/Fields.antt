@@ -1,17 +1,15 @@
--- Laws of fields: each is the part of the line that the definitions say, and the line has k + 1 of them exactly where field k ends with it.
+-- Laws of fields: each is the part of the line that the definitions say, and where the last of them ends.
 use mathlib.Core.Path.{_≡_, refl, sym, ap, _∙_}
 use mathlib.Core.List.{List, []}
 use Prim.Native.Nat.{ℕ, zero, suc, _+_, _-_, _≤_, _<_, min}
-use native.Mathlib.Numerals.{add-one}
 use native.Mathlib.Omega.{arith}
 use lib.Dec.{ltb, leb}
 use lib.ListN.{length, getD, take, drop, length-drop, drop-of-length-le}
-use lib.Seq.{take-nil}
-use borrow.Author.Tests.{ltb-true, ltb-false, leb-true, leb-false}
+use borrow.Author.Tests.{ne-eqb, ltb-true, ltb-false, leb-true, leb-false}
 use denote.Ref.{RefT, now}
 use Rattle.cases.proofs.ByCases.{by-test}
 use Rattle.text.specs.Text.{space, split, upto, fields, field}
-use Rattle.text.specs.Part.{IsPart, partBegin, partEnd}
+use Rattle.text.specs.Part.{IsPart}
 use Rattle.text.specs.Fields.{fieldStart, fieldEnd, endsOf, fieldFrom, fieldTo}
 use Rattle.text.specs.declared.field.Ends.{Ends}
 use Rattle.text.proofs.Parts.{part-octets}
@@ -60,8 +58,7 @@ module _ (line : List ℕ) where
       ))
       (λ l. omega (arith, few-fields k (leb-false (fieldStart k line) (length line) l)))
 
-  -- Exactly k + 1 fields: field k ends where the line does.
-  pub last-ends : (k : ℕ) → length (fields line) ≡ suc k → fieldEnd k line ≡ length line
+  last-ends : (k : ℕ) → length (fields line) ≡ suc k → fieldEnd k line ≡ length line
   last-ends k e =
       by-test (leb (fieldStart k line) (length line))
       (λ l. let s = leb-true (fieldStart k line) (length line) l in
@@ -75,9 +72,18 @@ module _ (line : List ℕ) where
       (λ h. omega (arith, upto-within space line (fieldStart k line) s, ltb-false (fieldEnd k line) (length line) h)))
       (λ l. absurd (omega (arith, few-fields k (leb-false (fieldStart k line) (length line) l))))
 
-  pub ends-last : (k : ℕ) → fieldEnd k line ≡ length line → length (fields line) ≡ suc k
+  ends-last : (k : ℕ) → fieldEnd k line ≡ length line → length (fields line) ≡ suc k
   ends-last k e =
       omega (arith, some-fields k (omega arith), cut-last space line (fieldStart k line) (fieldEnd k line) refl (omega arith))
+
+  -- A line has k + 1 fields exactly where field k ends with the line.
+  pub fields-end : (k : ℕ) → (length (fields line) ≡ suc k → fieldEnd k line ≡ length line) × (fieldEnd k line ≡ length line → length (fields line) ≡ suc k)
+  fields-end k = (last-ends k, ends-last k)
+
+  -- A field begins behind the space that ends the one before it.
+  pub field-behind : (k : ℕ) → fieldStart (suc k) line ≡ fieldEnd k line + 1
+  unfolding fieldStart
+  field-behind k = refl
 
 -- ---- A line that is split: each field begins behind the space at the end of the one before it.
 pub ends-are : (line : List ℕ) (first second third fourth : ℕ) → first ≡ 0 + upto space (drop 0 line)
@@ -87,23 +93,29 @@ pub ends-are : (line : List ℕ) (first second third fourth : ℕ) → first ≡
 unfolding fieldStart
 ends-are line first second third fourth a b c d = rw (d, c, b, a)
 
-split-places : (line : List ℕ) (k : ℕ) → k < 4
-    → (fieldFrom k (endsOf line) ≡ fieldStart k line) × (fieldTo k (endsOf line) ≡ fieldEnd k line)
+split-places : (line : List ℕ) (k : ℕ)
+    → (fieldFrom k (endsOf line) ≡ fieldStart (min k 3) line) × (fieldTo k (endsOf line) ≡ fieldEnd (min k 3) line)
 unfolding fieldStart
-split-places line zero h = (refl, refl)
-split-places line (suc zero) h = (refl, refl)
-split-places line (suc (suc zero)) h = (refl, refl)
-split-places line (suc (suc (suc zero))) h = (refl, refl)
-split-places line (suc (suc (suc (suc k)))) h = absurd (omega arith)
+split-places line zero = (refl, refl)
+split-places line (suc zero) = (refl, refl)
+split-places line (suc (suc zero)) = (refl, refl)
+split-places line (suc (suc (suc k))) =
+    let m : min (suc (suc (suc k))) 3 ≡ 3 = omega arith in
+    rw (
+      m,
+      ne-eqb (suc (suc (suc k))) 0 (λ e. omega arith),
+      ne-eqb (suc (suc (suc k))) 1 (λ e. omega arith),
+      ne-eqb (suc (suc (suc k))) 2 (λ e. omega arith),
+    ) (refl, refl)
 
 -- the next field begins at most one octet farther past the line's end
 pub end-near : (line : List ℕ) (from more : ℕ) → from ≤ length line + more → from + upto space (drop from line) ≤ length line + more
 end-near line from more h = omega (arith, upto-le space (drop from line), length-drop from line)
 
--- The parts that are handed back for a line that is split are its fields.
-pub fields-told : (line part : RefT (List ℕ)) (ends : Ends) → ends ≡ endsOf (now line) → (k : ℕ) → k < 4
-    → IsPart line (fieldFrom k ends) (fieldTo k ends) part → now part ≡ field k (now line)
-fields-told line part ends e k h p =
-    let f = split-places (now line) k h in
-    let q : IsPart line (fieldStart k (now line)) (fieldEnd k (now line)) part = rw (e, f .0, f .1) at p in
-    part-octets line _ _ part q ∙ sym (field-part (now line) k)
+-- The parts that are handed back for a line that is split are its fields, any number above 3 taken as 3.
+pub fields-told : (line part : RefT (List ℕ)) (ends : Ends) → ends ≡ endsOf (now line) → (k : ℕ)
+    → IsPart line (fieldFrom k ends) (fieldTo k ends) part → now part ≡ field (min k 3) (now line)
+fields-told line part ends e k p =
+    let f = split-places (now line) k in
+    let q : IsPart line (fieldStart (min k 3) (now line)) (fieldEnd (min k 3) (now line)) part = rw (e, f .0, f .1) at p in
+    part-octets line _ _ part q ∙ sym (field-part (now line) (min k 3))

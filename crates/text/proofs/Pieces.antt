@@ -7,9 +7,9 @@ use native.Mathlib.Numerals.{add-one}
 use native.Mathlib.Omega.{arith}
 use lib.Dec.{eqb, ltb, leb·suc-suc}
 use lib.ListN.{length, getD, take, drop, length-drop, drop-of-length-le}
-use lib.Seq.{drop-cons, drop-drop, take-length}
-use borrow.Author.Tests.{eqb-true, eq-eqb, ne-eqb, lt-ltb, le-ltb}
-use Rattle.cases.proofs.ByCases.{by-test, clash, and-left, and-right}
+use lib.Seq.{drop-cons, drop-drop}
+use borrow.Author.Tests.{eq-eqb, ne-eqb, lt-ltb, le-ltb}
+use Rattle.cases.proofs.ByCases.{by-test, clash}
 use Rattle.symbols.proofs.Scan.{Rest, rest-here, rest-next, rest-done, Tested, tested-next, tested-done, same-symbols-short}
 use Rattle.text.specs.Text.{onto, split, upto, same, all, isOther}
 
@@ -121,18 +121,6 @@ module _ (sep : ℕ) (t : List ℕ) (from end : ℕ) (ends : end ≡ from + upto
       let l : length (drop from t) ≤ upto sep (drop from t) = omega (arith, length-drop from t) in
       ap length (split-upto sep (drop from t)) ∙ simp (le-ltb _ _ l)
 
--- a text without a separator is one piece, any other has more
-pub split-one : (sep : ℕ) (t : List ℕ) → length t ≤ upto sep t → split sep t ≡ t ∷ []
-split-one sep t h =
-    let w : upto sep t ≡ length t = omega (arith, upto-le sep t) in
-    split-upto sep t ∙ rw (w, take-length t, le-ltb (length t) (length t) (omega arith))
-
-pub split-more : (sep : ℕ) (t : List ℕ) → upto sep t < length t → 1 < length (split sep t)
-split-more sep t h =
-    let rest = split sep (drop (suc (upto sep t)) t) in
-    let l : length (split sep t) ≡ suc (length rest) = ap length (split-upto sep t) ∙ simp (lt-ltb (upto sep t) (length t) h) in
-    omega (arith, split-some sep (drop (suc (upto sep t)) t))
-
 -- ---- A loop that tests every octet: it stops at the first that fails, or goes through to the end.
 module _ (p : ℕ → Bool) {t : List ℕ} {i : ℕ} (rest : Rest (all p) t i) where
   pub all-go : i < length t → p (getD t i 0) ≡ true → Rest (all p) t (i + 1)
@@ -155,14 +143,6 @@ module _ (p : ℕ → Bool) {t : List ℕ} {i : ℕ} {ok : Bool} (passed : Teste
   pub all-done : length t ≤ i → ok ≡ all p t
   unfolding all
   all-done h = sym (tested-done passed refl h)
-
--- octets none of which can be a separator
-pub all-one : (sep : ℕ) (p : ℕ → Bool) (t : List ℕ) → p sep ≡ false → all p t ≡ true → length t ≤ upto sep t
-unfolding all upto
-all-one sep p [] n e = omega arith
-all-one sep p (c ∷ t) n e =
-    by-test (eqb c sep) (λ d. clash (p c) (and-left (p c) (all p t) e) (rw (eqb-true c sep d) n))
-    (λ d. simp d (omega (arith, all-one sep p t n (and-right (p c) (all p t) e))))
 
 -- ---- Pieces that are passed block by block.
 -- no separator among the first n octets

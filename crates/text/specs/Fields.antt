@@ -16,7 +16,7 @@ fieldStart (suc k) line = fieldStart k line + upto space (drop (fieldStart k lin
 abbrev pub fieldEnd : ℕ → List ℕ → ℕ
 fieldEnd k line = fieldStart k line + upto space (drop (fieldStart k line) line)
 
--- Where the first four fields of a line end. They are all its fields exactly where the fourth ends with the line (`four-fields`).
+-- Where the first four fields of a line end. They are all its fields exactly where the fourth ends with the line (`fields-end`).
 abbrev pub endsOf : List ℕ → Ends
 endsOf line = record { first = fieldEnd 0 line; second = fieldEnd 1 line; third = fieldEnd 2 line; fourth = fieldEnd 3 line }
 

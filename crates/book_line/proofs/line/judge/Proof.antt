@@ -1,127 +1,84 @@
--- `line::judge` meets its contract: a line that is short enough, cut at its first three spaces.
-use mathlib.Core.Path.{_≡_, sym, _∙_}
-use Prim.Native.Nat.{_+_, _-_, _≤_}
+-- `line::judge` meets its contract: a line that is short enough and has four fields is judged by them.
+use mathlib.Core.Path.{_≡_, sym, ap, _∙_}
+use Prim.Native.Nat.{_+_}
 use native.Mathlib.Omega.{arith}
-use lib.ListN.{length, take, drop, length-drop}
-use lib.Seq.{take-all, length-take-le}
-use Rattle.text.specs.Text.{space}
-use Rattle.text.proofs.Pieces.{upto-le}
-use Rattle.book_line.proofs.Judging.{few-fields, cut-fields, too-long, too-few, cut-judged}
+use lib.ListN.{length}
 use borrow.Author.Needs.{needs}
+use denote.Ref.{now}
+use Rattle.text.specs.Fields.{fieldStart, fieldEnd}
+use Rattle.text.specs.declared.field.Ends.{Ends}
+use Rattle.text.proofs.Fields.{fields-end, field-behind, fields-told}
+use Rattle.book_line.proofs.Judging.{too-long, not-four, four-judged}
 use Rattle.book_line.proofs.line.judge.Statement.{statement}
 use Rattle.book_line.proofs.line.judge.Tie as tie
 
 returns : tie.Need-returns
 returns c = too-long _ (c .if1 .taken)
 
-piece-end-requires : tie.Need-piece-end-requires
-piece-end-requires c κs = search needs
-
-add-piece-end : tie.Need-add-piece-end
-add-piece-end c =
-    let line = c .before .before .before .args .line .now in omega (arith, upto-le space (drop 0 line), length-drop 0 line)
-
-piece-end-requires-2 : tie.Need-piece-end-requires-2
-piece-end-requires-2 c κs = search needs
-
-add-piece-end-2 : tie.Need-add-piece-end-2
-add-piece-end-2 c =
-    let line = c .before .before .before .before .args .line .now in
-    let first = c .before .piece-end .result in
-    omega (arith, upto-le space (drop 0 line), length-drop 0 line, upto-le space (drop (first + 1) line), length-drop (first + 1) line)
-
-piece-end-requires-3 : tie.Need-piece-end-requires-3
-piece-end-requires-3 c κs = search needs
+split-requires : tie.Need-split-requires
+split-requires c κs = search needs
 
 returns-2 : tie.Need-returns-2
 returns-2 c =
-    let third = c .before in
-    let second = third .before in
-    let first = second .before in
-    too-few _ (few-fields _ _ _ _ (first .piece-end .ensures) (second .piece-end2 .ensures) (third .piece-end3 .ensures) (c .if2 .taken))
+    let split = c .before .before .split in
+    not-four _ (λ four. c .if2 .taken (ap (λ (e : Ends). e .fourth) (split .ensures) ∙ fields-end _ 3 .0 four))
 
-slice-aggregate-judge-fields : tie.Need-slice-aggregate-judge-fields
-slice-aggregate-judge-fields c =
-    let first = c .before .before .before .before in
-    sym (length-take-le (first .piece-end .result) (first .before .before .before .args .line .now) (omega arith))
+field-requires : tie.Need-field-requires
+field-requires c κs = search needs
+
+field-requires-2 : tie.Need-field-requires-2
+field-requires-2 c κs = search needs
+
+field-requires-3 : tie.Need-field-requires-3
+field-requires-3 c κs = search needs
+
+field-requires-4 : tie.Need-field-requires-4
+field-requires-4 c κs = search needs
 
 add-judge-fields : tie.Need-add-judge-fields
-add-judge-fields c = search needs
-
-sub-judge-fields : tie.Need-sub-judge-fields
-sub-judge-fields c = search needs
-
-part-judge-fields-start : tie.Need-part-judge-fields-start
-part-judge-fields-start c = search needs
-
-part-judge-fields-end : tie.Need-part-judge-fields-end
-part-judge-fields-end c = search needs
-
-add-judge-fields-2 : tie.Need-add-judge-fields-2
-add-judge-fields-2 c = search needs
-
-sub-judge-fields-2 : tie.Need-sub-judge-fields-2
-sub-judge-fields-2 c = search needs
-
-part-judge-fields-start-2 : tie.Need-part-judge-fields-start-2
-part-judge-fields-start-2 c = search needs
-
-part-judge-fields-end-2 : tie.Need-part-judge-fields-end-2
-part-judge-fields-end-2 c = search needs
-
-add-judge-fields-3 : tie.Need-add-judge-fields-3
-add-judge-fields-3 c = search needs
-
-sub-judge-fields-3 : tie.Need-sub-judge-fields-3
-sub-judge-fields-3 c = search needs
-
-part-judge-fields-start-3 : tie.Need-part-judge-fields-start-3
-part-judge-fields-start-3 c = search needs
-
-part-judge-fields-end-3 : tie.Need-part-judge-fields-end-3
-part-judge-fields-end-3 c = search needs
+add-judge-fields c =
+    let ends = c .before .before .before .before .before in
+    let split = ends .before .before in
+    let line = split .before .before .before .args .line .now in
+    let third = ap (λ (e : Ends). e .third) (split .split .ensures) in
+    let fourth = ap (λ (e : Ends). e .fourth) (split .split .ensures) in
+    omega (arith, field-behind line 2, third, fourth, ends .if2 .left)
 
 judge-fields-requires : tie.Need-judge-fields-requires
 judge-fields-requires c κs = search needs
 
 returns-3 : tie.Need-returns-3
 returns-3 c =
-    let apart = c .before .before .before .before .before in
-    let third = apart .before in
-    let second = third .before in
-    let first = second .before in
-    let line = first .before .before .before .args .line .now in
-    let end = third .piece-end3 .result in
-    let fits : length (drop (end + 1) line) ≤ length line - (end + 1) = omega (arith, length-drop (end + 1) line) in
-    let value : take (length line - (end + 1)) (drop (end + 1) line) ≡ drop (end + 1) line = take-all _ _ fits in
+    let value = c .before .before in
+    let event = value .before in
+    let unit = event .before in
+    let period = unit .before in
+    let four = period .before in
+    let split = four .before .before in
+    let line = split .before .before .before .args .line in
+    let ends = split .split .result in
+    let last : fieldEnd 3 (now line) ≡ length (now line) = sym (ap (λ (e : Ends). e .fourth) (split .split .ensures)) ∙ four .if2 .left in
+    let at : ends .third + 1 ≡ fieldStart 3 (now line) =
+    ap (λ (e : Ends). e .third + 1) (split .split .ensures) ∙ sym (field-behind (now line) 2) in
     c .judge-fields .ensures
-    ∙ rw value
-    (cut-judged line _ _ _ _ (first .before .if1 .left)
-    (cut-fields line _ _ _ (first .piece-end .ensures) (second .piece-end2 .ensures) (third .piece-end3 .ensures) (apart .if2 .left)))
+    ∙ four-judged (now line) _ _ _ _ _ (split .before .if1 .left) (fields-end (now line) 3 .1 last)
+    (fields-told line _ ends (split .split .ensures) 0 (period .field .ensures))
+    (fields-told line _ ends (split .split .ensures) 1 (unit .field2 .ensures))
+    (fields-told line _ ends (split .split .ensures) 2 (event .field3 .ensures))
+    (fields-told line _ ends (split .split .ensures) 3 (value .field4 .ensures))
+    at
 
 pub judge-spec : {M : Type 1} → statement M
 judge-spec =
     tie.close
     (tie.spec
     returns
-    piece-end-requires
-    add-piece-end
-    piece-end-requires-2
-    add-piece-end-2
-    piece-end-requires-3
+    split-requires
     returns-2
-    slice-aggregate-judge-fields
+    field-requires
+    field-requires-2
+    field-requires-3
+    field-requires-4
     add-judge-fields
-    sub-judge-fields
-    part-judge-fields-start
-    part-judge-fields-end
-    add-judge-fields-2
-    sub-judge-fields-2
-    part-judge-fields-start-2
-    part-judge-fields-end-2
-    add-judge-fields-3
-    sub-judge-fields-3
-    part-judge-fields-start-3
-    part-judge-fields-end-3
     judge-fields-requires
     returns-3)

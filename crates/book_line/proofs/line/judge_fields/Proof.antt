@@ -15,7 +15,7 @@ enum-told : tie.Need-enum-told
 enum-told c = search needs
 
 returns : tie.Need-returns
-returns c = wrong-period _ _ _ _ (sym (c .enum-told .given .1) ∙ c .before .before .digits .ensures)
+returns c = wrong-period _ _ _ _ _ _ (sym (c .enum-told .given .1) ∙ c .before .before .digits .ensures)
 
 digits-requires-2 : tie.Need-digits-requires-2
 digits-requires-2 c κs = search needs
@@ -27,7 +27,7 @@ enum-told-2 : tie.Need-enum-told-2
 enum-told-2 c = search needs
 
 returns-2 : tie.Need-returns-2
-returns-2 c = wrong-unit _ _ _ _ (sym (c .enum-told2 .given .1) ∙ c .before .before .digits2 .ensures)
+returns-2 c = wrong-unit _ _ _ _ _ _ (sym (c .enum-told2 .given .1) ∙ c .before .before .digits2 .ensures)
 
 event-named-requires : tie.Need-event-named-requires
 event-named-requires c κs = search needs
@@ -38,7 +38,7 @@ value-fits-requires c κs = search needs
 returns-3 : tie.Need-returns-3
 returns-3 c =
     let value = c .before in
-    wrong-told _ _ _ _ _ _ (value .before .event-named .ensures) (value .value-fits .ensures) (c .if1 .taken)
+    wrong-told _ _ _ _ _ _ _ (value .before .event-named .ensures) (value .value-fits .ensures) (c .if1 .taken)
 
 returns-4 : tie.Need-returns-4
 returns-4 c =
@@ -46,7 +46,7 @@ returns-4 c =
     let unit = value .before .before .before in
     let second = unit .before .before in
     let period = second .before .before in
-    right _ _ _ _ _ _ _ _
+    right _ _ _ _ _ _ _ _ _
     (sym (period .period .given .1) ∙ period .before .before .digits .ensures)
     (sym (unit .unit .given .1) ∙ second .digits2 .ensures)
     (value .before .event-named .ensures)
