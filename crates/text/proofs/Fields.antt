@@ -77,7 +77,8 @@ module _ (line : List ℕ) where
       omega (arith, some-fields k (omega arith), cut-last space line (fieldStart k line) (fieldEnd k line) refl (omega arith))
 
   -- A line has k + 1 fields exactly where field k ends with the line.
-  pub fields-end : (k : ℕ) → (length (fields line) ≡ suc k → fieldEnd k line ≡ length line) × (fieldEnd k line ≡ length line → length (fields line) ≡ suc k)
+  pub fields-end : (k : ℕ)
+      → (length (fields line) ≡ suc k → fieldEnd k line ≡ length line) × (fieldEnd k line ≡ length line → length (fields line) ≡ suc k)
   fields-end k = (last-ends k, ends-last k)
 
   -- A field begins behind the space that ends the one before it.

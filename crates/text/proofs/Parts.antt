@@ -12,7 +12,8 @@ use Rattle.cases.proofs.ByCases.{by-test}
 use Rattle.text.specs.Part.{IsPart, partBegin, partEnd}
 
 -- what is cut out from `from` to `to` is the same where both go no farther than the text
-cut-same : (t : List ℕ) (from to : ℕ) → take (partEnd to t - partBegin from to t) (drop (partBegin from to t) t) ≡ take (to - from) (drop from t)
+cut-same : (t : List ℕ) (from to : ℕ)
+    → take (partEnd to t - partBegin from to t) (drop (partBegin from to t) t) ≡ take (to - from) (drop from t)
 cut-same t from to =
     by-test (ltb from (length t))
     (λ h. let i : from < length t = ltb-true from (length t) h in by-test (ltb to (length t))
@@ -28,10 +29,14 @@ cut-same t from to =
     rw (z, drop-of-length-le t {i = from} i) (sym (take-nil (to - from))))
 
 module _ (text : RefT (List ℕ)) (from to : ℕ) (part : RefT (List ℕ)) where
-  -- what is cut out of a text from begin to end
+  -- the first octets of what a text has from begin on
   pub part-cut : (begin end : ℕ) → end ≡ min to (length (now text)) → begin ≡ min from end
-      → ptr part .0 ≡ ptr text .0 → ptr part .1 ≡ begin + ptr text .1 → now part ≡ take (end - begin) (drop begin (now text)) → IsPart text from to part
-  part-cut begin end e b block place octets = record { block = block; place = omega arith; octets = rw (sym e, sym b) octets }
+      → ptr part .0 ≡ ptr text .0 → ptr part .1 ≡ begin + ptr text .1
+      → now part ≡ take (end - begin) (take (length (now text) - begin) (drop begin (now text))) → IsPart text from to part
+  part-cut begin end e b block place octets =
+      let whole : take (length (now text) - begin) (drop begin (now text)) ≡ drop begin (now text) =
+      take-all (length (now text) - begin) (drop begin (now text)) (omega (arith, length-drop begin (now text))) in
+      record { block = block; place = omega arith; octets = rw (sym e, sym b) (octets ∙ rw whole) }
 
   -- a part that begins behind a place past the text's end begins, as the text does there, at its end
   pub part-behind : (before least : ℕ) → from ≡ least + 1 → least ≡ min before (length (now text)) → IsPart text from to part

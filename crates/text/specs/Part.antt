@@ -1,5 +1,5 @@
--- Parts of a text. A part is told by where it lies in the caller's slice, and not only by what it holds: another place with the same octets,
--- or octets of somebody else's, are no such part.
+-- Parts of a text. A part is told by where it lies in the caller's slice, and not only by what it holds: another place with the same
+-- octets, or octets of somebody else's, are no such part.
 use mathlib.Core.Path.{_≡_}
 use mathlib.Core.List.{List}
 use Prim.Native.Nat.{ℕ, _+_, _-_, min}
@@ -13,7 +13,8 @@ partEnd to text = min to (length text)
 abbrev pub partBegin : ℕ → ℕ → List ℕ → ℕ
 partBegin from to text = min from (partEnd to text)
 
--- `part` is the part from `from` to `to` of the slice `text`: the same block of memory, so many octets on (an octet has size 1), and its octets.
+-- `part` is the part from `from` to `to` of the slice `text`: in the same block of memory, so many octets on (an octet has size 1), and
+-- with the octets that stand there.
 pub record IsPart (text : RefT (List ℕ)) (from to : ℕ) (part : RefT (List ℕ)) : Type 0 where
   pub block : ptr part .0 ≡ ptr text .0
   pub place : ptr part .1 ≡ ptr text .1 + partBegin from to (now text)

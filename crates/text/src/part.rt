@@ -8,5 +8,6 @@ pub fn part(text: &[u8], from: usize, to: usize) -> &[u8]
 {
     let end = least(to, text.len());
     let begin = least(from, end);
-    &text[begin..end]
+    let rest = &text[begin..];
+    &rest[..end - begin]
 }

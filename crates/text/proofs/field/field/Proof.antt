@@ -43,13 +43,15 @@ returns-2 : tie.Need-returns-2
 returns-2 c =
     let least = c .before .least in
     let a = c .before .before .before .before .args in
-    rw (c .before .before .match .keys2) (part-behind (a .line) _ _ _ (a .ends .first) (least .result) refl (least .ensures) (c .part2 .ensures))
+    rw (c .before .before .match .keys2)
+    (part-behind (a .line) _ _ _ (a .ends .first) (least .result) refl (least .ensures) (c .part2 .ensures))
 
 returns-3 : tie.Need-returns-3
 returns-3 c =
     let least = c .before .least2 in
     let a = c .before .before .before .before .args in
-    rw (c .before .before .match .keys3) (part-behind (a .line) _ _ _ (a .ends .second) (least .result) refl (least .ensures) (c .part3 .ensures))
+    rw (c .before .before .match .keys3)
+    (part-behind (a .line) _ _ _ (a .ends .second) (least .result) refl (least .ensures) (c .part3 .ensures))
 
 returns-4 : tie.Need-returns-4
 returns-4 c =
