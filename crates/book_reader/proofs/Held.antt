@@ -31,12 +31,13 @@ use denote.Struct.Rest.{all-own, ownAt, rest, own-open, own-out}
 use denote.Struct.Values.{Values}
 use denote.Triple.Statement.{Contract}
 use denote.Triple.Spec.{tripleOf}
-use Rattle.walks.proofs.Slices.{uint-kind}
+use Rattle.walks.proofs.Slices.{Kind, uint-kind, enum-kind}
 use Rattle.walks.proofs.Ways.{Way, plain-way}
 use Rattle.book_reader.specs.declared.lent.Reader.{Reader}
 use Rattle.book_reader.proofs.lent.Reader as T
 use Rattle.book_reader.proofs.lent.Reader.Laws as T′
-use Rattle.book_reader.proofs.lent.new as new
+use Rattle.book_reader.proofs.step.Step as S
+use Rattle.book_reader.proofs.step.Step.Laws as S′
 
 -- the struct's type, over the signature's lifetimes
 abbrev pub B : Lfts 1 → RattleType
@@ -54,6 +55,12 @@ reader-way =
 
 abbrev pub number-way : (w : Width) → Way 1 (plain (λ _. UInt w)) yes
 number-way w = plain-way (UInt w) (uint-kind w) (λ x f. refl)
+
+abbrev pub steps : Kind S.the-row
+steps = enum-kind S.the-type S′.the-laws tt S′.the-plain S′.the-copy S′.mir refl
+
+abbrev pub step-way : Way 1 (plain (λ _. S.the-row)) yes
+step-way = plain-way S.the-row steps (λ x f. refl)
 
 -- the machine's value of a lent text, and what it owns
 abbrev pub lent : RefT (List ℕ) → Val
@@ -84,20 +91,3 @@ module _ {M : Type 1} (𝓤 : URA M) (H : Heap 𝓤) (A : Atoms 𝓤) (W : Given
       learn ! (λ _. use1 W (‵ (ownAt (D .parts) L 0 (d .text)) ⊛ ‵ (rest (D .parts) L 0 vd)) (own-out 𝓤 H A W (D .parts) L 0 vd) $ split ! $
       -- [what the text owns; what the number owns; what the struct owns]
       move ! (1 ∷ []) $ drop ! $ move ! (1 ∷ []) $ frame ! $ done !)
-
-module _ {M : Type 1} (𝓤 : URA M) (H : Heap 𝓤) (A : Atoms 𝓤) (mem : Memory → SProp 𝓤) (run : Routine → Fun 𝓤) where
-  -- the contract of `new`
-  abbrev pub New : Contract 𝓤
-  New = tripleOf 𝓤 H A new.signature (new.spec 𝓤 H A mem run)
-
-module _ {M : Type 1} (𝓤 : URA M) (H : Heap 𝓤) (A : Atoms 𝓤) (W : Given 𝓤 H A) (mem : Memory → SProp 𝓤) (run : Routine → Fun 𝓤) (κ : Lft)
-    (q : Share) (s : RefT (List ℕ)) (n : ℕ) where
-  -- its call at the text s and the position n
-  abbrev pub to-new : New 𝓤 H A mem run .Ghost
-  to-new = (((κ, tt), (q, tt), tt, (s, (n, tt)), (lent s ∷ [], (vint w64 n ∷ [], tt))), tt)
-
-  pub goes-new : n < 2 ^ 64 → ent 𝓤 (⋆ 𝓤 H A (‵ (Text κ s) ∷ (‵ (flft κ q) ⊛ ‵ ftrue) ∷ [])) (New 𝓤 H A mem run .pre to-new)
-  goes-new ok =
-      qed W (‵ (Text κ s) ∷ (‵ (flft κ q) ⊛ ‵ ftrue) ∷ []) ∵
-      nothing ! $ owned ! usize (Is usize) (uint-makes 𝓤 H A W w64) n _ (refl, ok) $ fjoin ! $ move ! (1 ∷ 0 ∷ []) $ fjoin ! $
-      move ! (1 ∷ 0 ∷ []) $ join ! $ frame ! $ done !

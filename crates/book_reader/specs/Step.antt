@@ -1,12 +1,12 @@
 -- One call on lent text, "what lies in" the program's buffer: what it answers, from the octets not yet taken.
 -- An answer says how many of them it takes, not where they stand. `whole` says that the text reaches to the book's end.
 use mathlib.Core.Bool.{Bool, cond}
-use mathlib.Core.List.{List}
-use Prim.Native.Nat.{ℕ, _+_, _-_}
+use mathlib.Core.List.{List, []}
+use Prim.Native.Nat.{ℕ, _+_, _-_, min}
 use lib.Dec.{eqb, ltb}
 use lib.ListN.{length, take, drop}
 use Rattle.text.specs.Text.{LF, upto, same, field}
-use Rattle.book_line.specs.Line.{longestLine, judged, inOrder}
+use Rattle.book_line.specs.Line.{longestLine, judged, inOrder, valueOf}
 use Rattle.book_line.specs.declared.line.Judged.{Judged}
 use Rattle.book_reader.specs.Book.{firstLine}
 use Rattle.book_reader.specs.declared.step.Step.{Step}
@@ -74,3 +74,15 @@ lineAt text at octets = take (octets - 1) (drop at text)
 
 abbrev pub fieldOf : List ℕ → ℕ → ℕ → ℕ → List ℕ
 fieldOf text at octets which = field which (lineAt text at octets)
+
+-- The value of the line at `at` that an answer is of; of any other answer there is none.
+unfoldable pub valueAt : List ℕ → ℕ → Step → List ℕ
+valueAt text at Step.Begun = []
+valueAt text at (Step.Entry p u e octets) = valueOf (lineAt text at octets)
+valueAt text at Step.Done = []
+valueAt text at (Step.Fault n) = []
+valueAt text at Step.More = []
+
+-- A reader goes on by the octets of what it has read, at most to the text's end.
+abbrev pub movedOn : ℕ → ℕ → ℕ → ℕ
+movedOn at octets length = min (at + octets) length

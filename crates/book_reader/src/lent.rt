@@ -1,9 +1,11 @@
-// The book reader: the lent text by reference, and how far it has read. Its calls are thin over `step_at` and `field_of`.
+// The book reader: the lent text by reference, and how far it has read. Its calls are thin over covered functions on the text and numbers.
 ghost use mathlib.Core.Path.{_≡_};
-ghost use Rattle.book_reader.specs.Step.{stepAt, fieldOf};
+ghost use lib.ListN.{length};
+ghost use Rattle.book_reader.specs.Step.{stepAt, movedOn, valueAt};
 use crate::step::Step;
-use crate::step::field_of;
+use crate::step::moved_on;
 use crate::step::step_at;
+use crate::step::value_at;
 
 // The lent text, and how far it has been read.
 pub struct Reader<'a> {
@@ -11,37 +13,39 @@ pub struct Reader<'a> {
     pub at: usize,
 }
 
-// A reader of the text that has read up to `at`.
-pub fn new<'a>(text: &'a [u8], at: usize) -> Reader<'a>
-    ensures { λ r. ⌜ (r .text ≡ text .entry) × (r .at ≡ at) ⌝ }
+// A reader of the text that has read nothing.
+pub fn new<'a>(text: &'a [u8]) -> Reader<'a>
+    ensures { λ r. ⌜ (r .text ≡ text .entry) × (r .at ≡ 0) ⌝ }
 {
-    Reader { text, at }
+    Reader { text, at: 0 }
 }
 
 // What stands where the reader is; `whole` says that its text reaches to the book's end.
-pub fn next<'a>(r: Reader<'a>, stage: u8, last: u32, whole: bool) -> Step
+pub fn read<'a>(r: Reader<'a>, stage: u8, last: u32, whole: bool) -> Step
     ensures { λ s. ⌜ s ≡ stepAt (now (r .entry .text)) (r .entry .at) stage last whole ⌝ }
 {
     step_at(r.text, r.at, stage, last, whole)
 }
 
-// What stands at `at` of a lent text: the reader is made and asked. Its parameters are plain, so whoever calls it needs no walk.
-pub fn read_at(text: &[u8], at: usize, stage: u8, last: u32, whole: bool) -> Step
-    ensures { λ s. ⌜ s ≡ stepAt (now (text .entry)) at stage last whole ⌝ }
+// The value of the line that it has read there, as the part of the lent text that it is; empty where it has read no line.
+pub fn value<'a>(r: Reader<'a>, said: Step) -> &'a [u8]
+    ensures { λ s. ⌜ now s ≡ valueAt (now (r .entry .text)) (r .entry .at) said ⌝ }
 {
-    next(new(text, at), stage, last, whole)
+    value_at(r.text, r.at, said)
 }
 
-// Field `which` of the line of so many octets, its LF included, as the part of the lent text that it is.
-pub fn part<'a>(r: Reader<'a>, octets: usize, which: usize) -> &'a [u8]
-    ensures { λ s. ⌜ now s ≡ fieldOf (now (r .entry .text)) (r .entry .at) octets which ⌝ }
+// The reader moved on by so many octets, at most to the text's end.
+pub fn next<'a>(r: Reader<'a>, octets: usize) -> Reader<'a>
+    ensures { λ q. ⌜ (q .text ≡ r .entry .text) × (q .at ≡ movedOn (r .entry .at) octets (length (now (r .entry .text)))) ⌝ }
 {
-    field_of(r.text, r.at, octets, which)
+    let text = r.text;
+    let at = moved_on(r.at, octets, text.len());
+    Reader { text, at }
 }
 
-// The same of a lent text whose line starts at `at`: the reader is made and asked. Its parameters are plain.
-pub fn part_at(text: &[u8], at: usize, octets: usize, which: usize) -> &[u8]
-    ensures { λ s. ⌜ now s ≡ fieldOf (now (text .entry)) at octets which ⌝ }
+// How far it has read.
+pub fn at<'a>(r: Reader<'a>) -> usize
+    ensures { λ n. ⌜ n ≡ r .entry .at ⌝ }
 {
-    part(new(text, at), octets, which)
+    r.at
 }

@@ -20,6 +20,9 @@ pub const AT_LINES: u8 = 1;
 
 pub const AFTER_END: u8 = 2;
 
+// The field of a line that is its value: period, unit and event come before it.
+const VALUE: usize = 3;
+
 // The octets of the book's first line, its LF included.
 const FIRST_LINE_LENGTH: usize = 24;
 
@@ -170,4 +173,25 @@ pub fn field_of(text: &[u8], at: usize, octets: usize, which: usize) -> &[u8]
     let n = octets - least(octets, 1);
     let to = from + least(n, text.len() - from);
     field(&text[from..to], which)
+}
+
+// The value of the line at `at` that `said` is an entry of, as the part of the text that it is; empty where no line was read.
+pub fn value_at(text: &[u8], at: usize, said: Step) -> &[u8]
+    ensures { λ r. ⌜ now r ≡ spec.valueAt (now (text .entry)) at said ⌝ }
+{
+    let Step::Entry { octets, .. } = said else {
+        return &text[..0];
+    };
+    field_of(text, at, octets, VALUE)
+}
+
+// So many octets further on, at most at the text's end.
+pub fn moved_on(at: usize, octets: usize, length: usize) -> usize
+    ensures { λ r. ⌜ r ≡ spec.movedOn at octets length ⌝ }
+{
+    let from = least(at, length);
+    if octets <= length - from {
+        return from + octets;
+    }
+    length
 }

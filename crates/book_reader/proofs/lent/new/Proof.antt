@@ -1,10 +1,10 @@
--- `book_reader::lent::new` meets its contract: a walk of its MIR with the lemmas of crate `walks`. A `Reader` is made of the slice and the
--- number passed, in the result's local. Assumes nothing.
-use Rattle.walks.proofs.Walk.{refl, ℕ, _<_, _^_, List, [], _∷_, URA, named, w64, Val, vint, SProp, ent, emp, via, fst∗, Lft, Share, ftrue, flft}
+-- `book_reader::lent::new` meets its contract: a walk of its MIR with the lemmas of crate `walks`. A `Reader` is made of the slice passed and
+-- 0, in the result's local. Assumes nothing.
+use Rattle.walks.proofs.Walk.{refl, ℕ, List, [], _∷_, lit<, URA, named, w64, Val, SProp, ent, emp, via, fst∗, Lft, Share, ftrue, flft}
 use Rattle.walks.proofs.Walk.{Memory, Routine, Heap, Tables, WpFn, Atoms, Fun, givenOf, tables, tablesOf, Given, ‵, raw, _⊛_, _$_, _∵_, !, qed}
-use Rattle.walks.proofs.Walk.{by, move, use1, split, fsplit, fjoin, suffices, frame, agg, no-more, and-then, owns, Is, uint-makes, u8, usize, ShrSlice}
-use Rattle.walks.proofs.Walk.{owned, nothing, Vals, onEntry, Meets, tripleOf, entered, says, walkOf, ends-at, uint-kind, loc, sets, enters, leaves}
-use Rattle.walks.proofs.Walk.{shr-way, plain-way, Ways-of, stays-of, meets-by}
+use Rattle.walks.proofs.Walk.{by, move, use1, split, fsplit, fjoin, suffices, frame, agg, lit, no-more, and-then, owns, Is, uint-makes, u8, usize, ShrSlice}
+use Rattle.walks.proofs.Walk.{owned, nothing, Vals, onEntry, Meets, tripleOf, entered, says, walkOf, ends-at, loc, sets, enters, leaves}
+use Rattle.walks.proofs.Walk.{shr-way, Ways-of, stays-of, meets-by}
 use denote.Ref.{RefT, NamedLft}
 use denote.Signature.{namedLft}
 use denote.Slice.{shr-slice-lawful, shr-slice-copy}
@@ -19,49 +19,49 @@ use Rattle.book_reader.proofs.lent.new.Statement as stated
 use Rattle.book_reader.proofs.lent.new.Code as code
 
 abbrev ways : Ways-of new.ended
-ways = (shr-way 0 tt u8, (plain-way usize (uint-kind w64) (λ x f. refl), tt))
+ways = (shr-way 0 tt u8, tt)
 
 module _ {M : Type 1} (𝓤 : URA M) (H : Heap 𝓤) (A : Atoms 𝓤) (W : Given 𝓤 H A) (mem : Memory → SProp 𝓤) (run : Routine → Fun 𝓤) (κ : Lft)
-    (q : Share) (s : RefT (List ℕ)) (n : ℕ) (ok : n < 2 ^ 64) where
+    (q : Share) (s : RefT (List ℕ)) where
   abbrev α : NamedLft
   α = namedLft 1 0 tt (κ, tt)
 
   abbrev made : Reader
-  made = record { text = s; at = n }
+  made = record { text = s; at = 0 }
 
   abbrev at : Vals new.signature (κ, tt)
-  at = (lent s ∷ [], (vint w64 n ∷ [], tt))
+  at = (lent s ∷ [], tt)
 
   abbrev bound : walkOf 𝓤 H A new.ended (stays-of new.ended ways) (new.clauses 𝓤 H A mem run) .Ghost
-  bound = (((κ, tt), (q, tt), tt, (s, (n, tt)), at), tt)
+  bound = (((κ, tt), (q, tt), tt, (s, tt), at), tt)
 
   abbrev Post : Val → SProp 𝓤
   Post = walkOf 𝓤 H A new.ended (stays-of new.ended ways) (new.clauses 𝓤 H A mem run) .post bound
 
-  exits : ent 𝓤 (onEntry 𝓤 H A new.signature (κ, tt) (q, tt) (s, (n, tt)) at) (Post (T′.lowered made))
+  exits : ent 𝓤 (onEntry 𝓤 H A new.signature (κ, tt) (q, tt) (s, tt) at) (Post (T′.lowered made))
   exits =
-      qed W ((‵ (flft κ q) ⊛ ‵ ftrue) ∷ ‵ (owns (ShrSlice (named 0) κ u8 ∷ usize ∷ []) (s, (n, tt)) at) ∷ []) ∵
-      suffices ! _ (ends-at 𝓤 H A new.ended (stays-of new.ended ways) (new.clauses 𝓤 H A mem run) W bound (T′.lowered made) made (tt, (tt, tt))
-      (tt, (tt, tt))) $ says ! (refl, refl) $
+      qed W ((‵ (flft κ q) ⊛ ‵ ftrue) ∷ ‵ (owns (ShrSlice (named 0) κ u8 ∷ []) (s, tt) at) ∷ []) ∵
+      suffices ! _ (ends-at 𝓤 H A new.ended (stays-of new.ended ways) (new.clauses 𝓤 H A mem run) W bound (T′.lowered made) made (tt, tt)
+      (tt, tt)) $ says ! (refl, refl) $
       frame ! $ fsplit ! $ use1 W (‵ (Text κ s) ⊛ ‵ (Text κ s)) (shr-slice-copy 𝓤 H A W (named 0) κ u8 .twice s (lent s ∷ [])) $ split ! $
       move ! (0 ∷ 2 ∷ []) $ fjoin ! $ frame ! $
       -- [what text owns]: what the fields own together, of it and of at's facts, is what the struct owns
-      nothing ! $ owned ! usize (Is usize) (uint-makes 𝓤 H A W w64) n _ (refl, ok) $ fjoin ! $ move ! (1 ∷ 0 ∷ []) $ fjoin ! $
-      by ! (own-shut 𝓤 H A W (T.the-type α) (T′.the-laws α) (s, (n, tt)))
+      nothing ! $ owned ! usize (Is usize) (uint-makes 𝓤 H A W w64) 0 _ (refl, lit< tt) $ fjoin ! $ move ! (1 ∷ 0 ∷ []) $ fjoin ! $
+      by ! (own-shut 𝓤 H A W (T.the-type α) (T′.the-laws α) (s, (0, tt)))
 
-  walk : (𝓣 : Tables 𝓤 H) → Is (ShrSlice (named 0) κ u8) s (lent s ∷ []) → ent 𝓤 (onEntry 𝓤 H A new.signature (κ, tt) (q, tt) (s, (n, tt)) at)
-      (WpFn 𝓤 H (𝓣 .C) (𝓣 .Λ) code.function (lent s ∷ vint w64 n ∷ []) Post)
+  walk : (𝓣 : Tables 𝓤 H) → Is (ShrSlice (named 0) κ u8) s (lent s ∷ []) → ent 𝓤 (onEntry 𝓤 H A new.signature (κ, tt) (q, tt) (s, tt) at)
+      (WpFn 𝓤 H (𝓣 .C) (𝓣 .Λ) code.function (lent s ∷ []) Post)
   walk 𝓣 p =
       let typed = shr-slice-lawful 𝓤 H A W (named 0) κ u8 .typed s (lent s ∷ []) p .0 in
-      qed W (raw (onEntry 𝓤 H A new.signature (κ, tt) (q, tt) (s, (n, tt)) at) ∷ []) ∵
-      enters ! (𝓣 .C) (𝓣 .Λ) code.function (lent s ∷ vint w64 n ∷ []) Post (typed, ((tt, record { fits = ok }), tt)) (λ bs.
-      sets ! (agg ! (and-then ! (loc ! tt refl) (and-then ! (loc ! tt refl) (no-more !)))) tt (tt, (typed .1, (record { fits = ok }, tt))) $
+      qed W (raw (onEntry 𝓤 H A new.signature (κ, tt) (q, tt) (s, tt) at) ∷ []) ∵
+      enters ! (𝓣 .C) (𝓣 .Λ) code.function (lent s ∷ []) Post (typed, tt) (λ bs.
+      sets ! (agg ! (and-then ! (loc ! tt refl) (and-then ! (lit ! tt) (no-more !)))) tt (tt, (typed .1, (record { fits = lit< tt }, tt))) $
       leaves ! Post refl tt refl exits)
 
 meets : {M : Type 1} (𝓤 : URA M) (H : Heap 𝓤) (A : Atoms 𝓤) (W : Given 𝓤 H A) (mem : Memory → SProp 𝓤) (run : Routine → Fun 𝓤) (𝓣 : Tables 𝓤 H)
     → Meets 𝓤 H A new.signature (WpFn 𝓤 H (𝓣 .C) (𝓣 .Λ) code.function) (new.spec 𝓤 H A mem run)
 meets 𝓤 H A W mem run 𝓣 = meets-by 𝓤 H A W new.ended ways (new.clauses 𝓤 H A mem run) 𝓣 code.function (λ κs qs bounds a g are.
-    via 𝓤 _ (fst∗ 𝓤 _ (emp 𝓤)) (walk 𝓤 H A W mem run (κs .0) (qs .0) (a .0) (a .1 .0) (are .1 .0 .1) 𝓣 (are .0)))
+    via 𝓤 _ (fst∗ 𝓤 _ (emp 𝓤)) (walk 𝓤 H A W mem run (κs .0) (qs .0) (a .0) 𝓣 (are .0)))
 
 pub new-spec : {M : Type 1} → stated.statement M
 unfolding code.routine tablesOf
