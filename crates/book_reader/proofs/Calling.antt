@@ -1,4 +1,4 @@
--- A call in a walk whose result may hold a reference: what the result owns is had, and what the contract says of it.
+-- A call in a walk whose result may hold a reference: what the result owns is had, its machine value, and what the contract says of it.
 use mathlib.Core.List.{List, [], _∷_}
 use lib.Dec.{T}
 use lib.ListN.{getD, set}
@@ -35,7 +35,7 @@ module _ {M : Type 1} {𝓤 : URA M} {H : Heap 𝓤} {A : Atoms 𝓤} {K : Type 
       → Opds K W (held W E hs ∷ i ∷ Γ) E xs (passed 𝓤 H A (T′ .signature) (y .0)) → T (there E hs d)
       → ((r : Res (T′ .signature) (y .0 .0)) (v : Val) → Is (typeAt (T′ .signature .result) (y .0 .0)) r (v ∷ []) → T
       (hasTy (getD E d (noLocal 𝓤 H) .0) v) × WT v)
-      → ((r : Res (T′ .signature) (y .0 .0)) (v : Val) → Said r
+      → ((r : Res (T′ .signature) (y .0 .0)) (v : Val) → Said r → Is (typeAt (T′ .signature .result) (y .0 .0)) r (v ∷ [])
       → Seq K W (held W E (set hs d (has v)) ∷ ‵ (typeAt (T′ .signature .result) (y .0 .0) .own r (v ∷ [])) ∷ back ∷ Γ)
       (runs (𝓣 .C) (𝓣 .Λ) E rest qp))
       → Seq K W (held W E hs ∷ i ∷ Γ) (runs (𝓣 .C) (𝓣 .Λ) E (seq (call f xs (place d [])) rest) qp)
@@ -52,4 +52,4 @@ module _ {M : Type 1} {𝓤 : URA M} {H : Heap 𝓤} {A : Atoms 𝓤} {K : Type 
       drop t $ move t (1 ∷ []) $
       peeks t (typeAt (T′ .signature .result) (y .0 .0)) (Is (typeAt (T′ .signature .result) (y .0 .0)))
       (shows 𝓤 H A (typeAt (T′ .signature .result) (y .0 .0))) r (v ∷ []) (λ g.
-      move t (2 ∷ []) $ lands-in t there (typed r v g) $ go r v is)))))
+      move t (2 ∷ []) $ lands-in t there (typed r v g) $ go r v is g)))))

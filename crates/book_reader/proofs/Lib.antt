@@ -4,6 +4,7 @@
 pub mod Returns
 pub mod Held
 pub mod Calling
+pub mod Asking
 pub mod Moving
 pub mod Cut
 pub mod RunOn

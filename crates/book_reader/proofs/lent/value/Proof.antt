@@ -106,7 +106,7 @@ module _ {M : Type 1} (𝓤 : URA M) (H : Heap 𝓤) (A : Atoms 𝓤) (W : Given
       calls-own ! 𝓣 value-at.ended (value-at.clauses 𝓤 H A mem run) known to (id⊢ 𝓤 _) (‵ (flft κ q) ⊛ ‵ ftrue) (id⊢ 𝓤 _) (λ r. now r ≡ found)
       (λ r ws. id⊢ 𝓤 _)
       (and-then ! (loc ! tt refl) (and-then ! (loc ! tt refl) (and-then ! (loc ! tt refl) (no-more !)))) tt
-      (λ r v g. shr-slice-lawful 𝓤 H A W (named 0) κ u8 .typed r _ g .0) (λ r v e. leaves ! Post refl tt refl (exits r v e)))
+      (λ r v g. shr-slice-lawful 𝓤 H A W (named 0) κ u8 .typed r _ g .0) (λ r v e g. leaves ! Post refl tt refl (exits r v e)))
 
 meets : {M : Type 1} (𝓤 : URA M) (H : Heap 𝓤) (A : Atoms 𝓤) (W : Given 𝓤 H A) (mem : Memory → SProp 𝓤) (run : Routine → Fun 𝓤) (𝓣 : Tables 𝓤 H)
     → Triple 𝓤 (𝓣 .C #value-at) (ValueAt 𝓤 H A mem run)
