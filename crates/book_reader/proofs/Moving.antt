@@ -45,7 +45,7 @@ front-turn buf start i h =
     ∙ (sym (ap (λ (k : ℕ). set (fronted start i buf) k (getD (drop start buf) i 0)) (zero-add i))
     ∙ paste-suc buf 0 (drop start buf) i 0 (omega arith) (omega (arith, length-drop start buf))))
 
-rest-is : (f e : ℕ) (l : List ℕ) → take (e - f) (drop f l) ≡ drop f (take e l)
+pub rest-is : (f e : ℕ) (l : List ℕ) → take (e - f) (drop f l) ≡ drop f (take e l)
 rest-is zero e l = let z : e - 0 ≡ e = omega arith in rw z
 rest-is (suc f) zero l = let z : 0 - suc f ≡ 0 = omega arith in rw z
 rest-is (suc f) (suc e) [] = take-nil (suc e - suc f)

@@ -13,7 +13,7 @@ use Rattle.text.specs.Text.{LF, upto}
 use Rattle.book_line.specs.Line.{longestLine, judged, inOrder}
 use Rattle.book_line.proofs.Judging.{judged-twelve}
 use Rattle.book_line.specs.declared.line.Judged.{Judged}
-use Rattle.book_reader.specs.Step.{BEFORE-FIRST-LINE, AT-LINES, ruled, window, lineStep, unended, headStep, tailStep, stepOf, stepAt, lineAt}
+use Rattle.book_reader.specs.Step.{BEFORE-FIRST-LINE, AT-LINES, ruled, window, lineStep, unended, headStep, tailStep, stepOf, stepAt}
 use Rattle.book_reader.specs.declared.step.Step.{Step}
 
 -- ---- a line that is judged
@@ -26,9 +26,9 @@ module _ (last end : ℕ) where
   unfolding ruled
   ruled-late p u e v j q f = let z : Step.Fault 13 ≡ ruled last end (Judged.Entry p u e v) = rw f in z ∙ ap (ruled last end) q
 
-  pub ruled-entry : (p u e v : ℕ) (j : Judged) → Judged.Entry p u e v ≡ j → inOrder last p ≡ true → Step.Entry p u e end ≡ ruled last end j
+  pub ruled-entry : (p u e v : ℕ) (j : Judged) → Judged.Entry p u e v ≡ j → inOrder last p ≡ true → Step.Entry p u e v end ≡ ruled last end j
   unfolding ruled
-  ruled-entry p u e v j q f = let z : Step.Entry p u e end ≡ ruled last end (Judged.Entry p u e v) = rw f in z ∙ ap (ruled last end) q
+  ruled-entry p u e v j q f = let z : Step.Entry p u e v end ≡ ruled last end (Judged.Entry p u e v) = rw f in z ∙ ap (ruled last end) q
 
 -- ---- the search for a line's LF
 -- no more than are there
@@ -84,16 +84,3 @@ module _ (text : List ℕ) (at from : ℕ) (least : from ≡ min at (length text
   unfolding stepOf
   at-tail stage last whole n m =
       ap (λ (t : List ℕ). tailStep (length t) whole) rest-whole ∙ rw (ne-eqb stage BEFORE-FIRST-LINE n, ne-eqb stage AT-LINES m)
-
-  -- the line of so many octets, its LF left off, as far as the text goes
-  pub line-at : (octets n to : ℕ) → n ≡ octets - min octets 1 → to ≡ from + min n (length text - from)
-      → take (to - from) (drop from text) ≡ lineAt text at octets
-  line-at octets n to e f =
-      take-least (drop from text) n (to - from) (back from (min n (length text - from)) to f ∙ ap (min n) (sym (length-drop from text)))
-      ∙ (ap (λ (m : ℕ). take m (drop from text)) (less octets n e) ∙ ap (take (octets - 1)) from-drop)
-    where
-      back : (a b c : ℕ) → c ≡ a + b → c - a ≡ b
-      back a b c h = omega arith
-
-      less : (a b : ℕ) → b ≡ a - min a 1 → b ≡ a - 1
-      less a b h = omega arith

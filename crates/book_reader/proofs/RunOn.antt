@@ -7,25 +7,29 @@ use Prim.Native.Nat.{ℕ, _+_, _-_, _≤_, _<_}
 use native.Mathlib.Omega.{arith}
 use lib.Dec.{eqb, ltb, leb}
 use lib.ListN.{length, take, drop, length-take, length-drop}
+use lib.Seq.{take-all, drop-drop}
 use borrow.Author.Tests.{eqb-true, ne-eqb, ltb-true, leb-true, le-leb}
 use Rattle.cases.proofs.ByCases.{by-test, clash, and-right}
 use Rattle.cases.proofs.Operators.{and-both}
 use Rattle.text.specs.Text.{LF, upto, same}
+use Rattle.text.specs.Fields.{fieldStart, fieldEnd}
+use Rattle.text.proofs.Fields.{field-part, fields-end}
 use Rattle.timing.specs.Counts.{mostPeriods}
-use Rattle.book_line.specs.Line.{longestLine, formed, judged, inOrder, periodOf, unitOf, eventOf}
+use Rattle.book_line.specs.Line.{longestLine, formed, judged, inOrder, periodOf, unitOf, eventOf, valueOf}
 use Rattle.book_line.proofs.Judging.{formed-parts}
 use Rattle.book_reader.specs.Book.{firstLine}
-use Rattle.book_reader.specs.Step.{BEFORE-FIRST-LINE, AT-LINES, headStep, ruled, unended, window, lineStep, tailStep, stepOf, stepAt}
+use Rattle.book_reader.specs.Step.{BEFORE-FIRST-LINE, AT-LINES, headStep, ruled, unended, window, lineStep, tailStep, stepOf, stepAt, valueFrom, valueTo, valueAt}
 use Rattle.book_reader.specs.Parts.{toCome}
 use Rattle.book_reader.specs.Laws.{Entered}
 use Rattle.book_reader.specs.declared.step.Step.{Step}
 use Rattle.book_reader.specs.declared.step.Step.the-variants.{Begun, Entry, Done, Fault, More}
+use Rattle.book_reader.proofs.Moving.{rest-is}
 use Rattle.book_reader.proofs.Cut.{call-law}
 
 -- ---- what is no entry
 isEntry : Step → Bool
 isEntry Begun = false
-isEntry (Entry p u e octets) = true
+isEntry (Entry p u e value octets) = true
 isEntry Done = false
 isEntry (Fault n) = false
 isEntry More = false
@@ -45,8 +49,8 @@ tail-none : (n : ℕ) (whole : Bool) → isEntry (tailStep n whole) ≡ false
 unfolding isEntry tailStep
 tail-none n whole = by-test (eqb n 0) (λ h. by-test whole (λ w. rw (h, w)) (λ w. rw (h, w))) (λ h. rw h)
 
-module _ (period unit event octets : ℕ) where
-  no-entry {ℓ} : {X : Type ℓ} (a : Step) → isEntry a ≡ false → a ≡ Entry period unit event octets → X
+module _ (period unit event value octets : ℕ) where
+  no-entry {ℓ} : {X : Type ℓ} (a : Step) → isEntry a ≡ false → a ≡ Entry period unit event value octets → X
   unfolding isEntry
   no-entry a n e = clash (isEntry a) (ap isEntry e) n
 
@@ -55,9 +59,9 @@ module _ (period unit event octets : ℕ) where
     record Ruled : Type 0 where
       form : formed line ≡ true
       order : inOrder last (periodOf line) ≡ true
-      is : Entry (periodOf line) (unitOf line) (eventOf line) n ≡ Entry period unit event octets
+      is : Entry (periodOf line) (unitOf line) (eventOf line) (fieldStart 3 line) n ≡ Entry period unit event value octets
 
-    ruled-is : ruled last n (judged line) ≡ Entry period unit event octets → Ruled
+    ruled-is : ruled last n (judged line) ≡ Entry period unit event value octets → Ruled
     unfolding isEntry ruled judged
     ruled-is e =
         by-test (formed line)
@@ -66,7 +70,13 @@ module _ (period unit event octets : ℕ) where
         (λ o. no-entry (Fault 13) refl (rw (f, o) at e)))
         (λ f. no-entry (Fault 12) refl (rw f at e))
 
-module _ (text : List ℕ) (at stage last : ℕ) (whole : Bool) (period unit event octets : ℕ) where
+-- ---- the value of a line of right form is what follows its third space
+value-behind : (line : List ℕ) → formed line ≡ true → valueOf line ≡ drop (fieldStart 3 line) line
+value-behind line f =
+    let ends : fieldEnd 3 line ≡ length line = fields-end line 3 .0 (formed-parts line f .four) in
+    field-part line 3 ∙ rw ends (take-all (length line - fieldStart 3 line) (drop (fieldStart 3 line) line) (omega (arith, length-drop (fieldStart 3 line) line)))
+
+module _ (text : List ℕ) (at stage last : ℕ) (whole : Bool) (period unit event value octets : ℕ) where
   abbrev t : List ℕ
   t = drop at text
 
@@ -76,28 +86,29 @@ module _ (text : List ℕ) (at stage last : ℕ) (whole : Bool) (period unit eve
   record Found : Type 0 where
     lines : eqb stage AT-LINES ≡ true
     found : ltb k (length (window t)) ≡ true
-    ruled-so : Ruled period unit event octets last (k + 1) (take k t)
+    ruled-so : Ruled period unit event value octets last (k + 1) (take k t)
 
-  found : stepAt text at stage last whole ≡ Entry period unit event octets → Found
+  found : stepAt text at stage last whole ≡ Entry period unit event value octets → Found
   unfolding stepOf lineStep
   found e =
       by-test (eqb stage BEFORE-FIRST-LINE)
-      (λ s. no-entry period unit event octets (headStep t whole) (head-none t whole) (rw s at e))
+      (λ s. no-entry period unit event value octets (headStep t whole) (head-none t whole) (rw s at e))
       (λ s. by-test (eqb stage AT-LINES)
       (λ r. by-test (ltb k (length (window t)))
-      (λ f. record { lines = r; found = f; ruled-so = ruled-is period unit event octets last (k + 1) (take k t) (rw (s, r, f) at e) })
-      (λ f. no-entry period unit event octets (unended (length t) whole) (unended-none (length t) whole) (rw (s, r, f) at e)))
-      (λ r. no-entry period unit event octets (tailStep (length t) whole) (tail-none (length t) whole) (rw (s, r) at e)))
+      (λ f. record { lines = r; found = f; ruled-so = ruled-is period unit event value octets last (k + 1) (take k t) (rw (s, r, f) at e) })
+      (λ f. no-entry period unit event value octets (unended (length t) whole) (unended-none (length t) whole) (rw (s, r, f) at e)))
+      (λ r. no-entry period unit event value octets (tailStep (length t) whole) (tail-none (length t) whole) (rw (s, r) at e)))
 
   -- ---- what is known of an entry
-  pub entered : stepAt text at stage last whole ≡ Entry period unit event octets → Entered text at stage last period unit event octets
-  unfolding inOrder
+  pub entered : stepAt text at stage last whole ≡ Entry period unit event value octets → Entered text at stage last period unit event value octets
+  unfolding inOrder valueFrom valueTo
   entered e =
       let f = found e in let r = f .ruled-so in
       let z : k + 1 ≡ octets = cc in
       let d : octets - 1 ≡ k = omega arith in
       let q : period ≡ periodOf (take k t) = cc in
       let q′ : event ≡ eventOf (take k t) = cc in
+      let v : value ≡ fieldStart 3 (take k t) = cc in
       let l : k < length (window t) = ltb-true k (length (window t)) (f .found) in
       let o = and-both (leb last (periodOf (take k t))) (leb (periodOf (take k t)) mostPeriods) (r .order) in
       record {
@@ -109,14 +120,17 @@ module _ (text : List ℕ) (at stage last : ℕ) (whole : Bool) (period unit eve
         period-is = rw d (cc);
         unit-is = rw d (cc);
         event-is = rw d (cc);
+        value-is =
+            rw (d, v, sym (drop-drop (fieldStart 3 (take k t)) at text))
+            (rest-is (fieldStart 3 (take k t)) k t ∙ sym (value-behind (take k t) (r .form)));
         fits = rw (d, q′) (formed-parts (take k t) (r .form) .value);
         after = omega (arith, leb-true last (periodOf (take k t)) (o .0));
         most = omega (arith, leb-true (periodOf (take k t)) mostPeriods (o .1));
       }
 
   -- ---- any number up to the line's period in place of last
-  pub run-on-step : (m : ℕ) → m ≤ period → stepAt text at stage last whole ≡ Entry period unit event octets
-      → stepAt text at stage m whole ≡ Entry period unit event octets
+  pub run-on-step : (m : ℕ) → m ≤ period → stepAt text at stage last whole ≡ Entry period unit event value octets
+      → stepAt text at stage m whole ≡ Entry period unit event value octets
   unfolding stepOf lineStep ruled judged inOrder
   run-on-step m h e =
       let f = found e in let r = f .ruled-so in
@@ -133,9 +147,9 @@ module _ (text : List ℕ) (at stage last : ℕ) (whole : Bool) (period unit eve
       ) (r .is)
 
   -- what is then still to come is the same, whatever octets come later
-  pub run-on : (m : ℕ) → m ≤ period → stepAt text at stage last whole ≡ Entry period unit event octets
+  pub run-on : (m : ℕ) → m ≤ period → stepAt text at stage last whole ≡ Entry period unit event value octets
       → (later : List ℕ) → (whole ≡ true → later ≡ [])
       → toCome (record { stage = stage; last = m }) (drop at text ++ later) ≡ toCome (record { stage = stage; last = last }) (drop at text ++ later)
   run-on m h e later fit =
-      call-law (record { stage = stage; last = m }) text at whole later fit (Entry period unit event octets) (run-on-step m h e) .said
-      ∙ sym (call-law (record { stage = stage; last = last }) text at whole later fit (Entry period unit event octets) e .said)
+      call-law (record { stage = stage; last = m }) text at whole later fit (Entry period unit event value octets) (run-on-step m h e) .said
+      ∙ sym (call-law (record { stage = stage; last = last }) text at whole later fit (Entry period unit event value octets) e .said)

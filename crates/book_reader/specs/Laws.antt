@@ -8,7 +8,7 @@ use Rattle.timing.specs.Counts.{mostPeriods}
 use Rattle.book_line.specs.Line.{longestLine, formed, valueFits, periodOf, unitOf, eventOf, valueOf}
 use Rattle.book_reader.specs.Book.{firstLine}
 use Rattle.book_reader.specs.Book.Answer.{entry, fault}
-use Rattle.book_reader.specs.Step.{AT-LINES, lineAt}
+use Rattle.book_reader.specs.Step.{AT-LINES, lineAt, valueAt}
 use Rattle.book_reader.specs.Parts.{Place, begun, past, toCome}
 use Rattle.book_reader.specs.declared.step.Step.{Step}
 use Rattle.book_reader.specs.declared.step.Step.the-variants.{Begun, Entry, Done, Fault, More}
@@ -33,13 +33,13 @@ module _ (p : Place) (text : List ℕ) (at : ℕ) (whole : Bool) (later : List �
 
   abbrev pub Law : Step → Type 0
   Law Begun = First
-  Law (Entry period unit event octets) = Taken period unit event octets
+  Law (Entry period unit event value octets) = Taken period unit event octets
   Law Done = toCome p (drop at text ++ later) ≡ []
   Law (Fault n) = toCome p (drop at text ++ later) ≡ fault n ∷ []
   Law More = Short
 
 -- An entry: its line lies in the text, is of right form and says just that, and its period may stand after last.
-pub record Entered (text : List ℕ) (at stage last period unit event octets : ℕ) : Type 0 where
+pub record Entered (text : List ℕ) (at stage last period unit event value octets : ℕ) : Type 0 where
   pub lines : stage ≡ AT-LINES
   pub within : at + octets ≤ length text
   pub lf : 1 ≤ octets
@@ -48,6 +48,7 @@ pub record Entered (text : List ℕ) (at stage last period unit event octets : �
   pub period-is : period ≡ periodOf (lineAt text at octets)
   pub unit-is : unit ≡ unitOf (lineAt text at octets)
   pub event-is : event ≡ eventOf (lineAt text at octets)
+  pub value-is : valueAt text at (Entry period unit event value octets) ≡ valueOf (lineAt text at octets)
   pub fits : valueFits event (valueOf (lineAt text at octets)) ≡ true
   pub after : last ≤ period
   pub most : period ≤ mostPeriods

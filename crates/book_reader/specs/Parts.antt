@@ -6,10 +6,10 @@ use Prim.Native.Nat.{ℕ, _+_}
 use lib.Dec.{eqb}
 use lib.ListN.{length, drop}
 use Rattle.text.specs.Text.{LF, split}
-use Rattle.book_line.specs.Line.{isEnd, valueOf}
+use Rattle.book_line.specs.Line.{isEnd}
 use Rattle.book_reader.specs.Book.{Answer, firstLine, answersFrom, lines, closing}
 use Rattle.book_reader.specs.Book.Answer.{entry, fault}
-use Rattle.book_reader.specs.Step.{BEFORE-FIRST-LINE, AT-LINES, AFTER-END, stepAt, lineAt}
+use Rattle.book_reader.specs.Step.{BEFORE-FIRST-LINE, AT-LINES, AFTER-END, stepAt, valueAt}
 use Rattle.book_reader.specs.declared.step.Step.{Step}
 
 -- What a caller keeps between calls: how far the book has come, and the last line's period.
@@ -44,10 +44,10 @@ pub data Handed : Place → List ℕ → ℕ → Bool → List (List ℕ) → Li
   first : {p : Place} {text : List ℕ} {at : ℕ} {whole : Bool} {parts : List (List ℕ)} {got : List Answer}
       → stepAt text at (p .stage) (p .last) whole ≡ Step.Begun
       → Handed (begun p) text (at + length firstLine) whole parts got → Handed p text at whole parts got
-  line : {p : Place} {text : List ℕ} {at : ℕ} {whole : Bool} {parts : List (List ℕ)} {got : List Answer} (period unit event octets : ℕ)
-      → stepAt text at (p .stage) (p .last) whole ≡ Step.Entry period unit event octets
+  line : {p : Place} {text : List ℕ} {at : ℕ} {whole : Bool} {parts : List (List ℕ)} {got : List Answer} (period unit event value octets : ℕ)
+      → stepAt text at (p .stage) (p .last) whole ≡ Step.Entry period unit event value octets
       → Handed (past period unit event) text (at + octets) whole parts got
-      → Handed p text at whole parts (entry period unit event (valueOf (lineAt text at octets)) ∷ got)
+      → Handed p text at whole parts (entry period unit event (valueAt text at (Step.Entry period unit event value octets)) ∷ got)
   stops : {p : Place} {text : List ℕ} {at : ℕ} {whole : Bool} {parts : List (List ℕ)} (n : ℕ)
       → stepAt text at (p .stage) (p .last) whole ≡ Step.Fault n → Handed p text at whole parts (fault n ∷ [])
   ends : {p : Place} {text : List ℕ} {at : ℕ} {whole : Bool} {parts : List (List ℕ)}

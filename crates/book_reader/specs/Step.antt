@@ -1,12 +1,12 @@
 -- One call on lent text, "what lies in" the program's buffer: what it answers, from the octets not yet taken.
 -- An answer says how many of them it takes, not where they stand. `whole` says that the text reaches to the book's end.
 use mathlib.Core.Bool.{Bool, cond}
-use mathlib.Core.List.{List, []}
+use mathlib.Core.List.{List}
 use Prim.Native.Nat.{ℕ, _+_, _-_, min}
 use lib.Dec.{eqb, ltb}
 use lib.ListN.{length, take, drop}
-use Rattle.text.specs.Text.{LF, upto, same, field}
-use Rattle.book_line.specs.Line.{longestLine, judged, inOrder, valueOf}
+use Rattle.text.specs.Text.{LF, upto, same}
+use Rattle.book_line.specs.Line.{longestLine, judged, inOrder}
 use Rattle.book_line.specs.declared.line.Judged.{Judged}
 use Rattle.book_reader.specs.Book.{firstLine}
 use Rattle.book_reader.specs.declared.step.Step.{Step}
@@ -29,8 +29,8 @@ headStep t whole =
 
 -- A line of so many octets, its LF included (12, then 13).
 unfoldable pub ruled : ℕ → ℕ → Judged → Step
-ruled last octets Judged.Wrong = Step.Fault 12
-ruled last octets (Judged.Entry p u e) = cond (inOrder last p) (Step.Entry p u e octets) (Step.Fault 13)
+ruled last octets (Judged.Refused k) = Step.Fault k
+ruled last octets (Judged.Entry p u e value) = cond (inOrder last p) (Step.Entry p u e value octets) (Step.Fault 13)
 
 -- n octets without LF: too long a line (12); or the book ends here, after a LF (14) or without one (12); or the line is cut.
 unfoldable pub unended : ℕ → Bool → Step
@@ -63,25 +63,33 @@ stepAt text at stage last whole = stepOf (drop at text) stage last whole
 -- The octets that an answer takes: those of the first line, or of the entry's line.
 unfoldable pub takenBy : Step → ℕ
 takenBy Step.Begun = length firstLine
-takenBy (Step.Entry p u e octets) = octets
+takenBy (Step.Entry p u e value octets) = octets
 takenBy Step.Done = 0
 takenBy (Step.Fault n) = 0
 takenBy Step.More = 0
 
--- The line of so many octets, its LF included, that stands at `at` of the text: its LF is left off; and its field `which`.
+-- The line of so many octets, its LF included, that stands at `at` of the text: its LF is left off.
 abbrev pub lineAt : List ℕ → ℕ → ℕ → List ℕ
 lineAt text at octets = take (octets - 1) (drop at text)
 
-abbrev pub fieldOf : List ℕ → ℕ → ℕ → ℕ → List ℕ
-fieldOf text at octets which = field which (lineAt text at octets)
+-- Where the value of the line that was read begins and ends, from the line's beginning; where no line was read there is none, and it is empty.
+unfoldable pub valueFrom : Step → ℕ
+valueFrom Step.Begun = 0
+valueFrom (Step.Entry p u e value octets) = value
+valueFrom Step.Done = 0
+valueFrom (Step.Fault n) = 0
+valueFrom Step.More = 0
 
--- The value of the line at `at` that an answer is of; of any other answer there is none.
-unfoldable pub valueAt : List ℕ → ℕ → Step → List ℕ
-valueAt text at Step.Begun = []
-valueAt text at (Step.Entry p u e octets) = valueOf (lineAt text at octets)
-valueAt text at Step.Done = []
-valueAt text at (Step.Fault n) = []
-valueAt text at Step.More = []
+unfoldable pub valueTo : Step → ℕ
+valueTo Step.Begun = 0
+valueTo (Step.Entry p u e value octets) = octets - 1
+valueTo Step.Done = 0
+valueTo (Step.Fault n) = 0
+valueTo Step.More = 0
+
+-- its octets, where the line stands at `at` of the text: the line's fourth field (proofs/RunOn.antt `entered`)
+abbrev pub valueAt : List ℕ → ℕ → Step → List ℕ
+valueAt text at said = take (valueTo said - valueFrom said) (drop (at + valueFrom said) text)
 
 -- A reader goes on by the octets of what it has read, at most to the text's end.
 abbrev pub movedOn : ℕ → ℕ → ℕ → ℕ

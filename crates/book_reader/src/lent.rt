@@ -1,7 +1,9 @@
 // The book reader: the lent text by reference, and how far it has read. Its calls are thin over covered functions on the text and numbers.
 ghost use mathlib.Core.Path.{_≡_};
 ghost use lib.ListN.{length};
-ghost use Rattle.book_reader.specs.Step.{stepAt, movedOn, valueAt};
+ghost use Prim.Native.Nat.{_+_};
+ghost use Rattle.text.specs.Part.{IsPart};
+ghost use Rattle.book_reader.specs.Step.{stepAt, movedOn, valueFrom, valueTo};
 use crate::step::Step;
 use crate::step::moved_on;
 use crate::step::step_at;
@@ -29,7 +31,7 @@ pub fn read<'a>(r: Reader<'a>, stage: u8, last: u32, whole: bool) -> Step
 
 // The value of the line that it has read there, as the part of the lent text that it is; empty where it has read no line.
 pub fn value<'a>(r: Reader<'a>, said: Step) -> &'a [u8]
-    ensures { λ s. ⌜ now s ≡ valueAt (now (r .entry .text)) (r .entry .at) said ⌝ }
+    ensures { λ s. ⌜ IsPart (r .entry .text) (r .entry .at + valueFrom said) (r .entry .at + valueTo said) s ⌝ }
 {
     value_at(r.text, r.at, said)
 }

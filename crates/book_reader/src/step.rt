@@ -1,13 +1,15 @@
 // One call on lent text from a position on: the first line, a line's entry, a fault, or that more text is needed.
 // An answer says how many octets it takes, not where they stand.
 ghost use mathlib.Core.Path.{_≡_};
+ghost use Prim.Native.Nat.{_+_};
+ghost use Rattle.text.specs.Part.{IsPart};
 ghost use Rattle.book_line.specs.Line.{judged, inOrder};
 ghost use Rattle.book_reader.specs.Step as spec;
 use book_line::line::Judged;
 use book_line::line::LONGEST_LINE;
 use book_line::line::judge;
-use text::field::field;
 use text::length::least;
+use text::part::part;
 use text::piece::LF;
 use text::piece::long_piece_end;
 use text::same::same;
@@ -20,9 +22,6 @@ pub const AT_LINES: u8 = 1;
 
 pub const AFTER_END: u8 = 2;
 
-// The field of a line that is its value: period, unit and event come before it.
-const VALUE: usize = 3;
-
 // The octets of the book's first line, its LF included.
 const FIRST_LINE_LENGTH: usize = 24;
 
@@ -30,11 +29,12 @@ const FIRST_LINE_LENGTH: usize = 24;
 pub enum Step {
     // The book's first line has been read.
     Begun,
-    // A line of so many octets, its LF included.
+    // A line of so many octets, its LF included; its value begins at `value` of it.
     Entry {
         period: u32,
         unit: u32,
         event: u8,
+        value: usize,
         octets: usize,
     },
     // The book has ended with its accepted `end` line.
@@ -55,6 +55,7 @@ pub fn octets_of(step: Step) -> usize
             period: _,
             unit: _,
             event: _,
+            value: _,
             octets,
         } => octets,
         Step::Done => 0,
@@ -94,6 +95,7 @@ fn rule(line: &[u8], octets: usize, last: u32) -> Step
         period,
         unit,
         event,
+        value,
     } = judge(line)
     else {
         return Step::Fault(12);
@@ -105,6 +107,7 @@ fn rule(line: &[u8], octets: usize, last: u32) -> Step
         period,
         unit,
         event,
+        value,
         octets,
     }
 }
@@ -165,24 +168,16 @@ pub fn step_at(text: &[u8], at: usize, stage: u8, last: u32, whole: bool) -> Ste
     tail_step(t.len(), whole)
 }
 
-// Field `which` of the line of so many octets, its LF included, from `at` on, as the part of the text that it is.
-pub fn field_of(text: &[u8], at: usize, octets: usize, which: usize) -> &[u8]
-    ensures { λ r. ⌜ now r ≡ spec.fieldOf (now (text .entry)) at octets which ⌝ }
+// The value of the line that `said` is an entry of and that stands at `at`, as the part of the text that it is; empty where no line was read.
+pub fn value_at(text: &[u8], at: usize, said: Step) -> &[u8]
+    ensures { λ r. ⌜ IsPart (text .entry) (at + spec.valueFrom said) (at + spec.valueTo said) r ⌝ }
 {
     let from = least(at, text.len());
-    let n = octets - least(octets, 1);
-    let to = from + least(n, text.len() - from);
-    field(&text[from..to], which)
-}
-
-// The value of the line at `at` that `said` is an entry of, as the part of the text that it is; empty where no line was read.
-pub fn value_at(text: &[u8], at: usize, said: Step) -> &[u8]
-    ensures { λ r. ⌜ now r ≡ spec.valueAt (now (text .entry)) at said ⌝ }
-{
-    let Step::Entry { octets, .. } = said else {
-        return &text[..0];
+    let rest = &text[from..];
+    let Step::Entry { value, octets, .. } = said else {
+        return part(rest, 0, 0);
     };
-    field_of(text, at, octets, VALUE)
+    part(rest, value, octets - least(octets, 1))
 }
 
 // So many octets further on, at most at the text's end.

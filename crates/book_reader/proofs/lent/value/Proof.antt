@@ -14,7 +14,9 @@ use mir.Val.{WT, hasTy}
 use base.Fml.{Fml}
 use lib.Dec.{T as Holds}
 use ghost.Atoms.{sem}
-use Rattle.book_reader.specs.Step.{valueAt}
+use Prim.Native.Nat.{_+_}
+use Rattle.text.specs.Part.{IsPart}
+use Rattle.book_reader.specs.Step.{valueFrom, valueTo}
 use Rattle.book_reader.specs.declared.lent.Reader.{Reader}
 use Rattle.book_reader.specs.declared.step.Step.{Step}
 use Rattle.book_reader.proofs.step.Step as S
@@ -61,8 +63,9 @@ module _ {M : Type 1} (𝓤 : URA M) (H : Heap 𝓤) (A : Atoms 𝓤) (W : Given
   abbrev Kept : Fml
   Kept = owns (B (κ, tt) ∷ S.the-row ∷ []) (d, (said, tt)) at
 
-  abbrev found : List ℕ
-  found = valueAt (now (d .text)) (d .at) said
+  -- what is said of the part
+  abbrev IsValue : RefT (List ℕ) → Type 0
+  IsValue r = IsPart (d .text) (d .at + valueFrom said) (d .at + valueTo said) r
 
   -- the call of `value_at`
   abbrev to : ValueAt 𝓤 H A mem run .Ghost
@@ -88,7 +91,7 @@ module _ {M : Type 1} (𝓤 : URA M) (H : Heap 𝓤) (A : Atoms 𝓤) (W : Given
       move ! (2 ∷ 0 ∷ []) $ join ! $ use1 W (raw (ValueAt 𝓤 H A mem run .pre to))
       (qed W (raw (onEntry 𝓤 H A value-at.signature (κ, tt) (q, tt) (to .0 .3) (to .0 .4)) ∷ []) ∵ frame ! $ done !) $ frame ! $ done !
 
-  exits : (r : RefT (List ℕ)) (u : Val) → now r ≡ found
+  exits : (r : RefT (List ℕ)) (u : Val) → IsValue r
       → ent 𝓤 (⋆ 𝓤 H A (‵ (ShrSlice (named 0) κ u8 .own r (u ∷ [])) ∷ (‵ (flft κ q) ⊛ ‵ ftrue) ∷ ‵ Kept ∷ [])) (Post u)
   exits r u e =
       qed W (‵ (ShrSlice (named 0) κ u8 .own r (u ∷ [])) ∷ (‵ (flft κ q) ⊛ ‵ ftrue) ∷ ‵ Kept ∷ []) ∵
@@ -103,7 +106,7 @@ module _ {M : Type 1} (𝓤 : URA M) (H : Heap 𝓤) (A : Atoms 𝓤) (W : Given
       (wt, (typed steps 𝓤 H A W said _ is-said, tt)) (λ bs.
       sets ! (of-opd ! (part ! tt refl refl refl)) tt (tt, wt .1 .0) $ sets ! (of-opd ! (part ! tt refl refl refl)) tt (tt, wt .1 .1 .0) $
       move ! (1 ∷ []) $ use1 W (raw (ValueAt 𝓤 H A mem run .pre to) ⊛ ‵ Kept) (apart (wt .1 .1 .0 .fits)) $ split ! $ move ! (2 ∷ 0 ∷ []) $
-      calls-own ! 𝓣 value-at.ended (value-at.clauses 𝓤 H A mem run) known to (id⊢ 𝓤 _) (‵ (flft κ q) ⊛ ‵ ftrue) (id⊢ 𝓤 _) (λ r. now r ≡ found)
+      calls-own ! 𝓣 value-at.ended (value-at.clauses 𝓤 H A mem run) known to (id⊢ 𝓤 _) (‵ (flft κ q) ⊛ ‵ ftrue) (id⊢ 𝓤 _) IsValue
       (λ r ws. id⊢ 𝓤 _)
       (and-then ! (loc ! tt refl) (and-then ! (loc ! tt refl) (and-then ! (loc ! tt refl) (no-more !)))) tt
       (λ r v g. shr-slice-lawful 𝓤 H A W (named 0) κ u8 .typed r _ g .0) (λ r v e g. leaves ! Post refl tt refl (exits r v e)))

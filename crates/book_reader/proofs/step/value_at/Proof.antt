@@ -1,48 +1,91 @@
-use mathlib.Core.Path.{_≡_, refl, sym, ap, _∙_}
-use mathlib.Core.List.{List, [], _∷_}
+-- `value_at` meets its contract: a part of what the text has from the line's place on.
+use mathlib.Core.Path.{_≡_, refl}
+use mathlib.Core.List.{[], _∷_}
 use mathlib.Core.Logic.{inl, inr}
-use Prim.Native.Nat.{ℕ}
+use Prim.Native.Nat.{ℕ, _-_, min}
 use native.Mathlib.Omega.{arith}
 use types.Run.{OneOf}
 use denote.Enum.Declared.{tagOf}
 use borrow.Author.Needs.{needs}
-use Rattle.book_reader.specs.Step.{valueAt}
+use Rattle.text.proofs.Parts.{part-within}
+use Rattle.book_reader.specs.Step.{valueFrom, valueTo}
 use Rattle.book_reader.specs.declared.step.Step.{Step}
 use Rattle.book_reader.specs.declared.step.Step.the-variants.{Begun, Entry, Done, Fault, More}
 use Rattle.book_reader.proofs.step.Step as S
 use Rattle.book_reader.proofs.step.value_at.Statement.{statement}
 use Rattle.book_reader.proofs.step.value_at.Tie as tie
 
--- the four answers that are no entry
-no-entry : (text : List ℕ) (at : ℕ) (said : Step) → OneOf (0 ∷ 2 ∷ 3 ∷ 4 ∷ []) (tagOf S.the-type said) → [] ≡ valueAt text at said
-unfolding valueAt
-no-entry text at Begun k = refl
-no-entry text at (Entry p u e octets) (inl k) = absurd (omega arith)
-no-entry text at (Entry p u e octets) (inr (inl k)) = absurd (omega arith)
-no-entry text at (Entry p u e octets) (inr (inr (inl k))) = absurd (omega arith)
-no-entry text at (Entry p u e octets) (inr (inr (inr k))) = absurd (omega arith)
-no-entry text at Done k = refl
-no-entry text at (Fault n) k = refl
-no-entry text at More k = refl
+-- the four answers that are no entry have no value
+no-entry : (said : Step) → OneOf (0 ∷ 2 ∷ 3 ∷ 4 ∷ []) (tagOf S.the-type said) → (valueFrom said ≡ 0) × (valueTo said ≡ 0)
+unfolding valueFrom valueTo
+no-entry Begun k = (refl, refl)
+no-entry (Entry p u e value octets) (inl k) = absurd (omega arith)
+no-entry (Entry p u e value octets) (inr (inl k)) = absurd (omega arith)
+no-entry (Entry p u e value octets) (inr (inr (inl k))) = absurd (omega arith)
+no-entry (Entry p u e value octets) (inr (inr (inr k))) = absurd (omega arith)
+no-entry Done k = (refl, refl)
+no-entry (Fault n) k = (refl, refl)
+no-entry More k = (refl, refl)
+
+-- the LF is left off
+one-less : (octets n : ℕ) → n ≡ min octets 1 → octets - n ≡ octets - 1
+one-less octets n e = omega arith
+
+least-requires : tie.Need-least-requires
+least-requires c κs = search needs
+
+sub-rest : tie.Need-sub-rest
+sub-rest c = search needs
+
+part-rest-start : tie.Need-part-rest-start
+part-rest-start c = search needs
+
+part-rest-end : tie.Need-part-rest-end
+part-rest-end c = search needs
 
 enum-known-said : tie.Need-enum-known-said
 enum-known-said c = search needs
 
-slice-aggregate-result : tie.Need-slice-aggregate-result
-slice-aggregate-result c = search needs
+part-requires : tie.Need-part-requires
+part-requires c κs = search needs
 
 returns : tie.Need-returns
-returns c = let a = c .before .before .before .args in no-entry (a .text .now) (a .at) (a .said) (c .before .match .keys2)
+returns c =
+    let a = c .before .before .before .before .before .args in
+    let from = c .before .before .before .least in
+    let none = no-entry (a .said) (c .before .match .keys2) in
+    rw (none .0, none .1) (part-within (a .text) _ _ (a .at) (from .result) 0 0 (from .ensures) refl refl refl (c .part .ensures))
 
-field-of-requires : tie.Need-field-of-requires
-field-of-requires c κs = search needs
+least-requires-2 : tie.Need-least-requires-2
+least-requires-2 c κs = search needs
+
+sub-part : tie.Need-sub-part
+sub-part c = search needs
+
+part-requires-2 : tie.Need-part-requires-2
+part-requires-2 c κs = search needs
 
 returns-2 : tie.Need-returns-2
-unfolding valueAt
+unfolding valueFrom valueTo
 returns-2 c =
-    let a = c .before .before .before .before .before .args in
-    c .field-of .ensures ∙ sym (ap (valueAt (a .text .now) (a .at)) (c .before .before .said .given .1))
+    let a = c .before .before .before .before .before .before .before .before .args in
+    let from = c .before .before .before .before .before .before .least in
+    rw (c .before .before .before .said .given .1)
+    (part-within (a .text) _ _ (a .at) (from .result) _ _ (from .ensures) refl refl refl
+    (rw (one-less _ (c .before .least2 .result) (c .before .least2 .ensures)) at (c .part2 .ensures)))
 
 pub value-at-spec : {M : Type 1} → statement M
 value-at-spec =
-    tie.close (tie.spec enum-known-said slice-aggregate-result returns field-of-requires returns-2)
+    tie.close
+    (tie.spec
+    least-requires
+    sub-rest
+    part-rest-start
+    part-rest-end
+    enum-known-said
+    part-requires
+    returns
+    least-requires-2
+    sub-part
+    part-requires-2
+    returns-2)
