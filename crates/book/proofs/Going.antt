@@ -44,6 +44,11 @@ module _ (p : Progress) (images octets letters : List ℕ) where
   abbrev k : Kept
   k = found (p .bus) (p .terminals) images octets letters
 
+  -- octets that the check has left are accepted again
+  pub still-accepted : (octets₁ : List ℕ) → octets₁ ≡ octets → (reply : ℕ) → reply ≡ reason (standOf p images octets letters) → reply ≡ 0
+      → reason (standOf p images octets₁ letters) ≡ 0
+  still-accepted octets₁ o reply e z = rw o (sym e ∙ z)
+
   pub checked-run : (r : Ran) → r ≡ ran 0 k → (octets′ : List ℕ) → octets′ ≡ keptAfter 0 k .octets
       → (r .reply ≡ reason (standOf p images octets letters)) × (octets′ ≡ octets)
   unfolding reason ran ranOn keptAfter keptOn notYet refusedRun
@@ -155,11 +160,8 @@ module _ (p : Progress) (images octets letters text room : List ℕ) (whole : Bo
     abbrev checked : Stand
     checked = standOf p images octets₁ letters
 
-    pub first-turn : Going text whole checked room checked 0 room 0 0
-    first-turn = rw o (going-first text whole here room (accepted-sound here (sym e ∙ z)))
-
-    pub stopped-call : (w : Went) (images′ octets′ letters′ room′ : List ℕ) → w .reply ≡ 0 → (w .why ≡ 0 → ⊥)
-        → Going text whole checked room (standOf (w .progress) images′ octets′ letters′) (w .taken) room′ (w .wrote) (w .why)
+    pub stopped-call : (w : Went) (images′ octets′ letters′ room′ : List ℕ) → w .reply ≡ 0
+        → Stopped checked text room whole (standOf (w .progress) images′ octets′ letters′) (w .taken) (w .wrote) (w .why) room′
         → GoesOn p images octets letters text room whole w images′ octets′ letters′ room′
-    stopped-call w images′ octets′ letters′ room′ r n g =
-        record { replies = r ∙ (sym z ∙ e); refused = λ h. absurd (h r); stops = λ h. rw o at (going-stops g n) }
+    stopped-call w images′ octets′ letters′ room′ r s =
+        record { replies = r ∙ (sym z ∙ e); refused = λ h. absurd (h r); stops = λ h. rw o at s }

@@ -1,6 +1,6 @@
 -- What `line` gives back at each of its returns: as its contract says it.
 use mathlib.Core.Path.{_≡_, refl}
-use mathlib.Core.Bool.{Bool, true, false}
+use mathlib.Core.Bool.{true, false}
 use mathlib.Core.List.{List}
 use Prim.Native.Nat.{ℕ, _+_, _≤_, _<_}
 use native.Mathlib.Omega.{arith}
@@ -8,10 +8,10 @@ use lib.Dec.{ltb, leb}
 use lib.ListN.{length}
 use borrow.Author.Tests.{ltb-true, ltb-false, leb-true}
 use Rattle.cases.proofs.ByCases.{by-test}
-use Rattle.book_line.specs.Line.{valueOf, isEnd}
+use Rattle.book_line.specs.Line.{isEnd}
 use Rattle.book_line.specs.Value.{valueOctets, valueRoom}
 use Rattle.book_line.proofs.Values.{value-length}
-use Rattle.book_reader.specs.Step.{AT-LINES, AFTER-END, stepAt, lineAt, fieldOf}
+use Rattle.book_reader.specs.Step.{AT-LINES, AFTER-END, lineAt, valueAt}
 use Rattle.book_reader.specs.Laws.{Entered}
 use Rattle.book_reader.specs.declared.step.Step.the-variants.{Entry}
 use Rattle.call_rules.specs.Kept.{found}
@@ -21,17 +21,17 @@ use Rattle.report.specs.Ahead.{ROOM}
 use Rattle.report.proofs.AheadLaws.{UnderWay}
 use Rattle.book.specs.Progress.{standOf, reached}
 use Rattle.book.specs.Until.{RunsTo, Gives}
-use Rattle.book.specs.Steps.{Steps}
+use Rattle.book.specs.Steps.{StepsBy}
 use Rattle.book.specs.declared.progress.Went.{Went}
 use Rattle.book.specs.declared.until.Until.{Until}
-use Rattle.book.proofs.Moving.{stops-room, line-ran, line-ends, line-gives}
+use Rattle.book.proofs.Moving.{stops-room, steps-at, line-ran, line-ends, line-gives}
 
 -- the octets of an entry's value are few
-pub short-value : {text : List ℕ} {at stage last period unit number size : ℕ} → Entered text at stage last period unit number size
-    → length (valueOctets number (fieldOf text at size 3)) ≤ valueRoom
-short-value {text} {at} {size = size} e = rw (e .event-is) (omega (arith, value-length (lineAt text at size) (e .form)))
+pub short-value : {text : List ℕ} {at stage last period unit number start size : ℕ} → Entered text at stage last period unit number start size
+    → length (valueOctets number (valueAt text at (Entry period unit number start size))) ≤ valueRoom
+short-value {text} {at} {size = size} e = rw (e .value-is, e .event-is) (omega (arith, value-length (lineAt text at size) (e .form)))
 
-module _ (w : Went) (images octets letters text room : List ℕ) (period unit number size : ℕ) (b : w .progress .begun ≡ true)
+module _ (w : Went) (images octets letters value room : List ℕ) (period unit number size : ℕ) (b : w .progress .begun ≡ true)
     (o : w .progress .over ≡ false)
     (u : Until) (octets₁ room₁ : List ℕ)
     (r : RunsTo (found (w .progress .bus) (w .progress .terminals) images octets letters) period room (w .wrote)
@@ -39,20 +39,21 @@ module _ (w : Went) (images octets letters text room : List ℕ) (period unit nu
   -- what a return has to say
   abbrev Returns : List ℕ → List ℕ → List ℕ → Went → Type 0
   Returns images′ letters′ room′ x =
-      ((whole : Bool) → stepAt text (w .taken) (w .progress .stage) (w .progress .bus .periods .0) whole ≡ Entry period unit number size
-      → Steps text whole (standOf (w .progress) images octets letters) (w .taken) room (w .wrote)
+      ((start : ℕ) → StepsBy (Entry period unit number start size) value (standOf (w .progress) images octets letters) room (w .wrote)
       (standOf (x .progress) images′ octets₁ letters′) (x .taken) room′ (x .wrote) (x .why)) × (x .reply ≡ 0)
 
   way : UnderWay (standOf (w .progress) images octets letters)
   way = record { begun-is = b; over-is = o }
 
-  pub full-line : leb (u .wrote + periodRoom) (length room₁) ≡ false → (x : Went) → x ≡ reached w u (w .progress .stage) (w .taken) ROOM
+  pub full-line : leb (u .wrote + periodRoom) (length room₁) ≡ false → (x : Went) → x ≡ reached w u (w .progress .stage) 0 ROOM
       → Returns images letters room₁ x
   full-line h x e =
       rw e (
-        λ whole q. stops-room
-            (line-ran text whole (standOf (w .progress) images octets letters) (w .taken) room (w .wrote) period unit number size way q
-            (found (u .bus) (u .terminals) images octets₁ letters) (u .wrote) room₁ r) h o,
+        λ start text at whole q. steps-at 0
+            (stops-room
+            (line-ran text whole (standOf (w .progress) images octets letters) at room (w .wrote) period unit number start size way (q .says)
+            (found (u .bus) (u .terminals) images octets₁ letters) (u .wrote) room₁ r) h o)
+            (omega arith),
         refl,
       )
 
@@ -67,23 +68,23 @@ module _ (w : Went) (images octets letters text room : List ℕ) (period unit nu
         by-order : (a c : ℕ) → a ≤ c → (a < c → ⊥) → a ≡ c
         by-order a c l n = by-test (ltb a c) (λ t. absurd (n (ltb-true a c t))) (λ t. omega (arith, ltb-false a c t))
 
-    pub end-line : isEnd unit number ≡ true → (x : Went) → x ≡ reached w u AFTER-END (w .taken + size) 0 → Returns images letters room₁ x
+    pub end-line : isEnd unit number ≡ true → (x : Went) → x ≡ reached w u AFTER-END size 0 → Returns images letters room₁ x
     end-line t x e =
         rw e (
-          λ whole q. line-ends text whole (standOf (w .progress) images octets letters) (w .taken) room (w .wrote) period unit number size way q
-              (found (u .bus) (u .terminals) images octets₁ letters) (u .wrote) room₁ r there t,
+          λ start text at whole q. line-ends text whole (standOf (w .progress) images octets letters) at room (w .wrote) period unit number start size way
+              (q .says) (found (u .bus) (u .terminals) images octets₁ letters) (u .wrote) room₁ r there t,
           refl,
         )
 
-    pub given-line : isEnd unit number ≡ false → (value : List ℕ) → value ≡ valueOf (lineAt text (w .taken) size)
+    pub given-line : isEnd unit number ≡ false
         → (g : Until) (images′ letters′ room₂ : List ℕ)
         → ((kept : List ℕ) → Gives (found (u .bus) (u .terminals) images kept letters) unit number value room₁ (u .wrote)
         (found (g .bus) (g .terminals) images′ kept letters′) (g .wrote) room₂)
-        → (x : Went) → x ≡ reached w g AT-LINES (w .taken + size) 0 → Returns images′ letters′ room₂ x
-    given-line t value v g images′ letters′ room₂ gives x e =
+        → (x : Went) → x ≡ reached w g AT-LINES size 0 → Returns images′ letters′ room₂ x
+    given-line t g images′ letters′ room₂ gives x e =
         rw e (
-          λ whole q. line-gives text whole (standOf (w .progress) images octets letters) (w .taken) room (w .wrote) period unit number size way q
-              (found (u .bus) (u .terminals) images octets₁ letters) (u .wrote) room₁ r there t
-              (found (g .bus) (g .terminals) images′ octets₁ letters′) (g .wrote) room₂ (rw v at (gives octets₁)),
+          λ start text at whole q. line-gives text whole (standOf (w .progress) images octets letters) at room (w .wrote) period unit number start size way
+              (q .says) (found (u .bus) (u .terminals) images octets₁ letters) (u .wrote) room₁ r there t
+              (found (g .bus) (g .terminals) images′ octets₁ letters′) (g .wrote) room₂ (rw (q .value-is) (gives octets₁)),
           refl,
         )

@@ -11,11 +11,12 @@ use Rattle.cases.proofs.ByCases.{clash}
 use Rattle.bus.specs.Calls.{Call}
 use Rattle.call_rules.specs.Kept.{Kept}
 use Rattle.book_line.specs.Line.{valueOf, isEnd}
-use Rattle.book_reader.specs.Step.{AT-LINES, AFTER-END, stepAt, lineAt}
+use Rattle.book_reader.specs.Step.{AT-LINES, AFTER-END, stepAt, lineAt, valueAt}
 use Rattle.book_reader.specs.Book.{firstLine}
 use Rattle.book_reader.specs.Book.Answer.{entry}
 use Rattle.book_reader.specs.Parts.{past, toCome}
 use Rattle.book_reader.specs.Laws.{Entered, First}
+use Rattle.book_reader.specs.declared.step.Step.{Step}
 use Rattle.book_reader.specs.declared.step.Step.the-variants.{Begun, Entry, Done, Fault, More}
 use Rattle.book_reader.proofs.Cut.{call-law}
 use Rattle.book_reader.proofs.RunOn.{entered, run-on-step}
@@ -30,7 +31,7 @@ use Rattle.report.proofs.AheadLaws as ahead
 use Rattle.report.proofs.AheadLaws.{UnderWay}
 use Rattle.book.specs.Progress.{standOf, turned}
 use Rattle.book.specs.Until.{periodsTo, RunsTo, given, Gives}
-use Rattle.book.specs.Steps.{Moves, toDo, Steps}
+use Rattle.book.specs.Steps.{Moves, toDo, Steps, Reads, StepsBy}
 use Rattle.book.specs.declared.progress.Went.{Went}
 
 -- ---- Moves: by a law, none, and one after another.
@@ -123,6 +124,12 @@ module _ {text : List ℕ} {whole : Bool} {s : Stand} {at : ℕ} {room : List �
         listed = omega arith;
       }
 
+-- a step to another place is one by so many octets
+pub steps-at : {text : List ℕ} {whole : Bool} {s : Stand} {at : ℕ} {room : List ℕ} {wrote : ℕ} {s′ : Stand} {at′ : ℕ} {room′ : List ℕ} {wrote′ why : ℕ}
+    (taken : ℕ) → Steps text whole s at room wrote s′ at′ room′ wrote′ why → at′ ≡ at + taken
+    → Steps text whole s at room wrote s′ (at + taken) room′ wrote′ why
+steps-at taken t e = rw e at t
+
 -- where the text goes on and the report has its first line
 pub less-text : (text : List ℕ) (s s′ : Stand) (at at′ : ℕ) → s .begun ≡ true → s′ .begun ≡ true → at < at′ → at < length text
     → toDo text s′ at′ < toDo text s at
@@ -130,8 +137,8 @@ unfolding toDo
 less-text text s s′ at at′ b b′ h l = rw (b, b′) (omega arith)
 
 -- ---- A line.
-module _ (text : List ℕ) (whole : Bool) (s : Stand) (at : ℕ) (room : List ℕ) (wrote period unit number size : ℕ) (way : UnderWay s)
-    (q : stepAt text at (s .stage) (ahead.run s) whole ≡ Entry period unit number size)
+module _ (text : List ℕ) (whole : Bool) (s : Stand) (at : ℕ) (room : List ℕ) (wrote period unit number start size : ℕ) (way : UnderWay s)
+    (q : stepAt text at (s .stage) (ahead.run s) whole ≡ Entry period unit number start size)
     (k₁ : Kept) (w₁ : ℕ) (room₁ : List ℕ) (r : RunsTo (s .kept) period room wrote k₁ w₁ room₁) where
   abbrev s₁ : Stand
   s₁ = record { kept = k₁; stage = s .stage; begun = s .begun; over = s .over }
@@ -139,16 +146,16 @@ module _ (text : List ℕ) (whole : Bool) (s : Stand) (at : ℕ) (room : List �
   abbrev value : List ℕ
   value = valueOf (lineAt text at size)
 
-  found : Entered text at (s .stage) (ahead.run s) period unit number size
-  found = entered text at (s .stage) (ahead.run s) whole period unit number size q
+  found : Entered text at (s .stage) (ahead.run s) period unit number start size
+  found = entered text at (s .stage) (ahead.run s) whole period unit number start size q
 
   -- what the book says, whatever number of periods up to the line's is run
   said : (last : ℕ) → last ≤ period → (later : List ℕ) → (whole ≡ true → later ≡ [])
       → toCome (record { stage = s .stage; last = last }) (drop at text ++ later)
       ≡ entry period unit number value ∷ toCome (past period unit number) (drop (at + size) text ++ later)
   said last h later fit =
-      call-law (record { stage = s .stage; last = last }) text at whole later fit (Entry period unit number size)
-      (run-on-step text at (s .stage) (ahead.run s) whole period unit number size last h q) .said
+      call-law (record { stage = s .stage; last = last }) text at whole later fit (Entry period unit number start size)
+      (run-on-step text at (s .stage) (ahead.run s) whole period unit number start size last h q) .said
 
   pub line-ran : Moves text whole s at room wrote s₁ at room₁ w₁
   unfolding answersAhead
@@ -181,10 +188,12 @@ module _ (text : List ℕ) (whole : Bool) (s : Stand) (at : ℕ) (room : List �
         (less-text text s s₂ at (at + size) (way .begun-is) (way .begun-is) (omega (arith, found .lf)) (omega (arith, found .lf, found .within)))
         (way .over-is)
 
-    pub line-gives : isEnd unit number ≡ false → (k₂ : Kept) (w₂ : ℕ) (room₂ : List ℕ) → Gives k₁ unit number value room₁ w₁ k₂ w₂ room₂
+    pub line-gives : isEnd unit number ≡ false → (k₂ : Kept) (w₂ : ℕ) (room₂ : List ℕ)
+        → Gives k₁ unit number (valueAt text at (Entry period unit number start size)) room₁ w₁ k₂ w₂ room₂
         → Steps text whole s at room wrote (record { kept = k₂; stage = AT-LINES; begun = s .begun; over = s .over }) (at + size) room₂ w₂ 0
     unfolding answersAhead
-    line-gives t k₂ w₂ room₂ g =
+    line-gives t k₂ w₂ room₂ gives =
+        let g : Gives k₁ unit number value room₁ w₁ k₂ w₂ room₂ = rw (found .value-is) at gives in
         let s₂ : Stand = record { kept = k₂; stage = AT-LINES; begun = s .begun; over = s .over } in
         let way₁ : UnderWay s₁ = record { begun-is = way .begun-is; over-is = way .over-is } in
         let way₂ : UnderWay s₂ = record { begun-is = way .begun-is; over-is = way .over-is } in
@@ -282,14 +291,18 @@ module _ (text : List ℕ) (whole : Bool) (k : Kept) (stage : ℕ) (begun over :
       (rw b (omega arith))
       o
 
--- ---- As `turned` gives it back.
-module _ (w : Went) (images octets letters text room : List ℕ) (whole : Bool) where
+-- ---- As `turned` gives it back, so many octets further on.
+module _ (w : Went) (images octets letters room : List ℕ) where
   abbrev here : Stand
   here = standOf (w .progress) images octets letters
 
-  pub turns : (stage : ℕ) (begun over : Bool) (taken wrote why : ℕ) (room′ : List ℕ)
-      → Steps text whole here (w .taken) room (w .wrote) (record { kept = here .kept; stage = stage; begun = begun; over = over }) taken room′ wrote why
-      → (x : Went) → x ≡ turned w stage begun over taken wrote why
-      → Steps text whole here (w .taken) room (w .wrote) (standOf (x .progress) images octets letters) (x .taken) room′ (x .wrote) (x .why)
-      × (x .reply ≡ 0)
-  turns stage begun over taken wrote why room′ s x e = rw e (s, refl)
+  -- what a return has to say
+  abbrev Returns : Step → List ℕ → List ℕ → List ℕ → List ℕ → List ℕ → Went → Type 0
+  Returns said value images′ octets′ letters′ room′ x =
+      StepsBy said value here room (w .wrote) (standOf (x .progress) images′ octets′ letters′) (x .taken) room′ (x .wrote) (x .why) × (x .reply ≡ 0)
+
+  pub turns : (said : Step) (value : List ℕ) (stage : ℕ) (begun over : Bool) (taken wrote why : ℕ) (room′ : List ℕ)
+      → ((text : List ℕ) (at : ℕ) (whole : Bool) → stepAt text at (here .stage) (ahead.run here) whole ≡ said
+      → Steps text whole here at room (w .wrote) (record { kept = here .kept; stage = stage; begun = begun; over = over }) (at + taken) room′ wrote why)
+      → (x : Went) → x ≡ turned w stage begun over taken wrote why → Returns said value images octets letters room′ x
+  turns said value stage begun over taken wrote why room′ s x e = rw e (λ text at whole r. s text at whole (r .says), refl)

@@ -28,6 +28,13 @@ standOf p images octets letters =
 unfoldable pub reason : Stand → ℕ
 reason s = runReply 0 (s .kept)
 
+-- Before the first step, and after the last one, with the octets taken of the text.
+abbrev pub untaken : Progress → Went
+untaken p = record { progress = p; taken = 0; wrote = 0; why = 0; reply = 0 }
+
+abbrev pub ended : Went → ℕ → Went
+ended w taken = record { progress = w .progress; taken = taken; wrote = w .wrote; why = w .why; reply = 0 }
+
 -- The same bus, at another stage of the book and of its report.
 abbrev pub turned : Went → ℕ → Bool → Bool → ℕ → ℕ → ℕ → Went
 turned w stage begun over taken wrote why =
@@ -50,8 +57,7 @@ reached w u stage taken why =
       reply = 0;
     }
 
--- What a step is for: the record and what is lent are in order, and text and room reach as far as is taken and written.
-pub record Goes (w : Went) (images octets letters text room : List ℕ) : Type 0 where
+-- What a step is for: the record and what is lent are in order, and the room reaches as far as is written.
+pub record Goes (w : Went) (images octets letters room : List ℕ) : Type 0 where
   pub ready : Ready (found (w .progress .bus) (w .progress .terminals) images octets letters)
-  pub within : w .taken ≤ length text
   pub fits : w .wrote ≤ length room

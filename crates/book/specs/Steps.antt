@@ -5,7 +5,7 @@ use mathlib.Core.Path.{_≡_}
 use Prim.Native.Nat.{ℕ, _+_, _-_, _≤_, _<_}
 use lib.ListN.{length, drop}
 use Rattle.bus.specs.Calls.{Call}
-use Rattle.book_reader.specs.Step.{stepAt}
+use Rattle.book_reader.specs.Step.{stepAt, valueAt}
 use Rattle.book_reader.specs.declared.step.Step.{Step}
 use Rattle.note_text.specs.Room.{Put}
 use Rattle.period_text.specs.PeriodText.{periodRoom}
@@ -42,3 +42,21 @@ pub record Steps (text : List ℕ) (whole : Bool) (s : Stand) (at : ℕ) (room :
   pub finished : why ≡ OVER → s′ .over ≡ true
   pub over-said : s′ .over ≡ true → why ≡ OVER
   pub listed : why ≤ OVER
+
+-- ---- A step is told what the book's reader has read, and the value of the line. It does with them what `Steps` says, of every text and every place
+-- in it where a reader would read just that.
+pub record Reads (text : List ℕ) (at : ℕ) (whole : Bool) (s : Stand) (said : Step) (value : List ℕ) : Type 0 where
+  pub within : at ≤ length text
+  pub says : stepAt text at (s .stage) (s .kept .bus .periods .0) whole ≡ said
+  pub value-is : valueAt text at said ≡ value
+
+-- it was read of some text
+pub record IsRead (s : Stand) (said : Step) (value : List ℕ) : Type 0 where
+  pub text : List ℕ
+  pub at : ℕ
+  pub whole : Bool
+  pub reads : Reads text at whole s said value
+
+abbrev pub StepsBy : Step → List ℕ → Stand → List ℕ → ℕ → Stand → ℕ → List ℕ → ℕ → ℕ → Type 0
+StepsBy said value s room wrote s′ taken room′ wrote′ why =
+    (text : List ℕ) (at : ℕ) (whole : Bool) → Reads text at whole s said value → Steps text whole s at room wrote s′ (at + taken) room′ wrote′ why

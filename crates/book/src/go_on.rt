@@ -4,7 +4,7 @@ ghost use Rattle.book.specs.Progress as spec;
 ghost use Rattle.book.specs.GoOn.{GoesOn};
 use super::progress::Progress;
 use super::progress::Went;
-use super::step::step;
+use super::reading::read_on;
 
 // The first of the reasons 1 and 2 that holds, or 0: as for a run of no period, which changes nothing.
 fn reason(progress: Progress, images: &[u8], octets: &mut [u8], letters: &[u8]) -> u8
@@ -31,18 +31,14 @@ pub fn go_on(
         r (now (images .exit)) (now (octets .exit)) (now (letters .exit)) (now (room .exit)) ⌝ }
 {
     let reply = reason(progress, images, octets, letters);
-    let mut w = Went {
-        progress,
-        taken: 0,
-        wrote: 0,
-        why: 0,
-        reply,
-    };
     if reply != 0 {
-        return w;
+        return Went {
+            progress,
+            taken: 0,
+            wrote: 0,
+            why: 0,
+            reply,
+        };
     }
-    while w.why == 0 {
-        w = step(w, images, octets, letters, text, room, whole);
-    }
-    w
+    read_on(progress, images, octets, letters, text, room, whole)
 }

@@ -1,14 +1,13 @@
 // A line of the book.
-ghost use mathlib.Core.Bool.{Bool, true, false};
+ghost use mathlib.Core.Bool.{true, false};
 ghost use mathlib.Core.Path.{_≡_};
-ghost use Prim.Native.Nat.{_+_, _≤_, _<_};
+ghost use Prim.Native.Nat.{ℕ, _≤_};
 ghost use lib.ListN.{length};
 ghost use Rattle.book_line.specs.Value.{valueOctets, valueRoom};
-ghost use Rattle.book_reader.specs.Step.{stepAt, fieldOf};
 ghost use Rattle.book_reader.specs.declared.step.Step.the-variants.{Entry};
 ghost use Rattle.timing.specs.Counts.{mostPeriods};
 ghost use Rattle.book.specs.Progress as spec;
-ghost use Rattle.book.specs.Steps.{Steps};
+ghost use Rattle.book.specs.Steps.{StepsBy};
 use super::give::give;
 use super::progress::Progress;
 use super::progress::ROOM;
@@ -17,12 +16,8 @@ use super::until::Until;
 use super::until::has_room;
 use super::until::run_to;
 use book_line::event::is_end;
-use book_reader::lent::part_at;
 use book_reader::step::AFTER_END;
 use book_reader::step::AT_LINES;
-
-// The field of a line that is its value: period, unit and event come before it.
-const VALUE: usize = 3;
 
 // The book at a stage, with the bus and what was written as they are now.
 fn reached(w: Went, u: Until, stage: u8, taken: usize, why: u8) -> Went
@@ -46,38 +41,34 @@ fn reached(w: Went, u: Until, stage: u8, taken: usize, why: u8) -> Went
 }
 
 // The periods before the line's own are run; then, where there is room, comes its event, or the end of the book's lines.
-// The line has `size` octets, its LF included.
+// The line has `size` octets, its LF included, and its value is as it stands in it.
 pub(crate) fn line(
     w: Went,
     images: &mut [u8],
     octets: &mut [u8],
     letters: &mut [u8],
-    text: &[u8],
+    value: &[u8],
     room: &mut [u8],
     period: u32,
     unit: u32,
     event: u8,
     size: usize,
 ) -> Went
-    requires { ⌜ spec.Goes w (now images) (now octets) (now letters) (now text) (now room)
+    requires { ⌜ spec.Goes w (now images) (now octets) (now letters) (now room)
         × (w .progress .begun ≡ true) × (w .progress .over ≡ false) × (w .progress .bus .periods .0 ≤ period)
-        × (period ≤ mostPeriods) × (w .taken + size ≤ length (now text))
-        × (length (valueOctets event (fieldOf (now text) (w .taken) size 3)) ≤ valueRoom) ⌝ }
-    ensures { λ r. ⌜ ((whole : Bool)
-        → stepAt (now (text .entry)) (w .taken) (w .progress .stage) (w .progress .bus .periods .0) whole ≡ Entry period unit event size
-        → Steps (now (text .entry)) whole
-        (spec.standOf (w .progress) (now (images .entry)) (now (octets .entry)) (now (letters .entry))) (w .taken) (now (room .entry)) (w .wrote)
+        × (period ≤ mostPeriods) × (length (valueOctets event (now value)) ≤ valueRoom) ⌝ }
+    ensures { λ r. ⌜ ((start : ℕ) → StepsBy (Entry period unit event start size) (now (value .entry))
+        (spec.standOf (w .progress) (now (images .entry)) (now (octets .entry)) (now (letters .entry))) (now (room .entry)) (w .wrote)
         (spec.standOf (r .progress) (now (images .exit)) (now (octets .exit)) (now (letters .exit))) (r .taken) (now (room .exit)) (r .wrote) (r .why))
         × (r .reply ≡ 0) ⌝ }
 {
     let u = run_to(w, images, octets, letters, room, period);
     if !has_room(room.len(), u.wrote) {
-        return reached(w, u, w.progress.stage, w.taken, ROOM);
+        return reached(w, u, w.progress.stage, 0, ROOM);
     }
     if is_end(unit, event) {
-        return reached(w, u, AFTER_END, w.taken + size, 0);
+        return reached(w, u, AFTER_END, size, 0);
     }
-    let value = part_at(text, w.taken, size, VALUE);
     let g = give(u, images, letters, unit, event, value, room);
-    reached(w, g, AT_LINES, w.taken + size, 0)
+    reached(w, g, AT_LINES, size, 0)
 }

@@ -17,7 +17,7 @@ pub struct Progress {
 }
 
 // What a call gives back: how far the book has come, the octets taken of the text and written into the room, why it stopped (0: it goes
-// on), and 0 or the number of the refusal.
+// on), and 0 or the number of the refusal. Between the steps of a call it is kept so, too; there `taken` is what the last step has taken.
 pub struct Went {
     pub progress: Progress,
     pub taken: usize,

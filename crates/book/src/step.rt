@@ -5,7 +5,7 @@ ghost use Prim.Native.Nat.{_+_, _≤_};
 ghost use lib.ListN.{length};
 ghost use Rattle.period_text.specs.PeriodText.{periodRoom};
 ghost use Rattle.book.specs.Progress as spec;
-ghost use Rattle.book.specs.Steps.{Steps};
+ghost use Rattle.book.specs.Steps.{IsRead, StepsBy};
 use super::line::line;
 use super::progress::OVER;
 use super::progress::Progress;
@@ -13,7 +13,6 @@ use super::progress::ROOM;
 use super::progress::TEXT;
 use super::progress::Went;
 use super::until::has_room;
-use book_reader::lent::read_at;
 use book_reader::step::AT_LINES;
 use book_reader::step::Step;
 use book_reader::step::octets_of;
@@ -57,88 +56,81 @@ fn stays(w: Went, stage: u8, taken: usize, why: u8) -> Went
     )
 }
 
-// What the text says next is done.
+// What the reader has read is done; the value is that of the line.
 fn carry_out(
     w: Went,
     images: &mut [u8],
     octets: &mut [u8],
     letters: &mut [u8],
-    text: &[u8],
+    said: Step,
+    value: &[u8],
     room: &mut [u8],
-    whole: bool,
 ) -> Went
-    requires { ⌜ spec.Goes w (now images) (now octets) (now letters) (now text) (now room)
+    requires { ⌜ spec.Goes w (now images) (now octets) (now letters) (now room)
+        × IsRead (spec.standOf (w .progress) (now images) (now octets) (now letters)) said (now value)
         × (w .wrote + periodRoom ≤ length (now room)) × (w .progress .begun ≡ true) × (w .progress .over ≡ false) ⌝ }
-    ensures { λ r. ⌜ Steps (now (text .entry)) whole
-        (spec.standOf (w .progress) (now (images .entry)) (now (octets .entry)) (now (letters .entry))) (w .taken) (now (room .entry)) (w .wrote)
+    ensures { λ r. ⌜ StepsBy said (now (value .entry))
+        (spec.standOf (w .progress) (now (images .entry)) (now (octets .entry)) (now (letters .entry))) (now (room .entry)) (w .wrote)
         (spec.standOf (r .progress) (now (images .exit)) (now (octets .exit)) (now (letters .exit))) (r .taken) (now (room .exit)) (r .wrote) (r .why)
         × (r .reply ≡ 0) ⌝ }
 {
     let stage = w.progress.stage;
-    let taken = w.taken;
-    let said = read_at(text, taken, stage, w.progress.bus.periods.0, whole);
     match said {
-        Step::Begun => stays(w, AT_LINES, taken + octets_of(said), 0),
+        Step::Begun => stays(w, AT_LINES, octets_of(said), 0),
         Step::Entry {
             period,
             unit,
             event,
+            value: _,
             octets: size,
         } => line(
             w,
             images,
             octets,
             letters,
-            text,
+            value,
             room,
             period,
             unit,
             event,
             size,
         ),
-        Step::Done => turned(w, stage, w.progress.begun, true, taken, w.wrote, OVER),
+        Step::Done => turned(w, stage, w.progress.begun, true, 0, w.wrote, OVER),
         Step::Fault(n) => {
             let wrote = put_stopped(room, w.wrote, n);
-            turned(w, stage, w.progress.begun, true, taken, wrote, OVER)
+            turned(w, stage, w.progress.begun, true, 0, wrote, OVER)
         }
-        Step::More => stays(w, stage, taken, TEXT),
+        Step::More => stays(w, stage, 0, TEXT),
     }
 }
 
-// One step: the report's first line, or what the text says next. Room for the notes of a period is asked for first, so that nothing is ever
-// pending.
+// One step: the report's first line, or what the reader has read. Room for the notes of a period is asked for first, so that nothing is ever
+// pending. What it gives back says how many octets of the text this step has taken.
 pub(crate) fn step(
     w: Went,
     images: &mut [u8],
     octets: &mut [u8],
     letters: &mut [u8],
-    text: &[u8],
+    said: Step,
+    value: &[u8],
     room: &mut [u8],
-    whole: bool,
 ) -> Went
-    requires { ⌜ spec.Goes w (now images) (now octets) (now letters) (now text) (now room) ⌝ }
-    ensures { λ r. ⌜ Steps (now (text .entry)) whole
-        (spec.standOf (w .progress) (now (images .entry)) (now (octets .entry)) (now (letters .entry))) (w .taken) (now (room .entry)) (w .wrote)
+    requires { ⌜ spec.Goes w (now images) (now octets) (now letters) (now room)
+        × IsRead (spec.standOf (w .progress) (now images) (now octets) (now letters)) said (now value) ⌝ }
+    ensures { λ r. ⌜ StepsBy said (now (value .entry))
+        (spec.standOf (w .progress) (now (images .entry)) (now (octets .entry)) (now (letters .entry))) (now (room .entry)) (w .wrote)
         (spec.standOf (r .progress) (now (images .exit)) (now (octets .exit)) (now (letters .exit))) (r .taken) (now (room .exit)) (r .wrote) (r .why)
         × (r .reply ≡ 0) ⌝ }
 {
     if w.progress.over {
-        return stays(w, w.progress.stage, w.taken, OVER);
+        return stays(w, w.progress.stage, 0, OVER);
     }
     if !has_room(room.len(), w.wrote) {
-        return stays(w, w.progress.stage, w.taken, ROOM);
+        return stays(w, w.progress.stage, 0, ROOM);
     }
     if !w.progress.begun {
         let wrote = put_heading(room, w.wrote);
-        return turned(
-            w,
-            w.progress.stage,
-            true,
-            w.progress.over,
-            w.taken,
-            wrote,
-            0,
-        );
+        return turned(w, w.progress.stage, true, w.progress.over, 0, wrote, 0);
     }
-    carry_out(w, images, octets, letters, text, room, whole)
+    carry_out(w, images, octets, letters, said, value, room)
 }

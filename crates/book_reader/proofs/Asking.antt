@@ -1,6 +1,6 @@
 -- A reader of a lent text, asked in a walk. The walk holds the text, and what a reader of it owns is made of that whenever it is asked.
 --     reader, of-text  the reader of a text that has read so far, and what it owns, of what the text owns
---     goes             what a call of a reader is given: the text's token, what the reader owns, and what the plain parameters own
+--     gives-as, goes   what a call of the text, or of its reader, is given: the text's token, what that owns, and what the plain parameters own
 --     asks             a call of a reader whose result is plain data: the text is there after it
 --     asks-on          a call that hands back a reader of the same text
 --     asks-part        a call that hands back a part of the text: it has the text's token;        part-back        the token goes back
@@ -20,7 +20,8 @@ use ghost.Atoms.{Atoms, sem}
 use contract.Monad.{fact}
 use types.Kit.{Given, Item, ‵, _⊛_, Goal, Post, runs, Seq, Step, step, _$_, _∵_, !, qed, by, move, drop, use0, use1, use2, split, join, rewrite, fjoin, frame, done}
 use types.Run.{Opds}
-use denote.Laws.{Is}
+use denote.RattleType.{RattleType, Denots, Valss, owns}
+use denote.Laws.{Is, Ises, Are, Makess, owns-make}
 use denote.Plain.{uint-makes}
 use denote.Builtin.{u8, usize}
 use denote.Ref.{RefT, NamedLft, now}
@@ -46,23 +47,28 @@ use Rattle.book_reader.proofs.lent.Reader.Laws as T′
 abbrev pub reader : RefT (List ℕ) → ℕ → Reader
 reader s n = record { text = s; at = n }
 
-module _ {M : Type 1} {𝓤 : URA M} {H : Heap 𝓤} {A : Atoms 𝓤} (W : Given 𝓤 H A) (κ : Lft) (q : Share) (s : RefT (List ℕ)) (n : ℕ) (ok : n < 2 ^ 64) where
-  abbrev α : NamedLft
-  α = namedLft 1 0 tt (κ, tt)
-
-  abbrev Own : Fml
-  Own = B (κ, tt) .own (reader s n) (T′.lowered (reader s n) ∷ [])
-
-  pub of-text : ent 𝓤 (sem 𝓤 H A (Text κ s)) (sem 𝓤 H A Own)
-  of-text =
-      qed W (‵ (Text κ s) ∷ []) ∵ nothing ! $ owned ! usize (Is usize) (uint-makes 𝓤 H A W w64) n _ (refl, ok) $ fjoin ! $ move ! (1 ∷ 0 ∷ []) $
-      fjoin ! $ by ! (own-shut 𝓤 H A W (T.the-type α) (T′.the-laws α) (s, (n, tt)))
-
-  pub goes : (F : Fml) → ent 𝓤 (emp 𝓤) (sem 𝓤 H A F)
-      → ent 𝓤 (sep 𝓤 (A .lft κ q) (sem 𝓤 H A (Text κ s))) (sep 𝓤 (sep 𝓤 (sep 𝓤 (A .lft κ q) (emp 𝓤)) (sem 𝓤 H A (fsep Own F))) (emp 𝓤))
-  goes F f =
-      qed W (‵ (flft κ q) ∷ ‵ (Text κ s) ∷ []) ∵ nothing ! $ move ! (1 ∷ 0 ∷ []) $ join ! $ move ! (1 ∷ []) $ use1 W (‵ Own) of-text $
+module _ {M : Type 1} {𝓤 : URA M} {H : Heap 𝓤} {A : Atoms 𝓤} (W : Given 𝓤 H A) (κ : Lft) (q : Share) (s : RefT (List ℕ)) where
+  pub gives-as : (X : Fml) → ent 𝓤 (sem 𝓤 H A (Text κ s)) (sem 𝓤 H A X) → (F : Fml) → ent 𝓤 (emp 𝓤) (sem 𝓤 H A F)
+      → ent 𝓤 (sep 𝓤 (A .lft κ q) (sem 𝓤 H A (Text κ s))) (sep 𝓤 (sep 𝓤 (sep 𝓤 (A .lft κ q) (emp 𝓤)) (sem 𝓤 H A (fsep X F))) (emp 𝓤))
+  gives-as X x F f =
+      qed W (‵ (flft κ q) ∷ ‵ (Text κ s) ∷ []) ∵ nothing ! $ move ! (1 ∷ 0 ∷ []) $ join ! $ move ! (1 ∷ []) $ use1 W (‵ X) x $
       use0 W (‵ F) f $ move ! (1 ∷ 0 ∷ []) $ fjoin ! $ move ! (1 ∷ 0 ∷ []) $ join ! $ frame ! $ done !
+
+  module _ (n : ℕ) (ok : n < 2 ^ 64) where
+    abbrev α : NamedLft
+    α = namedLft 1 0 tt (κ, tt)
+
+    abbrev Own : Fml
+    Own = B (κ, tt) .own (reader s n) (T′.lowered (reader s n) ∷ [])
+
+    pub of-text : ent 𝓤 (sem 𝓤 H A (Text κ s)) (sem 𝓤 H A Own)
+    of-text =
+        qed W (‵ (Text κ s) ∷ []) ∵ nothing ! $ owned ! usize (Is usize) (uint-makes 𝓤 H A W w64) n _ (refl, ok) $ fjoin ! $ move ! (1 ∷ 0 ∷ []) $
+        fjoin ! $ by ! (own-shut 𝓤 H A W (T.the-type α) (T′.the-laws α) (s, (n, tt)))
+
+    pub goes : (Rs : List RattleType) → Makess 𝓤 H A Rs (Ises Rs) → (a : Denots Rs) (vss : Valss Rs) → Are Rs (Ises Rs) a vss
+        → ent 𝓤 (sep 𝓤 (A .lft κ q) (sem 𝓤 H A (Text κ s))) (sep 𝓤 (sep 𝓤 (sep 𝓤 (A .lft κ q) (emp 𝓤)) (sem 𝓤 H A (fsep Own (owns Rs a vss)))) (emp 𝓤))
+    goes Rs mk a vss are = gives-as Own of-text (owns Rs a vss) (owns-make 𝓤 H A Rs (Ises Rs) mk a vss are)
 
 module _ {M : Type 1} {𝓤 : URA M} {H : Heap 𝓤} {A : Atoms 𝓤} {K : Type 0} {W : Given 𝓤 H A} {Γ : List (Item 𝓤)} {E : Env 𝓤 H} {hs : List Holds}
     {qp : Post 𝓤 H} {f : Name} {xs : List Operand} {d : ℕ} {rest : Body} {ℓ : Lifetime} {κ : Lft} {q : Share} {γ : GName} {b o n : ℕ} {ys : List ℕ} where
