@@ -262,7 +262,7 @@ module _ (before during : List Call) (stretch : Stretch (ran freshBus before) du
       let w = parts .wait-ends n L i p active-at-end images-at-most (waits-at 1 i p waits) (rw same-length long) in
       record {
         when = w .when;
-        after = w .after;
+        since = w .since;
         within = w .within;
         completed = completes-from 1 i (w .when) (omega (arith, w .within)) (w .completed);
         same-frame = λ t x y d. w .same-frame t x y (completes-at 1 i t (omega (arith, w .within)) d);

@@ -46,7 +46,7 @@ module _ (before during : List Call) where
   -- the frame that terminal i holds at opportunity p is completed at one of the `bound` opportunities from p on
   pub record CompletedWithin (k i p bound : ℕ) : Type 0 where
     pub when : ℕ
-    pub after : p ≤ when
+    pub since : p ≤ when
     pub within : when < p + bound
     pub completed : Completes k i (at opps when)
     -- it is the frame held at p

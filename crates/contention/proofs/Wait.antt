@@ -464,7 +464,7 @@ module _ (x1 x2 : ℕ) (c : Channel) (during : List Action) (h1 : 8 ≤ x1) (h2 
     earlier t v n b r =
         record {
           when = r .when;
-          after = omega (arith, r .after);
+          since = omega (arith, r .since);
           within = omega (arith, r .within);
           completed = r .completed;
           same-frame = λ u l m.
@@ -477,7 +477,7 @@ module _ (x1 x2 : ℕ) (c : Channel) (during : List Action) (h1 : 8 ≤ x1) (h2 
     here t v h r =
         record {
           when = t;
-          after = omega arith;
+          since = omega arith;
           within = omega arith;
           completed = r;
           same-frame = λ u l m. absurd (omega arith);

@@ -37,7 +37,7 @@ module _ (x1 x2 : ℕ) (c : Channel) (during : List Action) where
   -- the frame of class k that terminal i holds at opportunity p is completed at one of the `bound` opportunities from p on
   pub record CompletedWithin (k i p bound : ℕ) : Type 0 where
     pub when : ℕ
-    pub after : p ≤ when
+    pub since : p ≤ when
     pub within : when < p + bound
     pub completed : Completes x1 x2 k i (at opps when)
     -- it is the frame held at p
