@@ -2,16 +2,18 @@
 use mathlib.Core.Path.{_≡_, refl, sym, ap, _∙_}
 use mathlib.Core.Bool.{Bool, true}
 use mathlib.Core.List.{List, [], _∷_, _++_, map, append-assoc}
-use Prim.Native.Nat.{ℕ, zero, suc, _+_, _≤_, _<_}
+use Prim.Native.Nat.{ℕ, zero, suc, _+_, _-_, _≤_, _<_}
 use native.Mathlib.Nat.{add-zero, zero-add}
 use native.Mathlib.Omega.{arith}
-use lib.Dec.{eqb}
+use lib.Dec.{eqb, ltb}
 use lib.ListN.{length, getD, length-map, List·getD-map}
-use borrow.Author.Tests.{eqb-true, eq-eqb}
+use borrow.Author.Tests.{eqb-true, eqb-false, eq-eqb, ne-eqb, ltb-true, ltb-false}
 use Rattle.cases.proofs.ByCases.{by-test}
 use Rattle.table_6_2.specs.Table62.{F1, F7}
 use Rattle.hdlc.specs.Image.{image}
-use Rattle.hdlc.specs.Reading.Said.{heard}
+use Rattle.hdlc.specs.Reading.{Said}
+use Rattle.hdlc.specs.Reading.Said.{nothing, torn, heard}
+use Rattle.hdlc.proofs.ImageLaws.{length-image}
 use Rattle.dchannel.specs.Access.{normal1, normal2}
 use Rattle.dchannel.proofs.AccessLaws.{length-most}
 use Rattle.contention.specs.Channel.{Channel, Action, freshChannel, turnAt, run}
@@ -19,13 +21,15 @@ use Rattle.contention.specs.Stretch as channel
 use Rattle.contention.specs.Claims as channelClaims
 use Rattle.contention.proofs.Crossing.{station-map}
 use Rattle.contention.proofs.Demand3.{demand3-from}
+use Rattle.contention.proofs.Trace.{invariant-at}
+use Rattle.contention.proofs.HeardSteps.{completes-whole}
 use Rattle.contention.proofs.OpeningFlag as flag
 use Rattle.bus.specs.Bus.{Seat, Bus, terminals, freshSeat, freshBus}
 use Rattle.bus.specs.Exchange.{Moment, inF7, seatsOf, turnOf, turned, eComes, saidTo, onward, begins}
 use Rattle.bus.specs.Calls.{Call, reply, after, notes, ran, allNotes}
 use Rattle.bus.specs.Calls.Call.{event, period}
-use Rattle.bus.specs.Stretch.{seatAt, Stretch, momentsOf, moments, seatThen, Waits, Completes, Begins, buses, powered, poweredFrom, poweredIn, longestOf, longestIn}
-use Rattle.bus.specs.Claims.{nowhere, at, opps, NoRivalTwice, WaitEnds, NoStopInFlag, BegunSince, HeardInOrder, PartOfList, Demand3}
+use Rattle.bus.specs.Stretch.{seatAt, Stretch, momentsOf, moments, seatThen, Waits, Completes, Begins, bodyIn, bodyHeard, firstDone, bodyCompleted, buses, powered, poweredFrom, poweredIn, longestOf, longestIn}
+use Rattle.bus.specs.Claims.{nowhere, at, opps, NoRivalTwice, WaitEnds, NoStopInFlag, BegunSince, HeardWhole, HeardInOrder, BegunHeard, heardFrom, completedFrom, HeardAsCompleted, PartOfList, Demand3}
 use Rattle.bus.proofs.Seats.{Each, each-begins, each-onward, length-ran}
 use Rattle.bus.proofs.Mapping.{stationOf, stationsOf, channelOf, channelAt, turn-is}
 use Rattle.bus.proofs.Simulation.{chain, four-in-chain, allActions, calls-channel}
@@ -76,7 +80,10 @@ begins-to i m f b =
 
 begins-back : (i : ℕ) (m : Moment) → Faithful m → channel.Begins normal1 normal2 i (channelAt m) → Begins i m
 begins-back i m f b =
-    record { in-F7 = active-back i m (b .in-F7); idle = rw (station-then i m) at (b .idle); first = rw (turn-then i m f) at (b .first) }
+    let active = active-back i m (b .in-F7) in
+    let idle = rw (station-then i m) at (b .idle) in
+    let first = rw (turn-then i m f) at (b .first) in
+    search
 
 said-then : (m : Moment) → Faithful m → saidTo m ≡ channel.saidAt normal1 normal2 (channelAt m)
 unfolding saidTo channel.saidAt channelAt
@@ -165,6 +172,29 @@ part-of-list before during later =
       in-moments = rw (moments-append freshBus before (during ++ later), moments-append (ran freshBus before) during later);
       in-notes = rw (notes-append freshBus before (during ++ later), notes-append (ran freshBus before) during later);
     }
+
+-- ---- the body completed at an opportunity: where nobody completes a frame there is none, and where somebody does and all of these have one
+-- body it is that one
+none-done : (e : Bool) (ss : List Seat) →
+    ((i : ℕ) → getD ss i freshSeat .terminal .state ≡ F7 → turnOf e (getD ss i freshSeat) .done ≡ 0) → firstDone e ss ≡ []
+unfolding firstDone
+none-done e [] h = refl
+none-done e (s ∷ ss) h =
+    let rest = none-done e ss (λ i. h (suc i)) in
+    by-test (inF7 s) (λ t. rw (t, h 0 (eqb-true (s .terminal .state) F7 t)) rest) (λ t. rw t rest)
+
+one-done-first : (e : Bool) (ss : List Seat) (body : List ℕ) →
+    ((i : ℕ) → getD ss i freshSeat .terminal .state ≡ F7 → 1 ≤ turnOf e (getD ss i freshSeat) .done → getD ss i freshSeat .body ≡ body) →
+    (i : ℕ) → getD ss i freshSeat .terminal .state ≡ F7 → 1 ≤ turnOf e (getD ss i freshSeat) .done → firstDone e ss ≡ body ∷ []
+unfolding firstDone
+one-done-first e [] body all i f d = absurd (omega arith)
+one-done-first e (s ∷ ss) body all zero f d = rw (eq-eqb (s .terminal .state) F7 f, ne-eqb (turnOf e s .done) 0 (omega arith), all 0 f d)
+one-done-first e (s ∷ ss) body all (suc i) f d =
+    let rest = one-done-first e ss body (λ n. all (suc n)) i f d in
+    by-test (inF7 s)
+    (λ t. by-test (eqb (turnOf e s .done) 0) (λ u. rw (t, u) rest)
+    (λ u. rw (t, u, all 0 (eqb-true (s .terminal .state) F7 t) (omega (arith, eqb-false (turnOf e s .done) 0 u)))))
+    (λ t. rw t rest)
 
 -- ---- the theorem
 nowhere-channel : channelAt nowhere ≡ freshChannel 0
@@ -281,7 +311,7 @@ module _ (before during : List Call) (stretch : Stretch (ran freshBus before) du
 
   heard-in-order : HeardInOrder before during
   heard-in-order j p t begins late inside =
-      let h = parts .heard-in-order j p t (begins-at j p (omega arith) begins) late (rw same-length inside) in
+      let h = parts .heard-in-order j p t (begins-at j p (omega arith) begins) (omega arith) (rw same-length inside) in
       record {
         heard-completed = λ body e.
             let r = h .heard-completed body (sym (said-at t (omega arith)) ∙ e) in
@@ -301,6 +331,72 @@ module _ (before during : List Call) (stretch : Stretch (ran freshBus before) du
       ∙ flag.no-stop-in-flag normal1 normal2 c actions (omega arith) (omega arith) (always-invariant before) stretch-there j p s
       (begins-at j p (omega arith) begins) few (rw same-length inside)
 
+  -- ---- in demand 3's words
+  sent-whole : (j k u : ℕ) → 1 ≤ k → u < length here → Completes k j (then u) → 16 ≤ seatThen j (then u) .terminal .access .sent
+  sent-whole j k u some inside completed =
+      let there-too : u < length there = rw same-length inside in
+      let inv = invariant-at normal1 normal2 c actions (omega arith) (omega arith) (always-invariant before) stretch-there u there-too in
+      rw (← sent-then j u)
+      (omega (arith, completes-whole inv j k some (completes-at k j u inside completed) .all, length-image (channel.station j (thenThere u) .body)))
+
+  begun-heard : BegunHeard before during
+  begun-heard j k p t some order inside begins completed =
+      let whole = sent-whole j k (t + 1) some inside completed in
+      let from-p : p + (t + 1 - p) ≡ t + 1 = omega arith in
+      by-test (ltb (p + 7) t)
+      (λ e. heard-in-order j p t begins (omega (arith, ltb-true (p + 7) t e)) inside .completed-heard j k some completed)
+      (λ e.
+      let few : t + 1 - p ≤ 9 = omega (arith, ltb-false (p + 7) t e) in
+      absurd (omega (arith, whole, few, rw from-p at (no-stop-in-flag j p (t + 1 - p) begins few (rw from-p inside)))))
+
+  heard-completed-at : (p t : ℕ) → HeardWhole before during p t → bodyHeard (then t) ≡ bodyCompleted (then (t + 1))
+  unfolding bodyHeard bodyCompleted seatThen
+  heard-completed-at p t h = go (saidTo (then t)) refl
+    where
+      now : Bool
+      now = eComes (then (t + 1))
+
+      seats : List Seat
+      seats = seatsOf (then (t + 1) .senders)
+
+      done : ℕ → ℕ
+      done i = turnOf now (seatThen i (then (t + 1))) .done
+
+      go : (x : Said) → saidTo (then t) ≡ x → bodyIn x ≡ firstDone now seats
+      go nothing e =
+          sym (none-done now seats
+          (λ i f. by-test (eqb (done i) 0)
+          (λ d. eqb-true (done i) 0 d)
+          (λ d.
+          let said = h .completed-heard i (done i) (omega (arith, eqb-false (done i) 0 d)) (record { in-F7 = f; done = refl }) in
+          let clash : _≡_ {A = ℕ} 0 1 = cc (e, said) in
+          absurd (omega arith))))
+      go torn e = absurd (h .not-torn e)
+      go (heard body) e =
+          let r = h .heard-completed body e in
+          sym (one-done-first now seats body
+          (λ i f d.
+          let said = h .completed-heard i (done i) d (record { in-F7 = f; done = refl }) in
+          cc (e, said))
+          (r .0) (r .3 .in-F7) (omega (arith, r .3 .done, r .2)))
+
+  heard-as-completed-from : (j p n t : ℕ) → Begins j (then p) → p + 7 < t → t + n < length here →
+      heardFrom before during t n ≡ completedFrom before during (t + 1) n
+  unfolding heardFrom completedFrom
+  heard-as-completed-from j p zero t begins late inside = refl
+  heard-as-completed-from j p (suc n) t begins late inside =
+      rw (
+        heard-completed-at p t (heard-in-order j p t begins late (omega arith)),
+        heard-as-completed-from j p n (t + 1) begins (omega arith) (omega arith),
+      )
+
+  heard-as-completed : HeardAsCompleted before during
+  heard-as-completed j p n begins inside =
+      rw (shift p) (heard-as-completed-from j p n (p + 8) begins (omega arith) inside)
+    where
+      shift : (a : ℕ) → a + 9 ≡ a + 8 + 1
+      shift a = omega arith
+
 pub demand3 : Demand3
 demand3 before during later stretch =
     record {
@@ -309,5 +405,7 @@ demand3 before during later stretch =
       no-rival-twice = no-rival-twice before during stretch;
       wait-ends = wait-ends before during stretch;
       heard-in-order = heard-in-order before during stretch;
+      begun-heard = begun-heard before during stretch;
+      heard-as-completed = heard-as-completed before during stretch;
       no-stop-in-flag = no-stop-in-flag before during stretch;
     }

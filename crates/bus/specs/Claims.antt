@@ -4,7 +4,7 @@
 use mathlib.Core.List.{List, [], _++_}
 use mathlib.Core.Path.{_≡_}
 use mathlib.Core.Bool.{true}
-use Prim.Native.Nat.{ℕ, _+_, _*_, _≤_, _<_}
+use Prim.Native.Nat.{ℕ, zero, suc, _+_, _*_, _≤_, _<_}
 use lib.ListN.{length, getD}
 use Rattle.hdlc.specs.Image.{image}
 use Rattle.dchannel.specs.Access.{normal1}
@@ -13,7 +13,7 @@ use Rattle.hdlc.specs.Reading.Said.{torn, heard}
 use Rattle.bus.specs.Bus.{Hit, Bus, freshBus}
 use Rattle.bus.specs.Exchange.{Moment, saidTo}
 use Rattle.bus.specs.Calls.{Call, ran, allNotes}
-use Rattle.bus.specs.Stretch.{Stretch, moments, seatThen, Waits, Completes, Begins, buses, poweredIn, longestIn}
+use Rattle.bus.specs.Stretch.{Stretch, moments, seatThen, Waits, Completes, Begins, bodyHeard, bodyCompleted, buses, poweredIn, longestIn}
 use Rattle.bus.specs.Telling.{AllTell}
 
 -- a moment of no list
@@ -58,7 +58,8 @@ module _ (before during : List Call) where
   waitBound = (poweredIn (buses start during) + 1) * (longestIn (buses start during) + normal1)
 
   -- "In class 1, if the stretch lasts that long, a frame so waiting is completed within (n + 1) times (L + 8) D opportunities, counted
-  -- from the first of the stretch at which it so waits"
+  -- from the first of the stretch at which it so waits": p is any opportunity at which it so waits, so also the first. From a later one the
+  -- claim is that of the stretch's rest, which is a stretch too.
   abbrev pub WaitEnds : Type 0
   WaitEnds = (i p : ℕ) → Waits 1 i (at opps p) → p + waitBound ≤ length opps → CompletedWithin 1 i p waitBound
 
@@ -95,6 +96,28 @@ module _ (before during : List Call) where
   abbrev pub HeardInOrder : Type 0
   HeardInOrder = (j p t : ℕ) → Begins j (at opps p) → p + 7 < t → t + 1 < length opps → HeardWhole p t
 
+  -- The same in demand 3's words. "Every frame begun and completed in it is heard whole": one that terminal j has begun at opportunity p, or
+  -- anew since then, and completes at the E of opportunity t + 1 is heard at the D before, which is its last bit.
+  abbrev pub BegunHeard : Type 0
+  BegunHeard =
+      (j k p t : ℕ) → 1 ≤ k → p ≤ t → t + 1 < length opps →
+      Begins j (at opps p) → Completes k j (at opps (t + 1)) →
+      saidTo (at opps t) ≡ heard (seatThen j (at opps (t + 1)) .body)
+
+  -- the bodies heard at opportunity t and those after it, n in all; the bodies of the frames completed at them
+  unfoldable pub heardFrom : ℕ → ℕ → List (List ℕ)
+  heardFrom t zero = []
+  heardFrom t (suc n) = bodyHeard (at opps t) ++ heardFrom (t + 1) n
+
+  unfoldable pub completedFrom : ℕ → ℕ → List (List ℕ)
+  completedFrom t zero = []
+  completedFrom t (suc n) = bodyCompleted (at opps t) ++ completedFrom (t + 1) n
+
+  -- ".. in order, equal ones sent together as one; between the first opening flag begun in it and the last completion nothing else is heard":
+  -- after the flag of a frame begun at p, the bodies heard are those completed, in the same order, each one opportunity before
+  abbrev pub HeardAsCompleted : Type 0
+  HeardAsCompleted = (j p n : ℕ) → Begins j (at opps p) → p + 8 + n < length opps → heardFrom (p + 8) n ≡ completedFrom (p + 9) n
+
 -- "A stretch is any unbroken part of the list": its D opportunities and its notes are a part of the whole list's
 pub record PartOfList (before during after : List Call) : Type 0 where
   pub in-moments : moments freshBus (before ++ (during ++ after))
@@ -111,6 +134,8 @@ pub record Claimed (before during after : List Call) : Type 0 where
   pub no-rival-twice : NoRivalTwice before during
   pub wait-ends : WaitEnds before during
   pub heard-in-order : HeardInOrder before during
+  pub begun-heard : BegunHeard before during
+  pub heard-as-completed : HeardAsCompleted before during
   -- which rests on where a flag's last bit leaves
   pub no-stop-in-flag : NoStopInFlag before during
 

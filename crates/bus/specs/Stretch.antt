@@ -1,6 +1,6 @@
 -- Stretches, and document 01's words for what happens at the D opportunities in them ("Lists and stretches"). Sentences in quotation marks
 -- are document 01's, or demand 3's, which docs/STATEMENTS.md has in full.
-use mathlib.Core.Bool.{Bool, true, false, cond}
+use mathlib.Core.Bool.{Bool, true, false, cond, not, _&&_}
 use mathlib.Core.List.{List, [], _∷_, _++_}
 use mathlib.Core.Path.{_≡_}
 use Prim.Native.Nat.{ℕ, zero, suc, _+_, max}
@@ -9,8 +9,10 @@ use lib.ListN.{getD}
 use Rattle.table_6_2.specs.Table62.{F1, F7}
 use Rattle.table_6_3.specs.Table63.{G3}
 use Rattle.dchannel.specs.Access.{lowOf}
+use Rattle.hdlc.specs.Reading.{Said}
+use Rattle.hdlc.specs.Reading.Said.{nothing, torn, heard}
 use Rattle.bus.specs.Bus.{Seat, Hit, Bus, terminals, freshSeat}
-use Rattle.bus.specs.Exchange.{Moment, seatsOf, anyInfo1, turnOf, eComes, opportunitiesOf}
+use Rattle.bus.specs.Exchange.{Moment, inF7, seatsOf, anyInfo1, turnOf, eComes, saidTo, opportunitiesOf}
 use Rattle.bus.specs.Calls.{Call, reply, after}
 use Rattle.bus.specs.Calls.Call.{event, period}
 
@@ -67,6 +69,24 @@ pub record Begins (i : ℕ) (m : Moment) : Type 0 where
   pub in-F7 : seatThen i m .terminal .state ≡ F7
   pub idle : seatThen i m .terminal .access .sent ≡ 0
   pub first : turnOf (eComes m) (seatThen i m) .access .sent ≡ 1
+
+-- the body that the network end's reader says, if it says one
+abbrev pub bodyIn : Said → List (List ℕ)
+bodyIn nothing = []
+bodyIn torn = []
+bodyIn (heard body) = body ∷ []
+
+-- the body heard at the D, if one is
+unfoldable pub bodyHeard : Moment → List (List ℕ)
+bodyHeard m = bodyIn (saidTo m)
+
+-- the body of the frame completed at the E, if one is: "equal ones sent together as one", so that of the first terminal that completes one
+unfoldable pub firstDone : Bool → List Seat → List (List ℕ)
+firstDone e [] = []
+firstDone e (s ∷ ss) = cond (inF7 s && not (eqb (turnOf e s .done) 0)) (s .body ∷ []) (firstDone e ss)
+
+unfoldable pub bodyCompleted : Moment → List (List ℕ)
+bodyCompleted m = firstDone (eComes m) (seatsOf (m .senders))
 
 -- the bus where the stretch begins and after each of its calls
 unfoldable pub buses : Bus → List Call → List Bus
