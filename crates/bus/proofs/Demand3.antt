@@ -173,8 +173,7 @@ part-of-list before during later =
       in-notes = rw (notes-append freshBus before (during ++ later), notes-append (ran freshBus before) during later);
     }
 
--- ---- the body completed at an opportunity: where nobody completes a frame there is none, and where somebody does and all of these have one
--- body it is that one
+-- ---- the body completed at an opportunity: none where nobody completes a frame; where all that complete one have one body, that body
 none-done : (e : Bool) (ss : List Seat) →
     ((i : ℕ) → getD ss i freshSeat .terminal .state ≡ F7 → turnOf e (getD ss i freshSeat) .done ≡ 0) → firstDone e ss ≡ []
 unfolding firstDone
@@ -336,8 +335,8 @@ module _ (before during : List Call) (stretch : Stretch (ran freshBus before) du
   sent-whole j k u some inside completed =
       let there-too : u < length there = rw same-length inside in
       let inv = invariant-at normal1 normal2 c actions (omega arith) (omega arith) (always-invariant before) stretch-there u there-too in
-      rw (← sent-then j u)
-      (omega (arith, completes-whole inv j k some (completes-at k j u inside completed) .all, length-image (channel.station j (thenThere u) .body)))
+      let whole = completes-whole inv j k some (completes-at k j u inside completed) in
+      rw (← sent-then j u) (omega (arith, whole .all, length-image (channel.station j (thenThere u) .body)))
 
   begun-heard : BegunHeard before during
   begun-heard j k p t some order inside begins completed =

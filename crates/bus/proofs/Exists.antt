@@ -5,13 +5,15 @@ use mathlib.Core.List.{List, [], _∷_}
 use Prim.Native.Nat.{ℕ, zero, suc, _+_}
 use native.Mathlib.Omega.{arith}
 use lib.Dec.{eqb, leb}
-use lib.ListN.{getD, replicate}
-use borrow.Author.Tests.{eqb-true, not-true, lt-leb}
+use lib.ListN.{length, getD, replicate}
+use borrow.Author.Tests.{eqb-true, ne-eqb, leb-true, not-true, lt-leb}
 use Rattle.cases.proofs.ByCases.{by-test, and-left, and-right}
 use Rattle.cells.specs.Cells.{cellIn, infoIn}
 use Rattle.table_6_2.specs.Table62.{F1, F7}
 use Rattle.table_6_2.specs.Table62 as table62
 use Rattle.table_6_3.specs.Table63.{G3}
+use Rattle.hdlc.specs.Reading.Said.{heard}
+use Rattle.dchannel.specs.Access.{lowOf}
 use Rattle.timing.specs.Counts.{mostPeriods}
 use Rattle.timing.specs.Timers.{due}
 use Rattle.alignment.specs.Alignment.{framedPeriod, followed}
@@ -22,13 +24,14 @@ use Rattle.network.specs.declared.Network.{Network}
 use Rattle.terminal.specs.Terminal as terminal
 use Rattle.bus.specs.Bus.{Seat, Hit, Bus, freshSeat, freshBus}
 use Rattle.bus.specs.Bus.Hit.{none, given}
-use Rattle.bus.specs.Exchange.{seatsOf, anyInfo1, anyInfo3, turned, onward, begins, opportunitiesOf, exchanged, wholeDown, wholeUp, lineDown, inF7}
+use Rattle.bus.specs.Exchange.{Moment, turnOf, eComes, saidTo, seatsOf, anyInfo1, anyInfo3, turned, onward, begins, opportunitiesOf, exchanged, wholeDown, wholeUp, lineDown, inF7}
 use Rattle.bus.specs.Period.{networkHears, terminalHears, stepped, heardBy, timed, periodRun}
 use Rattle.bus.specs.Calls.{Call, reply, does, after, ran}
 use Rattle.bus.specs.Calls.Call.{event, period}
-use Rattle.bus.specs.Stretch.{seatAt, seatThen, Undisturbed, Stretch, momentsOf, moments, Calm, Stays}
+use Rattle.bus.specs.Stretch.{seatAt, seatThen, Undisturbed, Stretch, momentsOf, moments, Calm, Stays, Waits, Completes, Begins}
+use Rattle.bus.specs.Claims.{at, opps}
 use Rattle.bus.specs.Quick.{shownBy, shownFrom}
-use Rattle.bus.specs.Scenes.{report, activated, beforeWait, duringWait}
+use Rattle.bus.specs.Scenes.{report, activating, activated, beforeWait, duringWait, duringBusy}
 use Rattle.bus.specs.Exists as exists
 use Rattle.bus.proofs.Quick.{up-shown, down-shown}
 use Rattle.bus.proofs.Seats.{Each, seat-heard, seat-timed, each-exchanged}
@@ -218,8 +221,11 @@ no-hit-is : (h : Hit) → noHit h ≡ true → h ≡ Hit.none
 no-hit-is none e = refl
 no-hit-is (given letters) e = absurd (true≢false (sym e))
 
+calm-event : (b : Bus) (unit number : ℕ) (value : List ℕ) → Calm b (event unit number value)
+calm-event b unit number value = search
+
 calm-is : (b : Bus) (c : Call) → isCalm b c ≡ true → Calm b c
-calm-is b (event unit number value) h = tt
+calm-is b (event unit number value) h = calm-event b unit number value
 calm-is b period h = λ r. record { no-hit = no-hit-is (b .hit) (and-left (noHit (b .hit)) (not (anyInfo1 (b .seats))) h); no-info-1 = not-true (anyInfo1 (b .seats)) (and-right (noHit (b .hit)) (not (anyInfo1 (b .seats))) h) }
 
 stays-is : (b b′ : Bus) → stays b b′ ≡ true → Stays b b′
@@ -248,3 +254,114 @@ stretch-is b (c ∷ more) h =
 pub worst-stretch : exists.WorstStretch
 unfolding report anyInfo1
 worst-stretch = stretch-is (ran freshBus beforeWait) duringWait refl
+
+-- ---- the words as tests
+abbrev waitsNow : ℕ → ℕ → Moment → Bool
+waitsNow k i m =
+    let s = seatThen i m in
+    inF7 s && (eqb (s .terminal .access .held) k && not (lowOf k (s .terminal .access)))
+
+abbrev beginsNow : ℕ → Moment → Bool
+beginsNow i m =
+    let s = seatThen i m in
+    inF7 s && (eqb (s .terminal .access .sent) 0 && eqb (turnOf (eComes m) s .access .sent) 1)
+
+abbrev completesNow : ℕ → ℕ → Moment → Bool
+completesNow k i m = inF7 (seatThen i m) && eqb (turnOf (eComes m) (seatThen i m) .done) k
+
+-- ---- every event, and every refused call
+pub any-event : exists.AnyEvent
+unfolding Stretch
+any-event b unit number value more stays rest = (calm-event b unit number value, stays, rest)
+
+pub any-refused-call : exists.AnyRefusedCall
+unfolding Stretch after
+any-refused-call b c more g refused rest =
+    rw (ne-eqb (reply b c) 0 refused) (calm c refused, record { in-G3 = g; still-G3 = g; still-F7 = λ i f. f }, rest)
+  where
+    calm : (x : Call) → (reply b x ≡ 0 → ⊥) → Calm b x
+    calm (event unit number value) r = calm-event b unit number value
+    calm period r = λ e. absurd (r e)
+
+-- ---- the words, at opportunities that are computed
+waits-is : (k i : ℕ) (m : Moment) → waitsNow k i m ≡ true → Waits k i m
+waits-is k i m h =
+    let s = seatThen i m in
+    let holds = eqb (s .terminal .access .held) k in
+    let low = lowOf k (s .terminal .access) in
+    let more = and-right (inF7 s) (holds && not low) h in
+    let active : s .terminal .state ≡ F7 = eqb-true (s .terminal .state) F7 (and-left (inF7 s) (holds && not low) h) in
+    let held : s .terminal .access .held ≡ k = eqb-true (s .terminal .access .held) k (and-left holds (not low) more) in
+    let normal : low ≡ false = not-true low (and-right holds (not low) more) in
+    search
+
+begins-is : (i : ℕ) (m : Moment) → beginsNow i m ≡ true → Begins i m
+begins-is i m h =
+    let s = seatThen i m in
+    let t = turnOf (eComes m) s in
+    let idle = eqb (s .terminal .access .sent) 0 in
+    let first = eqb (t .access .sent) 1 in
+    let more = and-right (inF7 s) (idle && first) h in
+    let active : s .terminal .state ≡ F7 = eqb-true (s .terminal .state) F7 (and-left (inF7 s) (idle && first) h) in
+    let was-idle : s .terminal .access .sent ≡ 0 = eqb-true (s .terminal .access .sent) 0 (and-left idle first more) in
+    let first-left : t .access .sent ≡ 1 = eqb-true (t .access .sent) 1 (and-right idle first more) in
+    search
+
+completes-is : (k i : ℕ) (m : Moment) → completesNow k i m ≡ true → Completes k i m
+completes-is k i m h =
+    let s = seatThen i m in
+    let t = turnOf (eComes m) s in
+    let done = eqb (t .done) k in
+    let active : s .terminal .state ≡ F7 = eqb-true (s .terminal .state) F7 (and-left (inF7 s) done h) in
+    let is-done : t .done ≡ k = eqb-true (t .done) k (and-right (inF7 s) done h) in
+    search
+
+-- the worst wait, computed once
+abbrev every : List Bool → Bool
+every [] = true
+every (x ∷ xs) = x && every xs
+
+every-one : (xs : List Bool) → every xs ≡ true → (i : ℕ) → getD xs i true ≡ true
+every-one [] h i = refl
+every-one (x ∷ xs) h zero = and-left x (every xs) h
+every-one (x ∷ xs) h (suc i) = every-one xs (and-right x (every xs) h) i
+
+abbrev waitTests : List Moment → List Bool
+waitTests ms =
+    leb 128 (length ms)
+    ∷ waitsNow 1 0 (at ms 0)
+    ∷ completesNow 1 1 (at ms 63)
+    ∷ waitsNow 1 0 (at ms 63)
+    ∷ completesNow 1 2 (at ms 95)
+    ∷ waitsNow 1 0 (at ms 95)
+    ∷ beginsNow 0 (at ms 103)
+    ∷ completesNow 1 0 (at ms 127)
+    ∷ []
+
+waits-to-the-last : (ms : List Moment) → every (waitTests ms) ≡ true → saidTo (at ms 126) ≡ heard (1 ∷ []) → exists.WaitsToTheLast ms
+waits-to-the-last ms h said =
+    record {
+      waits = waits-is 1 0 (at ms 0) (every-one (waitTests ms) h 1);
+      lasts = leb-true 128 (length ms) (every-one (waitTests ms) h 0);
+      second-completes = completes-is 1 1 (at ms 63) (every-one (waitTests ms) h 2);
+      waits-meanwhile = waits-is 1 0 (at ms 63) (every-one (waitTests ms) h 3);
+      third-completes = completes-is 1 2 (at ms 95) (every-one (waitTests ms) h 4);
+      still-waits = waits-is 1 0 (at ms 95) (every-one (waitTests ms) h 5);
+      begun = begins-is 0 (at ms 103) (every-one (waitTests ms) h 6);
+      is-heard = said;
+      completed = completes-is 1 0 (at ms 127) (every-one (waitTests ms) h 7);
+    }
+
+pub worst-wait : exists.WorstWait
+unfolding report anyInfo1
+worst-wait = waits-to-the-last (opps beforeWait duringWait) refl refl
+
+pub busy-stretch : exists.BusyStretch
+unfolding report anyInfo1
+busy-stretch =
+    record {
+      is-stretch = stretch-is activated duringBusy refl;
+      begun = begins-is 0 (at exists.busy 7) refl;
+      is-heard = refl;
+      completed = completes-is 1 0 (at exists.busy 31) refl;
+    }

@@ -58,8 +58,8 @@ module _ (before during : List Call) where
   waitBound = (poweredIn (buses start during) + 1) * (longestIn (buses start during) + normal1)
 
   -- "In class 1, if the stretch lasts that long, a frame so waiting is completed within (n + 1) times (L + 8) D opportunities, counted
-  -- from the first of the stretch at which it so waits": p is any opportunity at which it so waits, so also the first. From a later one the
-  -- claim is that of the stretch's rest, which is a stretch too.
+  -- from the first of the stretch at which it so waits": p is any opportunity at which it so waits, and so also the first. From a later one
+  -- on no more is claimed: the rest of a stretch is a stretch, and there p is the first.
   abbrev pub WaitEnds : Type 0
   WaitEnds = (i p : ℕ) → Waits 1 i (at opps p) → p + waitBound ≤ length opps → CompletedWithin 1 i p waitBound
 
@@ -96,8 +96,8 @@ module _ (before during : List Call) where
   abbrev pub HeardInOrder : Type 0
   HeardInOrder = (j p t : ℕ) → Begins j (at opps p) → p + 7 < t → t + 1 < length opps → HeardWhole p t
 
-  -- The same in demand 3's words. "Every frame begun and completed in it is heard whole": one that terminal j has begun at opportunity p, or
-  -- anew since then, and completes at the E of opportunity t + 1 is heard at the D before, which is its last bit.
+  -- The same in demand 3's words. "Every frame begun and completed in it is heard whole": one that terminal j has begun at opportunity p,
+  -- or anew since then, and completes at the E of opportunity t + 1 is heard at the D before, which is its last bit.
   abbrev pub BegunHeard : Type 0
   BegunHeard =
       (j k p t : ℕ) → 1 ≤ k → p ≤ t → t + 1 < length opps →
@@ -113,8 +113,8 @@ module _ (before during : List Call) where
   completedFrom t zero = []
   completedFrom t (suc n) = bodyCompleted (at opps t) ++ completedFrom (t + 1) n
 
-  -- ".. in order, equal ones sent together as one; between the first opening flag begun in it and the last completion nothing else is heard":
-  -- after the flag of a frame begun at p, the bodies heard are those completed, in the same order, each one opportunity before
+  -- ".. in order, equal ones sent together as one; between the first opening flag begun in it and the last completion nothing else is
+  -- heard": after the flag of a frame begun at p, the bodies heard are those completed, in the same order, each one opportunity before
   abbrev pub HeardAsCompleted : Type 0
   HeardAsCompleted = (j p n : ℕ) → Begins j (at opps p) → p + 8 + n < length opps → heardFrom (p + 8) n ≡ completedFrom (p + 9) n
 
@@ -134,9 +134,10 @@ pub record Claimed (before during after : List Call) : Type 0 where
   pub no-rival-twice : NoRivalTwice before during
   pub wait-ends : WaitEnds before during
   pub heard-in-order : HeardInOrder before during
+  -- the third once more, in demand 3's own words
   pub begun-heard : BegunHeard before during
   pub heard-as-completed : HeardAsCompleted before during
-  -- which rests on where a flag's last bit leaves
+  -- it rests on where a flag's last bit leaves
   pub no-stop-in-flag : NoStopInFlag before during
 
 -- Demand 3.

@@ -1,14 +1,19 @@
--- Stretches of any length exist: what demand 3 assumes can be met. The statements are types; `proofs/Exists.antt` proves each under the same
--- name in small letters.
+-- Stretches of any length exist, and busy ones, and what demand 3 speaks of happens in them: what it assumes can be met. The statements are
+-- types; `proofs/Exists.antt` proves each under the same name in small letters.
 use mathlib.Core.Path.{_≡_}
+use mathlib.Core.List.{List, [], _∷_}
 use Prim.Native.Nat.{ℕ, _+_, _*_, _≤_}
 use lib.ListN.{length, replicate}
+use Rattle.hdlc.specs.Reading.Said.{heard}
 use Rattle.timing.specs.Counts.{mostPeriods}
+use Rattle.table_6_3.specs.Table63.{G3}
 use Rattle.bus.specs.Bus.{Bus, freshBus}
-use Rattle.bus.specs.Calls.{ran}
-use Rattle.bus.specs.Calls.Call.{period}
-use Rattle.bus.specs.Stretch.{Stretch, moments}
-use Rattle.bus.specs.Scenes.{activated, beforeWait, duringWait}
+use Rattle.bus.specs.Exchange.{Moment, saidTo}
+use Rattle.bus.specs.Calls.{Call, reply, after, ran}
+use Rattle.bus.specs.Calls.Call.{event, period}
+use Rattle.bus.specs.Stretch.{Stays, Stretch, moments, Waits, Completes, Begins}
+use Rattle.bus.specs.Claims.{at, opps}
+use Rattle.bus.specs.Scenes.{activating, activated, beforeWait, duringWait, duringBusy}
 
 -- So many periods after document 01's book has activated its terminal.
 abbrev pub StretchesExist : Type 0
@@ -21,3 +26,45 @@ StretchLength = (n : ℕ) (b : Bus) → b .periods + n ≤ mostPeriods → lengt
 -- The scene of the worst wait is a stretch.
 abbrev pub WorstStretch : Type 0
 WorstStretch = Stretch (ran freshBus beforeWait) duringWait
+
+-- .. and demand 3's words hold in it, at its D opportunities ms. Terminal 1 has the index 0. The bound is 128 (specs/Scenes.antt), so that
+-- 127 is the last opportunity at which its frame may be completed.
+pub record WaitsToTheLast (ms : List Moment) : Type 0 where
+  -- it waits at the first opportunity of the stretch, which lasts as long as the bound ..
+  pub waits : Waits 1 0 (at ms 0)
+  pub lasts : 128 ≤ length ms
+  -- .. and also as two rivals complete a frame of class 1, each one of them
+  pub second-completes : Completes 1 1 (at ms 63)
+  pub waits-meanwhile : Waits 1 0 (at ms 63)
+  pub third-completes : Completes 1 2 (at ms 95)
+  pub still-waits : Waits 1 0 (at ms 95)
+  -- then its frame is begun, heard and completed
+  pub begun : Begins 0 (at ms 103)
+  pub is-heard : saidTo (at ms 126) ≡ heard (1 ∷ [])
+  pub completed : Completes 1 0 (at ms 127)
+
+abbrev pub WorstWait : Type 0
+WorstWait = WaitsToTheLast (opps beforeWait duringWait)
+
+-- "whatever the others request": every event may come in a stretch, accepted or refused, that leaves the network end in G3 and in F7 all
+-- that are there ..
+abbrev pub AnyEvent : Type 0
+AnyEvent =
+    (b : Bus) (unit number : ℕ) (value : List ℕ) (more : List Call) →
+    let call = event unit number value in
+    Stays b (after b call) → Stretch (after b call) more → Stretch b (call ∷ more)
+
+-- .. so every refused call may: it changes nothing
+abbrev pub AnyRefusedCall : Type 0
+AnyRefusedCall =
+    (b : Bus) (c : Call) (more : List Call) → b .network .state ≡ G3 → (reply b c ≡ 0 → ⊥) → Stretch b more → Stretch b (c ∷ more)
+
+-- The busy scene is a stretch, and in it the frame of terminal 1 is begun, heard and completed.
+abbrev pub busy : List Moment
+busy = opps activating duringBusy
+
+pub record BusyStretch : Type 0 where
+  pub is-stretch : Stretch activated duringBusy
+  pub begun : Begins 0 (at busy 7)
+  pub is-heard : saidTo (at busy 30) ≡ heard (0 ∷ [])
+  pub completed : Completes 1 0 (at busy 31)

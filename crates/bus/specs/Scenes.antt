@@ -202,6 +202,54 @@ pub worst-wait : (waitBound beforeWait duringWait ≡ 128) × (completedAt 0 0 (
 unfolding report
 worst-wait = (refl, refl)
 
+-- ---- A busy stretch (specs/Exists.antt) after document 01's book has activated terminal 1, which is given a frame. While that is sent
+-- terminal 2 is switched on, off and on, enters F7 and is given a frame, and calls are refused with every number from 2 to 8. A hit is given
+-- last, and its period is not run.
+abbrev pub duringBusy : List Call
+duringBusy =
+    event 1 D1 (0 ∷ [])
+    ∷ event 0 HIT []
+    ∷ event 9 ON []
+    ∷ event 2 DR []
+    ∷ event 1 AR []
+    ∷ event 2 ON []
+    ∷ event 2 D1 (0 ∷ [])
+    ∷ periods 1 (event 2 OFF []
+    ∷ periods 1 (event 2 ON []
+    ∷ event 1 D2 []
+    ∷ event 1 D2 (1 ∷ [])
+    ∷ periods 6 (event 2 D2 (1 ∷ []) ∷ periods 1 (event 0 HIT (replicate lineLength noneLetter) ∷ []))))
+
+-- the number that comes back from each call of a list, 0 where it is not refused
+abbrev replies : Bus → List Call → List ℕ
+replies b [] = []
+replies b (c ∷ more) = reply b c ∷ replies (after b c) more
+
+pub busy-replies :
+    replies activated duringBusy
+    ≡ 0 ∷ 2 ∷ 3 ∷ 4 ∷ 5 ∷ 0 ∷ 6 ∷ 0 ∷ 0 ∷ 0 ∷ 0 ∷ 7 ∷ 8 ∷ 0 ∷ 0 ∷ 0 ∷ 0 ∷ 0 ∷ 0 ∷ 0 ∷ 0 ∷ 0 ∷ []
+unfolding report
+busy-replies = refl
+
+-- terminal 1's frame is heard and completed, and terminal 2 is activated meanwhile
+pub busy-notes :
+    report activated duringBusy
+    ≡ note 9 0 REFUSED (2 ∷ [])
+    ∷ note 9 9 REFUSED (3 ∷ [])
+    ∷ note 9 2 REFUSED (4 ∷ [])
+    ∷ note 9 1 REFUSED (5 ∷ [])
+    ∷ note 9 2 REFUSED (6 ∷ [])
+    ∷ note 11 1 REFUSED (7 ∷ [])
+    ∷ note 11 1 REFUSED (8 ∷ [])
+    ∷ note 13 2 MPH-II-CONNECTED []
+    ∷ note 13 2 PH-ACT []
+    ∷ note 13 2 MPH-ACT []
+    ∷ note 16 0 HEARD (0 ∷ [])
+    ∷ note 16 1 DONE1 []
+    ∷ []
+unfolding report
+busy-notes = refl
+
 -- ---- Records that are made up.
 abbrev aligned : Alignment
 aligned = record { aligned = true; run = 0 }

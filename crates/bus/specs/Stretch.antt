@@ -55,6 +55,7 @@ seatThen i m = getD (seatsOf (m .senders)) i freshSeat
 
 -- "It waits at a D opportunity when, as E comes, it is in F7, holds a frame and that frame's class is at the normal level"
 pub record Waits (k i : ℕ) (m : Moment) : Type 0 where
+  -- "one that is sending waits too": whether a bit has left is not asked
   pub in-F7 : seatThen i m .terminal .state ≡ F7
   pub holds : seatThen i m .terminal .access .held ≡ k
   pub normal : lowOf k (seatThen i m .terminal .access) ≡ false
@@ -66,6 +67,7 @@ pub record Completes (k i : ℕ) (m : Moment) : Type 0 where
 
 -- "A frame is begun where a sending's first bit leaves"
 pub record Begins (i : ℕ) (m : Moment) : Type 0 where
+  -- "starting over begins it anew": whether it was begun before is not asked
   pub in-F7 : seatThen i m .terminal .state ≡ F7
   pub idle : seatThen i m .terminal .access .sent ≡ 0
   pub first : turnOf (eComes m) (seatThen i m) .access .sent ≡ 1
