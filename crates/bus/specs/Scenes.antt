@@ -203,8 +203,8 @@ unfolding report
 worst-wait = (refl, refl)
 
 -- ---- A busy stretch (specs/Exists.antt) after document 01's book has activated terminal 1, which is given a frame. While that is sent
--- terminal 2 is switched on, off and on, enters F7 and is given a frame, and calls are refused with every number from 2 to 8. A hit is given
--- last, and its period is not run.
+-- terminal 2 is switched on, off and on, enters F7 and is given a frame, and calls are refused with every number from 2 to 8. A hit is
+-- given last, and its period is not run.
 abbrev pub duringBusy : List Call
 duringBusy =
     event 1 D1 (0 ∷ [])
