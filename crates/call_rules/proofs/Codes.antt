@@ -1,30 +1,47 @@
--- Every note of a period has a code: `specs/Lists.antt`.
+-- Every note of a call has a code: `specs/Lists.antt`.
 use mathlib.Core.Path.{_≡_, refl}
-use mathlib.Core.Bool.{Bool, true, false}
+use mathlib.Core.Bool.{Bool, true, false, cond}
 use mathlib.Core.List.{List, [], _∷_, _++_, map}
 use Prim.Native.Nat.{ℕ, zero, suc, _+_}
 use native.Mathlib.Omega.{arith}
 use lib.Dec.{eqb, ltb}
+use lib.ListN.{length}
 use borrow.Author.Tests.{eqb-true, ltb-false, le-ltb, lt-leb, ne-eqb}
 use Rattle.cases.proofs.ByCases.{by-test, both, clash}
-use Rattle.cells.specs.Notes.{noted}
-use Rattle.cells.proofs.NotesKept.{everyNote, every-append, every-of}
+use Rattle.cells.specs.Notes.{packedNotes, noted}
+use Rattle.cells.proofs.NotesKept.{everyNote, every-append, every-of, isIndication}
+use Rattle.table_6_3.specs.Table63 as table63
+use Rattle.timing.specs.declared.counts.Periods.{Periods}
+use Rattle.dchannel.specs.declared.access.Class.{Class}
+use Rattle.dchannel.specs.declared.access.Class.the-variants.{One, Two}
+use Rattle.hdlc.specs.Image.{image}
+use Rattle.network.specs.Network as network
+use Rattle.network.proofs.Laws as network-laws
+use Rattle.terminal.specs.Terminal as terminal
+use Rattle.terminal.specs.declared.Terminal.{Terminal}
+use Rattle.terminal.specs.declared.TerminalStep.{TerminalStep}
+use Rattle.terminal.proofs.Laws as terminal-laws
 use Rattle.terminal.proofs.Laws.{isTerminalNote, timer-told}
 use Rattle.bus.specs.Bus.{Note, notesOf}
+use Rattle.bus.specs.Calls.Call.{event, period}
+use Rattle.bus.specs.Event.{ON, OFF, AR, D1, D2, HIT}
 use Rattle.bus.specs.Exchange.{Sender, exchanged, wholeDown}
 use Rattle.bus.proofs.Telling.{network-hears-plain, network-timers-plain, terminal-hears-plain}
 use Rattle.reader.specs.declared.ReaderAnswer.{ReaderAnswer}
 use Rattle.reader.specs.declared.ReaderAnswer.the-variants.{Nothing, Heard, Torn, Refused}
 use Rattle.hdlc.specs.Bits.{bitOf}
 use Rattle.listening.specs.declared.hears.UnitNotes.{UnitNotes}
+use Rattle.bus_record.specs.declared.record.BusRecord.{BusRecord}
 use Rattle.bus_record.specs.declared.side.Ran.{Ran}
+use Rattle.bus_event.specs.Event as parts
 use Rattle.call_rules.specs.Kept.{Kept}
 use Rattle.call_rules.specs.Shown.{busIn}
 use Rattle.call_rules.specs.Period.{noteOf, networkNotes, terminalNotes, terminalsNotes, answersIn, periodRan, keptRun}
 use Rattle.call_rules.specs.Ready.{goesOn}
 use Rattle.call_rules.specs.Run.{ran, keptAfter}
-use Rattle.call_rules.specs.Lists.{doneNotes, readerTold, terminalsTold, timersTold, periodTold, runTold, isCode, coded, RunNotesCoded}
-use Rattle.call_rules.proofs.QuietRuns.{accepted-one, told-on, told-end}
+use Rattle.call_rules.specs.Event.{reason, eventTold}
+use Rattle.call_rules.specs.Lists.{told, replied, notesTold, doneNotes, readerTold, terminalsTold, timersTold, periodTold, runTold, isCode, coded, NotesCoded, RunNotesCoded}
+use Rattle.call_rules.proofs.QuietRuns.{accepted-one, one-told, told-on, told-end}
 
 -- ---- Lists of notes.
 coded-append : (xs ys : List Note) → coded xs ≡ true → coded ys ≡ true → coded (xs ++ ys) ≡ true
@@ -132,3 +149,62 @@ run-notes-coded (suc n) k =
     by-test (goesOn (ran 1 k) (suc n))
     (λ g. rw (told-on (suc n) k g) (run-notes-coded n (keptAfter 1 k)))
     (λ g. rw (told-end (suc n) k g) (coded-one k))
+
+-- ---- An event: the tables' notes, and those of a dropped frame.
+no-codes : Codes (noted (packedNotes []))
+unfolding noted everyNote
+no-codes = refl
+
+module _ (now : Periods) (t : Terminal) where
+  of-step : (step : ℕ → Terminal → TerminalStep) → ((p : ℕ) → everyNote isTerminalNote (noted (step p t .notes)) ≡ true)
+      → Codes (noted (terminal.checked step now t .notes))
+  unfolding terminal.checked
+  of-step step h = by-test (terminal.ready now t) (λ e. rw e (of-tables _ (h (now .0)))) (λ e. rw e no-codes)
+
+  of-frame : (class : Class) (images : List ℕ) (i : ℕ) (body : List ℕ) → Codes (noted (parts.frameGiven class images i body t .notes))
+  unfolding parts.frameGiven parts.turnedDown terminal.handedOver
+  of-frame class images i body =
+      by-test (eqb (parts.frameReason (length images) i (length body) t) 0)
+      (λ e. rw e
+      (by-test (terminal.terminalInRange t)
+      (λ f. rw (f, terminal-laws.hands-over-notes class (length (image body)) t) no-codes)
+      (λ f. rw f no-codes)))
+      (λ e. rw e no-codes)
+
+  of-terminal : (number : ℕ) (images : List ℕ) (i : ℕ) (value : List ℕ)
+      → Codes (noted (parts.terminalTold number images i value now t .notes))
+  unfolding parts.terminalTold parts.turnedDown
+  of-terminal number images i value =
+      by-test (eqb number ON) (λ a. rw a (of-step terminal.switchesOn (λ p. terminal-laws.on-told p t)))
+      (λ a. rw a (by-test (eqb number OFF) (λ b. rw b (of-step terminal.switchesOff (λ p. terminal-laws.off-told p t)))
+      (λ b. rw b (by-test (eqb number AR) (λ c. rw c (of-step terminal.requests (λ p. terminal-laws.requests-told p t)))
+      (λ c. rw c (by-test (eqb number D1) (λ d. rw d (of-frame One images i value))
+      (λ d. rw d (by-test (eqb number D2) (λ e. rw e (of-frame Two images i value)) (λ e. rw e no-codes)))))))))
+
+of-network : (number : ℕ) (bus : BusRecord) → Codes (noted (parts.networkTold number bus .notes))
+unfolding parts.networkTold parts.networkAsked parts.asked parts.told network.checked
+of-network number bus =
+    let request = cond (eqb number AR) table63.AR table63.DR in
+    by-test (eqb number HIT) (λ h. rw h no-codes)
+    (λ h. rw h
+    (by-test (network.ready (bus .periods) (bus .network))
+    (λ r. rw r
+    (of-tables _
+    (every-of isIndication isTerminalNote (λ code i. rw i) _ (network-laws.requests-told request (bus .periods .0) (bus .network)))))
+    (λ r. rw r no-codes)))
+
+of-event : (unit number : ℕ) (value : List ℕ) (k : Kept) → Codes (noted (told unit number value k .notes))
+unfolding told eventTold parts.told
+of-event unit number value k =
+    by-test (eqb (reason unit number value (k .bus) (k .terminals) (k .images) (k .letters)) 0)
+    (λ r. rw r
+    (by-test (eqb unit 0) (λ u. rw u (of-network number (k .bus)))
+    (λ u. rw u (of-terminal (k .bus .periods) _ number (k .images) _ value))))
+    (λ r. rw r no-codes)
+
+-- ---- A call.
+pub notes-coded : NotesCoded
+unfolding notesTold coded
+notes-coded k (event unit number value) =
+    by-test (eqb (replied k (event unit number value)) 0) (λ t. rw t (coded-of _ unit _ (of-event unit number value k))) (λ t. rw t)
+notes-coded k period = rw (← one-told k) (run-notes-coded zero k)

@@ -258,6 +258,10 @@ unfoldable pub coded : List Note → Bool
 coded [] = true
 coded (n ∷ ns) = cond (isCode (n .code)) (coded ns) false
 
+-- of every call, and of a run of at least one period, whatever record and slices it finds
+abbrev pub NotesCoded : Type 0
+NotesCoded = (k : Kept) (c : Call) → coded (notesTold k c) ≡ true
+
 abbrev pub RunNotesCoded : Type 0
 RunNotesCoded = (n : ℕ) (k : Kept) → coded (runTold (suc n) k) ≡ true
 
