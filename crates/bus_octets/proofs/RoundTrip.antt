@@ -2,8 +2,8 @@
 use mathlib.Core.Bool.{Bool, true, false}
 use mathlib.Core.List.{List, [], _∷_, _++_, append-assoc}
 use mathlib.Core.Path.{_≡_, refl, sym, ap, _∙_}
-use Prim.Native.Nat.{ℕ, zero, _+_, _*_, _/_, _%_, _^_, _<_}
-use native.Mathlib.Nat.{div-div-eq-div-mul, suc-add}
+use Prim.Native.Nat.{ℕ, zero, _+_, _*_, _^_, _<_}
+use native.Mathlib.Nat.{suc-add}
 use native.Mathlib.Omega.{arith}
 use lib.Dec.{eqb, leb}
 use lib.ListN.{length, take, drop, length-append}
@@ -28,22 +28,12 @@ use Rattle.bus_record.specs.declared.record.BusRecord.{BusRecord}
 use Rattle.call_rules.specs.Kept.{Kept}
 use Rattle.call_rules.proofs.InOrder.{InOrder, in-order, order-ranges}
 use Rattle.call_rules.specs.Kept.{found}
+use Rattle.note_text.proofs.Determined.{half-back, word-back}
 use Rattle.bus_octets.specs.Layout.{flag, recordOctets, terminalOctets, terminalsOctets, headOctets, busOctets, recordIn, terminalAt, terminalsFrom, terminalsIn, lettersIn, octetsIn, shown, terminalLength, lettersAt, octetsAt, imagesAt, busLength, isHead, isBus}
 use Rattle.bus_octets.specs.Laws.{RoundTrip}
 use Rattle.bus_octets.proofs.Lengths.{length-record, length-terminal, length-head}
 
--- ---- Numbers and flags.
-half-back : (n : ℕ) → n < 2 ^ 16 → n % 256 + 256 * (n / 256 % 256) ≡ n
-half-back n h = omega arith
-
-low-half : (n : ℕ) → n % 256 + 256 * (n / 256 % 256) + 65536 * (n / 65536) ≡ n
-low-half n = let e : n / 256 / 256 ≡ n / 65536 = div-div-eq-div-mul n 256 256 in rw (← e) (omega arith)
-
-word-back : (n : ℕ) → n < 2 ^ 32 → n % 256 + 256 * (n / 256 % 256) + 65536 * (n / 65536 % 256 + 256 * (n / 16777216 % 256)) ≡ n
-word-back n h =
-    let e : n / 65536 / 256 ≡ n / 16777216 = div-div-eq-div-mul n 65536 256 in
-    rw (← e, half-back (n / 65536) (omega arith)) (low-half n)
-
+-- ---- Flags.
 pub flag-back : (b : Bool) → eqb (flag b) 1 ≡ b
 flag-back true = refl
 flag-back false = refl

@@ -1,5 +1,5 @@
 -- Text in lent room (RoomLaws), numbers and octets as text (DecimalLaws, HexLaws), the table of names (NameTable), notes as lines and in either
--- form (NoteLaws), a note as octets (OctetLaws), and how long notes are (Lengths).
+-- form (NoteLaws), a note as octets (OctetLaws), how long notes are (Lengths), and that octets determine them (Determined).
 pub mod RoomLaws
 pub mod DecimalLaws
 pub mod HexLaws
@@ -7,3 +7,4 @@ pub mod NameTable
 pub mod NoteLaws
 pub mod OctetLaws
 pub mod Lengths
+pub mod Determined
