@@ -4,11 +4,11 @@ use mathlib.Core.Path.{_≡_, refl, sym, _∙_}
 use Prim.Native.Nat.{ℕ, _+_, _*_, _/_, _%_, _^_, _<_}
 use native.Mathlib.Nat.{div-div-eq-div-mul}
 use native.Mathlib.Omega.{arith}
-use lib.ListN.{length, take, drop}
+use lib.ListN.{length}
 use lib.Seq.{take-append-seam, drop-append-seam}
 use Rattle.bus.specs.Bus.{Note}
 use Rattle.note_text.specs.LowFirst.{half, word}
-use Rattle.note_text.specs.NoteOctets.{noteOctets}
+use Rattle.note_text.specs.NoteOctets.{unitOctet, noteOctets}
 use Rattle.note_text.specs.NoteText.{note, notesIn}
 use Rattle.note_text.specs.declared.form.Form.the-variants.{Octets}
 use Rattle.note_text.specs.Determined.{HalfDetermined, WordDetermined, FitsOctets, AllFitOctets, NoteDetermined, NotesDetermined}
@@ -47,7 +47,7 @@ pub note-determined : NoteDetermined
 unfolding noteOctets
 note-determined n m behind behind′ f g e =
     let code : n .code % 256 ≡ m .code % 256 = cc in
-    let unit : n .unit % 256 ≡ m .unit % 256 = cc in
+    let unit : unitOctet (n .unit) ≡ unitOctet (m .unit) = cc in
     let half-same : half (length (n .value)) ≡ half (length (m .value)) = cc in
     let word-same : word (n .period) ≡ word (m .period) = cc in
     let values : n .value ++ behind ≡ m .value ++ behind′ = cc in

@@ -7,7 +7,7 @@ use native.Mathlib.Omega.{arith}
 use lib.ListN.{length}
 use Rattle.bus.specs.Bus.{Note}
 use Rattle.note_text.specs.LowFirst.{half, word}
-use Rattle.note_text.specs.NoteOctets.{noteOctets}
+use Rattle.note_text.specs.NoteOctets.{unitOctet, noteOctets}
 
 -- what a number has above an octet does not change the octet
 octet-low : (n k m : ℕ) → zero < k → n % (k * (256 * m)) / k % 256 ≡ n / k % 256
@@ -28,7 +28,7 @@ word-low n =
     rw (e, octet-low n 256 65536 (omega arith), octet-low n 65536 256 (omega arith), octet-low n 16777216 1 (omega arith))
 
 pub octets-parts : (n : Note) → n .code < 256
-    → (n .code ∷ n .unit % 256 ∷ [])
+    → (n .code ∷ unitOctet (n .unit) ∷ [])
     ++ (half (length (n .value) % 65536) ++ (word (n .period % 4294967296) ++ n .value))
     ≡ noteOctets n
 unfolding noteOctets

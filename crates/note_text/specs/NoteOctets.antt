@@ -7,9 +7,13 @@ use Rattle.cells.specs.Notes.{HEARD}
 use Rattle.bus.specs.Bus.{Note}
 use Rattle.note_text.specs.LowFirst.{half, word}
 
+-- A unit takes an octet.
+abbrev pub unitOctet : ℕ → ℕ
+unitOctet unit = unit % 256
+
 -- The code, the unit, how many octets the value has, the period, and the octets of the value.
 unfoldable pub noteOctets : Note → List ℕ
-noteOctets n = (n .code % 256 ∷ n .unit % 256 ∷ []) ++ (half (length (n .value)) ++ (word (n .period) ++ n .value))
+noteOctets n = (n .code % 256 ∷ unitOctet (n .unit) ∷ []) ++ (half (length (n .value)) ++ (word (n .period) ++ n .value))
 
 -- ---- Computed: `16 0 heard 00` of document 01's example report.
 pub example-heard :
