@@ -2,11 +2,12 @@
 use mathlib.Core.Path.{_≡_, refl, sym, ap, _∙_}
 use mathlib.Core.Bool.{Bool, true, false, cond, not, _&&_, _||_}
 use mathlib.Core.List.{List, []}
-use Prim.Native.Nat.{ℕ, _-_, _<_}
+use Prim.Native.Nat.{ℕ, _-_, _≤_, _<_}
 use native.Mathlib.Omega.{arith}
 use lib.Dec.{eqb, ltb}
 use lib.ListN.{length, getD, set}
-use borrow.Author.Tests.{eqb-true, ltb-false}
+use borrow.Author.Tests.{eqb-true, eqb-false, ltb-false}
+use Rattle.cases.proofs.ByCases.{by-test}
 use Rattle.cases.proofs.Operators.{and-both}
 use Rattle.cells.specs.Notes.{packedNotes}
 use Rattle.terminal.specs.Terminal.{fresh}
@@ -21,7 +22,7 @@ use Rattle.bus_event.specs.Event.{imagesRoom, areLetters, told, firstReason, ne
 use Rattle.bus_event.specs.Event as parts
 use Rattle.bus_event.specs.declared.event.Told.{Told}
 use Rattle.call_rules.specs.Ready.{eightInRange}
-use Rattle.call_rules.specs.Event.{eventTold, terminalsAfter, imagesAfter, lettersAfter}
+use Rattle.call_rules.specs.Event.{reason, eventTold, terminalsAfter, imagesAfter, lettersAfter}
 use Rattle.call_rules.proofs.InOrder.{eight-in-range}
 
 -- no reason: the terminals are in order, and the unit is one of the bus
@@ -40,12 +41,27 @@ module _ (unit number : ℕ) (value : List ℕ) (bus : BusRecord) (ts : List Ter
       × (images′ ≡ imagesAfter unit number value bus ts images letters)
       × (letters′ ≡ lettersAfter unit number value bus ts images letters)
 
+  no-reason : (ready : Bool) → firstReason ready bus (length images) letters unit number value ≡ 0
+      → ((ready && recordInRange bus) ≡ true) × (ltb terminals unit ≡ false)
+  unfolding firstReason
+  no-reason ready h =
+      none-holds (ready && recordInRange bus)
+      ((eqb (length images) imagesRoom && areLetters letters) && (not (eqb number HIT) || areLetters value))
+      (ltb terminals unit) (eventFor unit number) h
+
+  -- an event that is not refused is of a unit of the bus
+  pub unit-is : eventTold unit number value bus ts images letters .reply ≡ 0 → unit ≤ terminals
+  unfolding eventTold told
+  unit-is h =
+      by-test (eqb (reason unit number value bus ts images letters) 0)
+      (λ t. ltb-false terminals unit (no-reason (eightInRange ts) (eqb-true _ 0 t) .1))
+      (λ t. absurd (eqb-false _ 0 t (rw t at h)))
+
   -- `ready` and the reason as the code has them
   module _ (ready : Bool) (is-ready : ready ≡ eightInRange ts) (k : ℕ) (is-k : k ≡ firstReason ready bus (length images) letters unit number value) where
     pub within : (i : ℕ) → i ≡ unit - 1 → eqb k 0 ≡ true → i < length ts
-    unfolding firstReason
     within i is-i zero =
-        let n = none-holds (ready && recordInRange bus) ((eqb (length images) imagesRoom && areLetters letters) && (not (eqb number HIT) || areLetters value)) (ltb terminals unit) (eventFor unit number) (sym is-k ∙ eqb-true k 0 zero) in
+        let n = no-reason ready (sym is-k ∙ eqb-true k 0 zero) in
         let e = and-both (eqb (length ts) terminals) (allInRange ts) (sym (eight-in-range ts) ∙ sym is-ready ∙ and-both ready (recordInRange bus) (n .0) .0) in
         omega (arith, is-i, eqb-true (length ts) terminals (e .0), ltb-false terminals unit (n .1))
 

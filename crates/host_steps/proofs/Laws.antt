@@ -9,31 +9,28 @@ use lib.ListN.{length, getD, take, replicate, length-append, length-replicate}
 use lib.Seq.{take-append-seam}
 use borrow.Author.Tests.{eqb-true, eqb-false, eq-eqb, ne-eqb, ltb-true, ltb-false}
 use Rattle.cases.proofs.ByCases.{by-test, both, clash}
-use Rattle.cells.specs.Notes.{noted}
-use Rattle.bus_record.specs.NetworkSide.{refusedRun}
 use Rattle.symbols.specs.Symbols.{lineLength, within, fits}
-use Rattle.hdlc.specs.Bits.{bitOf}
 use Rattle.hdlc.specs.Image.{longestBody}
-use Rattle.bus.specs.Bus.{Bus, Note, freshBus, notesOf}
+use Rattle.bus.specs.Bus.{Bus, Note, freshBus}
 use Rattle.bus.specs.Calls.{Call, reply, after, ran, allNotes}
 use Rattle.bus.specs.Calls.Call.{event, period}
 use Rattle.bus_event.specs.Event.{imagesRoom, areLetters}
 use Rattle.call_rules.specs.Kept.{Kept, settled}
 use Rattle.call_rules.specs.Ready.{goesOn}
-use Rattle.call_rules.specs.Lists.{Carries, isCode, coded, told, called, replied, notesTold, runTold, OctetValue, LentCall, callOf, finds, leftBy, isLent, Same, made, leftAll, allTold, AllMayBe, lend, callsIn, periodTold, readerTold, terminalsTold, timersTold}
-use Rattle.call_rules.specs.Run.{ran as once, ranOn, keptOn, notYet, keptAfter}
+use Rattle.call_rules.specs.Lists.{Carries, isCode, coded, told, called, replied, notesTold, runTold, OctetValue, LentCall, callOf, finds, leftBy, isLent, Same, made, leftAll, allTold, AllMayBe, lend, callsIn}
+use Rattle.call_rules.specs.Run.{ran as once, keptOn, keptAfter}
 use Rattle.call_rules.proofs.InOrder.{InOrder, order-reply}
 use Rattle.call_rules.proofs.Fitting.{Fit, always-fit}
 use Rattle.call_rules.proofs.Lists.{call-carried, settled-carries, same-from, same-all, fresh-carries}
 use Rattle.call_rules.proofs.QuietRuns.{one-told, runs-are-calls}
 use Rattle.call_rules.proofs.QuietEnds as quiet-ends
-use Rattle.call_rules.proofs.Codes.{run-notes-coded}
 use Rattle.call_rules.proofs.Refused as turned-down
 use Rattle.call_rules.proofs.RunLeft.{run-left}
 use Rattle.note_text.specs.Room.{laid}
 use Rattle.note_text.specs.NoteText.{notesIn}
 use Rattle.note_text.specs.NoteOctets.{noteOctets}
 use Rattle.note_text.specs.declared.form.Form.the-variants.{Octets}
+use Rattle.note_text.specs.Determined.{AllFitOctets}
 use Rattle.period_text.proofs.Room.{period-octets-fit, event-octets-fit}
 use Rattle.report.proofs.Order.{order-called}
 use Rattle.report.proofs.ToldRight.{fresh-ready}
@@ -49,7 +46,8 @@ use Rattle.host_steps.specs.Laws as laws
 use Rattle.host_steps.specs.Laws.HostCall.{step, runTo}
 use Rattle.host_steps.proofs.Answers.{lent-bus, lent-room}
 use Rattle.host_steps.proofs.Stepped.{order}
-use Rattle.host_steps.proofs.Told.{left-fits}
+use Rattle.host_steps.proofs.Told.{left-fits, none-refused, none-told}
+use Rattle.host_steps.proofs.Determined.{run-coded, notes-fit-octets, run-notes-fit-octets, hands-back-one}
 
 -- ---- A refused call.
 module _ (s room : List ℕ) (reply : ℕ) (left : Kept) (notes : List Note) where
@@ -132,16 +130,6 @@ ran-append b (x ∷ xs) ys = ran-append (after b x) xs ys
 fit-on : (b : Bus) (calls : List Call) → ((later : List Call) → Fit (ran b later)) → (later : List Call) → Fit (ran (ran b calls) later)
 fit-on b calls fit later = rw (← ran-append b calls later) (fit (calls ++ later))
 
--- a run of no periods
-module _ (s : List ℕ) (h : isBus s ≡ true) where
-  none-refused : once 0 (shown s) .reply ≡ 0
-  unfolding once ranOn notYet refusedRun
-  none-refused = exact s h .ready
-
-  none-told : runTold 0 (shown s) ≡ []
-  unfolding runTold once ranOn notYet refusedRun keptAfter keptOn periodTold readerTold terminalsTold timersTold notesOf noted bitOf shown
-  none-told = rw (exact s h .ready) refl
-
 record Goes (b : Bus) (calls : List Call) (reply : ℕ) (left : Kept) (told : List Note) : Type 0 where
   carries : Carries (settled left) (ran b calls)
   replies : reply ≡ laws.firstReply b calls
@@ -212,12 +200,6 @@ no-notes room (n ∷ ns) c fits large z =
     let small : n .code < 256 = ltb-true (n .code) 256 (rw t at code) in
     absurd (eqb-false (n .code) 0 t (omega arith)))
 
-module _ (s : List ℕ) (h : isBus s ≡ true) where
-  run-coded : (most : ℕ) → coded (runTold most (shown s)) ≡ true
-  unfolding coded
-  run-coded zero = rw (none-told s h)
-  run-coded (suc n) = run-notes-coded n (shown s)
-
 pub quiet-run-ends : laws.QuietRunEnds
 unfolding hostRunReply hostRunBus hostRunNotes replyWith busWith notesWith settled
 quiet-run-ends s room until z first =
@@ -241,6 +223,7 @@ record Parts (s : List ℕ) (x : laws.HostCall) (reply : ℕ) (left : Kept) (tol
   refused : (laws.replyTo s x ≡ 0 → ⊥) → laws.Untouched s (laws.roomOf x) (laws.busAfter s x) (laws.notesAfter s x)
   silent : (reply ≡ 0 → ⊥) → told ≡ []
   fits : length (notesOctets told) ≤ notesRoom
+  fits-octets : AllFitOctets told
   stored : StoredAndShown left
 
 -- the call is as the rules have it, and the octets that it leaves stand for the bus after it
@@ -263,17 +246,21 @@ module _ (s : List ℕ) (b : Bus) (o : laws.OctetsCarry s b) (x : laws.HostCall)
     unfolding replyWith
     reply-with = p .reply-is ∙ rw passed
 
-    enough-steps : laws.SteppedBy b s x
+    handed : laws.HandsBack s x told
     unfolding notesWith replyWith
+    handed =
+        record {
+          written = λ y. rw (p .notes-are, passed, eq-eqb _ _ (sym reply-with ∙ y))
+              (whole (laws.roomOf x) (notesOctets told) (p .fits) (ltb-false _ _ t));
+          none = λ n. p .silent (λ z. n (reply-with ∙ z));
+        }
+
+    enough-steps : laws.SteppedBy b s x
     enough-steps =
         record {
           replies = rw (t, asked-for) (reply-with ∙ g .replies);
-          tells = rw (asked-for, ← g .tells)
-              (record {
-                written = λ y. rw (p .notes-are, passed, eq-eqb _ _ (sym reply-with ∙ y))
-                    (whole (laws.roomOf x) (notesOctets told) (p .fits) (ltb-false _ _ t));
-                none = λ n. p .silent (λ z. n (reply-with ∙ z));
-              });
+          tells = rw (asked-for, ← g .tells) handed;
+          alone = λ ns f read. rw (asked-for, ← g .tells) (hands-back-one s x ns told f (p .fits-octets) read handed);
           refused = p .refused;
         }
 
@@ -301,6 +288,7 @@ module _ (s : List ℕ) (b : Bus) (o : laws.OctetsCarry s b) (x : laws.HostCall)
         record {
           replies = rw (t, two);
           tells = rw none-made (record { written = λ y. absurd (omega (arith, two)); none = λ n. refl });
+          alone = λ ns f read. rw none-made (read .none (λ y. omega (arith, two)));
           refused = p .refused;
         }
 
@@ -324,6 +312,7 @@ module _ (s room : List ℕ) (h : isBus s ≡ true) where
         refused = refused-keeps s room x;
         silent = turned-down.refused-tells-none (shown s) x;
         fits = notes-fit s x h;
+        fits-octets = notes-fit-octets s x h;
         stored = left-stored s x h;
       }
 
@@ -338,6 +327,7 @@ module _ (s room : List ℕ) (h : isBus s ≡ true) where
         refused = refused-run-keeps s room (mostTo until s);
         silent = λ n. rw (ne-eqb _ _ n);
         fits = run-notes-fit s (mostTo until s) h;
+        fits-octets = run-notes-fit-octets s (mostTo until s) h;
         stored = left-fits s h (mostTo until s);
       }
 

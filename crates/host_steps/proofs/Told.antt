@@ -1,20 +1,18 @@
 -- The notes of an event and of a run, as the code puts them.
-use mathlib.Core.Bool.{Bool, true, cond}
-use mathlib.Core.List.{List, [], append-nil}
-use mathlib.Core.Path.{_≡_, ap, _∙_}
+use mathlib.Core.Bool.{true}
+use mathlib.Core.List.{List, []}
+use mathlib.Core.Path.{_≡_, refl, ap, _∙_}
 use Prim.Native.Nat.{ℕ, _-_}
 use lib.ListN.{length}
-use Rattle.cases.proofs.ByCases.{by-test}
 use Rattle.bus.specs.Bus.{notesOf}
-use Rattle.bus.specs.Calls.{Call}
-use Rattle.bus.specs.Calls.Call.{event, period}
+use Rattle.bus.specs.Calls.Call.{event}
 use Rattle.cells.specs.Notes.{noted}
+use Rattle.hdlc.specs.Bits.{bitOf}
+use Rattle.bus_record.specs.NetworkSide.{refusedRun}
 use Rattle.call_rules.specs.Kept.{Kept}
-use Rattle.call_rules.specs.Ready.{goesOn}
-use Rattle.call_rules.specs.Run.{ran, keptAfter}
-use Rattle.call_rules.specs.Lists.{told, replied, notesTold, periodTold, callsIn, allTold, runTold}
+use Rattle.call_rules.specs.Run.{ran, ranOn, keptOn, notYet, keptAfter}
+use Rattle.call_rules.specs.Lists.{told, replied, notesTold, periodTold, readerTold, terminalsTold, timersTold, runTold}
 use Rattle.call_rules.proofs.InOrder.{order-reply}
-use Rattle.call_rules.proofs.QuietRuns.{runs-are-calls}
 use Rattle.call_rules.proofs.RunLeft.{run-left}
 use Rattle.bus_octets.specs.Layout.{octetsIn, busOctets, shown, busLength, isBus}
 use Rattle.bus_octets.specs.Laws.{StoredAndShown}
@@ -50,3 +48,13 @@ module _ (s : List ℕ) (h : isBus s ≡ true) (most : ℕ) where
       → periodTold (ran most (shown s) .bus .periods .0 - 1) (ran most (shown s)) (ended .notes) (octetsIn (busOctets ended)) ≡ runTold most (shown s)
   unfolding runTold
   run-notes z = rw (z, octets-left)
+
+-- ---- A run of no periods.
+module _ (s : List ℕ) (h : isBus s ≡ true) where
+  pub none-refused : ran 0 (shown s) .reply ≡ 0
+  unfolding ran ranOn notYet refusedRun
+  none-refused = exact s h .ready
+
+  pub none-told : runTold 0 (shown s) ≡ []
+  unfolding runTold ran ranOn notYet refusedRun keptAfter keptOn periodTold readerTold terminalsTold timersTold notesOf noted bitOf shown
+  none-told = rw (exact s h .ready) refl

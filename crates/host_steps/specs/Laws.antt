@@ -1,6 +1,7 @@
--- What holds of the calls on a bus that is lent as octets. The statements are types; proofs/Laws.antt proves each under the same name in small letters.
+-- What holds of the calls on a bus that is lent as octets. The statements are types; proofs/Laws.antt and Determined.antt prove each under
+-- the same name in small letters.
 use mathlib.Core.Bool.{true, cond}
-use mathlib.Core.List.{List, [], _∷_}
+use mathlib.Core.List.{List, [], _∷_, _++_}
 use mathlib.Core.Path.{_≡_}
 use Prim.Native.Nat.{ℕ, _≤_, min, max}
 use lib.Dec.{ltb}
@@ -9,6 +10,7 @@ use Rattle.timing.specs.Counts.{mostPeriods}
 use Rattle.bus.specs.Bus.{Bus, Note, freshBus}
 use Rattle.bus.specs.Calls.{Call, reply, ran, allNotes}
 use Rattle.call_rules.specs.Lists.{Carries, LentCall, OctetValue, made, lend, notesTold, callsIn, runTold}
+use Rattle.note_text.specs.Determined.{AllFitOctets}
 use Rattle.bus_octets.specs.Layout.{shown, isBus}
 use Rattle.host_bus.specs.Fresh.{freshOctets}
 use Rattle.host_steps.specs.Stepping.{notesOctets, notesRoom, hostReply, hostBus, hostNotes, mostTo, hostRunReply, hostRunBus, hostRunNotes}
@@ -30,6 +32,18 @@ NotesFit = (s : List ℕ) (c : Call) → isBus s ≡ true → length (notesOctet
 
 abbrev pub RunNotesFit : Type 0
 RunNotesFit = (s : List ℕ) (most : ℕ) → isBus s ≡ true → length (notesOctets (runTold most (shown s))) ≤ notesRoom
+
+-- ---- They lose nothing as octets, and the octets determine them: other notes have other octets, whatever stands behind their ends.
+abbrev pub NotesFitOctets : Type 0
+NotesFitOctets = (s : List ℕ) (c : Call) → isBus s ≡ true → AllFitOctets (notesTold (shown s) c)
+
+abbrev pub RunNotesFitOctets : Type 0
+RunNotesFitOctets = (s : List ℕ) (most : ℕ) → isBus s ≡ true → AllFitOctets (runTold most (shown s))
+
+abbrev pub NotesDetermined : Type 0
+NotesDetermined =
+    (ns ms : List Note) (behind behind′ : List ℕ) → AllFitOctets ns → AllFitOctets ms → notesOctets ns ++ behind ≡ notesOctets ms ++ behind′
+    → (ns ≡ ms) × (behind ≡ behind′)
 
 -- ---- A run after which the first octet of the notes is their end has come to as many periods as were asked for, where the bus was not past them, or
 -- to 4,000,000.
@@ -84,11 +98,18 @@ pub record HandsBack (s : List ℕ) (x : HostCall) (notes : List Note) : Type 0 
   pub written : replyTo s x ≡ 0 → take (length (notesOctets notes)) (notesAfter s x) ≡ notesOctets notes
   pub none : (replyTo s x ≡ 0 → ⊥) → notes ≡ []
 
+-- They are the only ones that can be read there.
+abbrev pub HandsBackOne : Type 0
+HandsBackOne =
+    (s : List ℕ) (x : HostCall) (ns ms : List Note) → AllFitOctets ns → AllFitOctets ms → HandsBack s x ns → HandsBack s x ms → ns ≡ ms
+
 -- Every call gives the reply and the notes of document 01's rules for the calls that it stands for (crate `bus`, specs/Calls.antt); with too little
 -- room for notes the reply is 2.
 pub record SteppedBy (b : Bus) (s : List ℕ) (x : HostCall) : Type 0 where
   pub replies : replyTo s x ≡ shortOf 2 x (firstReply b (callsOf s x))
   pub tells : HandsBack s x (allNotes b (callsOf s x))
+  -- whoever reads notes that fit their octets there reads these
+  pub alone : (notes : List Note) → AllFitOctets notes → HandsBack s x notes → notes ≡ allNotes b (callsOf s x)
   pub refused : (replyTo s x ≡ 0 → ⊥) → Untouched s (roomOf x) (busAfter s x) (notesAfter s x)
 
 -- octets that are a bus, and stand for the bus b of the rules
