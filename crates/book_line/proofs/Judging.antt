@@ -10,7 +10,7 @@ use borrow.Author.Tests.{eqb-true, eqb-false, ne-eqb, ltb-true, lt-ltb, le-ltb, 
 use Rattle.cases.proofs.ByCases.{by-test, and-left, and-right, and-right-false}
 use Rattle.text.specs.Text.{fields, field, number}
 use Rattle.text.specs.Fields.{fieldStart}
-use Rattle.book_line.specs.Line.{longestLine, isNumber, numberOf, eventNamed, periodOf, unitOf, eventOf, valueFits, valueOf, formed, judged, judgedFields, faultOf}
+use Rattle.book_line.specs.Line.{longestLine, isNumber, numberOf, eventNamed, periodOf, unitOf, eventOf, valueFits, valueOf, formed, judged, judgedFields}
 use Rattle.book_line.specs.declared.number.Number.{Number}
 use Rattle.book_line.specs.declared.line.Judged.{Judged}
 
@@ -113,10 +113,7 @@ formed-parts line e =
       value = and-right (not (eqb (eventOf line) 0)) (valueFits (eventOf line) (valueOf line)) event;
     }
 
-pub judged-fault : (line : List ℕ) → faultOf (judged line) ≡ cond (formed line) 0 12
-unfolding judged faultOf
-judged-fault line = by-test (formed line) (λ e. rw e) (λ e. rw e)
-
+-- a line that is refused is refused with 12
 pub judged-twelve : (line : List ℕ) (k : ℕ) → Judged.Refused k ≡ judged line → k ≡ 12
 unfolding judged
 judged-twelve line k e =

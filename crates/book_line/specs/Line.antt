@@ -130,8 +130,3 @@ judgedFields period unit name value at =
     cond (isNumber period && isNumber unit && (not (eqb (eventNamed name) 0) && valueFits (eventNamed name) value))
     (Judged.Entry (number period) (number unit) (eventNamed name) at)
     (Judged.Refused 12)
-
--- The number of the fault that an answer stands for, or 0.
-unfoldable pub faultOf : Judged → ℕ
-faultOf (Judged.Entry period unit event value) = 0
-faultOf (Judged.Refused k) = k
