@@ -15,7 +15,7 @@ use Rattle.text.proofs.Pieces.{upto-le, split-upto, split-some, same-length}
 use Rattle.book_line.specs.Line.{longestLine, formed, judged, inOrder, isEnd, periodOf, unitOf, eventOf, valueOf}
 use Rattle.book_reader.specs.Book.{firstLine, nothing, closing, lines, answersFrom}
 use Rattle.book_reader.specs.Book.Answer.{entry, fault}
-use Rattle.book_reader.specs.Step.{BEFORE-FIRST-LINE, AT-LINES, headStep, ruled, unended, window, lineStep, tailStep, stepOf, stepAt, takenBy}
+use Rattle.book_reader.specs.Step.{BEFORE-FIRST-LINE, AT-LINES, headStep, ruled, unended, window, lineStep, tailStep, stepOf, stepAt}
 use Rattle.book_reader.specs.Parts.{Place, begun, past, toCome}
 use Rattle.book_reader.specs.Laws.{Law}
 use Rattle.book_reader.specs.declared.step.Step.{Step}
@@ -261,15 +261,3 @@ module _ (p : Place) (text : List ℕ) (at : ℕ) (whole : Bool) (later : List �
   -- at the answer that it gave
   pub call-law : (a : Step) → stepAt text at (p .stage) (p .last) whole ≡ a → Law p text at whole later a
   call-law a e = subst (Law p text at whole later) e step-law
-
-  -- what it takes lies in the text
-  within-of : (a : Step) → Law p text at whole later a → at ≤ length text → at + takenBy a ≤ length text
-  unfolding takenBy
-  within-of Begun law h = law .within
-  within-of (Entry period unit event value octets) law h = law .within
-  within-of Done law h = omega arith
-  within-of (Fault n) law h = omega arith
-  within-of More law h = omega arith
-
-  pub taken-within : at ≤ length text → at + takenBy (stepAt text at (p .stage) (p .last) whole) ≤ length text
-  taken-within h = within-of (stepAt text at (p .stage) (p .last) whole) step-law h
