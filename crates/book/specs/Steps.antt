@@ -43,8 +43,8 @@ pub record Steps (text : List ℕ) (whole : Bool) (s : Stand) (at : ℕ) (room :
   pub over-said : s′ .over ≡ true → why ≡ OVER
   pub listed : why ≤ OVER
 
--- ---- A step is told what the book's reader has read, and the value of the line. It does with them what `Steps` says, of every text and every place
--- in it where a reader would read just that.
+-- ---- A step is told what the book's reader has read, and the value of the line. It does with them what `Steps` says, of every text and
+-- every place in it where a reader would read just that.
 pub record Reads (text : List ℕ) (at : ℕ) (whole : Bool) (s : Stand) (said : Step) (value : List ℕ) : Type 0 where
   pub within : at ≤ length text
   pub says : stepAt text at (s .stage) (s .kept .bus .periods .0) whole ≡ said
@@ -59,4 +59,5 @@ pub record IsRead (s : Stand) (said : Step) (value : List ℕ) : Type 0 where
 
 abbrev pub StepsBy : Step → List ℕ → Stand → List ℕ → ℕ → Stand → ℕ → List ℕ → ℕ → ℕ → Type 0
 StepsBy said value s room wrote s′ taken room′ wrote′ why =
-    (text : List ℕ) (at : ℕ) (whole : Bool) → Reads text at whole s said value → Steps text whole s at room wrote s′ (at + taken) room′ wrote′ why
+    (text : List ℕ) (at : ℕ) (whole : Bool) → Reads text at whole s said value
+    → Steps text whole s at room wrote s′ (at + taken) room′ wrote′ why

@@ -24,8 +24,10 @@ pub(crate) fn read_on(
     whole: bool,
 ) -> Went
     requires { ⌜ spec.reason (spec.standOf progress (now images) (now octets) (now letters)) ≡ 0 ⌝ }
-    ensures { λ r. ⌜ Stopped (spec.standOf progress (now (images .entry)) (now (octets .entry)) (now (letters .entry))) (now (text .entry)) (now (room .entry)) whole
-        (spec.standOf (r .progress) (now (images .exit)) (now (octets .exit)) (now (letters .exit))) (r .taken) (r .wrote) (r .why) (now (room .exit))
+    ensures { λ r. ⌜ Stopped (spec.standOf progress (now (images .entry)) (now (octets .entry)) (now (letters .entry)))
+        (now (text .entry)) (now (room .entry)) whole
+        (spec.standOf (r .progress) (now (images .exit)) (now (octets .exit)) (now (letters .exit)))
+        (r .taken) (r .wrote) (r .why) (now (room .exit))
         × (r .reply ≡ 0) ⌝ }
 {
     let mut w = untaken(progress);

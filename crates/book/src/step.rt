@@ -104,8 +104,8 @@ fn carry_out(
     }
 }
 
-// One step: the report's first line, or what the reader has read. Room for the notes of a period is asked for first, so that nothing is ever
-// pending. What it gives back says how many octets of the text this step has taken.
+// One step: the report's first line, or what the reader has read. Room for the notes of a period is asked for first, so that nothing is
+// ever pending. What it gives back says how many octets of the text this step has taken.
 pub(crate) fn step(
     w: Went,
     images: &mut [u8],

@@ -44,7 +44,8 @@ pub data Handed : Place → List ℕ → ℕ → Bool → List (List ℕ) → Li
   first : {p : Place} {text : List ℕ} {at : ℕ} {whole : Bool} {parts : List (List ℕ)} {got : List Answer}
       → stepAt text at (p .stage) (p .last) whole ≡ Step.Begun
       → Handed (begun p) text (at + length firstLine) whole parts got → Handed p text at whole parts got
-  line : {p : Place} {text : List ℕ} {at : ℕ} {whole : Bool} {parts : List (List ℕ)} {got : List Answer} (period unit event value octets : ℕ)
+  line : {p : Place} {text : List ℕ} {at : ℕ} {whole : Bool} {parts : List (List ℕ)} {got : List Answer}
+      (period unit event value octets : ℕ)
       → stepAt text at (p .stage) (p .last) whole ≡ Step.Entry period unit event value octets
       → Handed (past period unit event) text (at + octets) whole parts got
       → Handed p text at whole parts (entry period unit event (valueAt text at (Step.Entry period unit event value octets)) ∷ got)

@@ -72,7 +72,7 @@ takenBy Step.More = 0
 abbrev pub lineAt : List ℕ → ℕ → ℕ → List ℕ
 lineAt text at octets = take (octets - 1) (drop at text)
 
--- Where the value of the line that was read begins and ends, from the line's beginning; where no line was read there is none, and it is empty.
+-- Where the value of the line that was read begins and ends, from the line's beginning. Where no line was read it is empty.
 unfoldable pub valueFrom : Step → ℕ
 valueFrom Step.Begun = 0
 valueFrom (Step.Entry p u e value octets) = value

@@ -168,7 +168,7 @@ pub fn step_at(text: &[u8], at: usize, stage: u8, last: u32, whole: bool) -> Ste
     tail_step(t.len(), whole)
 }
 
-// The value of the line that `said` is an entry of and that stands at `at`, as the part of the text that it is; empty where no line was read.
+// The value of the line at `at` that was read, `said` being its entry, as the part of the text that it is; empty where no line was read.
 pub fn value_at(text: &[u8], at: usize, said: Step) -> &[u8]
     ensures { λ r. ⌜ IsPart (text .entry) (at + spec.valueFrom said) (at + spec.valueTo said) r ⌝ }
 {

@@ -1,5 +1,5 @@
-// An event of the book: the reasons for which it is turned down, and what it does to one terminal. What it does to the network end stands in
-// crate `bus_calls`, which has looked at those reasons.
+// An event of the book: the reasons for which it is turned down, and what it does to one terminal. What it does to the network end stands
+// in crate `bus_calls`, which has looked at those reasons.
 ghost use mathlib.Core.Path.{_≡_};
 ghost use Prim.Native.Nat.{_*_, _<_, _≤_};
 ghost use lib.ListN.{length};

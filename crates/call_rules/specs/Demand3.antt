@@ -15,8 +15,8 @@ use Rattle.bus_event.specs.Event.{imagesRoom, areLetters}
 use Rattle.call_rules.specs.Kept.{Kept}
 use Rattle.call_rules.specs.Lists.{LentCall, Same, freshFound, made, leftAll, allTold, AllMayBe}
 
--- What is claimed of a stretch `during` of the list `before`, `during`, `after` of calls, the first of which finds k. Calls that are not lent what
--- they must be stand in the list, too; they are refused with 2, and the rules have nothing for them (specs/Lists.antt `made`).
+-- What is claimed of a stretch `during` of the list `before`, `during`, `after` of calls, the first of which finds k. Calls that are not
+-- lent what they must be stand in the list, too; they are refused with 2, and the rules have nothing for them (specs/Lists.antt `made`).
 pub record ClaimedOnCalls (k : Kept) (before during after : List LentCall) : Type 0 where
   -- the sentences of demand 3, of the bus that document 01's rules give for the same calls
   pub claims : Claimed (made before) (made during) (made after)

@@ -101,8 +101,9 @@ pub record Carries (k : Kept) (b : Bus) : Type 0 where
   pub letters-fit : areLetters (k .letters) ≡ true
   pub notes-fit : length (k .notes) ≡ terminals
 
--- ---- Lists. Each call gets the record, the terminals, the images, the octets and the letters that the one before left: "nobody else writes record
--- or slice between". The places for notes are the caller's own, and each call that runs a period is lent some: of any number, with any contents.
+-- ---- Lists. Each call gets the record, the terminals, the images, the octets and the letters that the one before left: "nobody else
+-- writes record or slice between". The places for notes are the caller's own, and each call that runs a period is lent some: of any
+-- number, with any contents.
 
 pub data LentCall : Type 0 where
   -- an event: a unit, a number and a value; no places for notes are lent with it
@@ -170,10 +171,11 @@ Same k b [] = Carries k b
 Same k b (x ∷ more) =
     Carries k b
     × (MayBe x
-    → (replied (finds k x) (callOf x) ≡ replyTo b x) × (notesTold (finds k x) (callOf x) ≡ notesTo b x) × Same (leftBy k x) (busAfter b x) more)
+    → (replied (finds k x) (callOf x) ≡ replyTo b x) × (notesTold (finds k x) (callOf x) ≡ notesTo b x)
+    × Same (leftBy k x) (busAfter b x) more)
 
--- A fresh record with eight fresh terminals. In `ListsCarried` what is lent with it has the lengths that it must have, and the letters are letters;
--- else they are any octets.
+-- A fresh record with eight fresh terminals. In `ListsCarried` what is lent with it has the lengths that it must have, and the letters are
+-- letters; else they are any octets.
 abbrev pub freshFound : List ℕ → List ℕ → List ℕ → Kept
 freshFound images octets letters = found freshRecord (replicate terminals terminal.fresh) images octets letters
 

@@ -54,7 +54,8 @@ pub record SinglePeriod (k : Kept) : Type 0 where
 abbrev pub PeriodSingle : Type 0
 PeriodSingle = (k : Kept) → runReply 1 k ≡ 0 → SinglePeriod k
 
--- ---- What a run leaves, of whatever it finds: the record that it hands back, and the images and the letters as they were (proofs/RunLeft.antt).
+-- ---- What a run leaves, of whatever it finds: the record that it hands back, and the images and the letters as they were
+-- (proofs/RunLeft.antt).
 pub record RunLeft (most : ℕ) (k : Kept) : Type 0 where
   pub bus-is : ran most k .bus ≡ keptAfter most k .bus
   pub images-stay : keptAfter most k .images ≡ k .images

@@ -75,7 +75,8 @@ unfoldable pub notesAfter : List ℕ → HostCall → List ℕ
 notesAfter s (step c room) = hostNotes s room c
 notesAfter s (runTo until room) = hostRunNotes s room (mostTo until s)
 
--- The calls of crate `call_rules` (specs/Lists.antt) that it asks for, with their own places for notes: a run for as many periods as it runs.
+-- The calls of crate `call_rules` (specs/Lists.antt) that it asks for, with their own places for notes: a run for as many periods as it
+-- runs.
 unfoldable pub asked : List ℕ → HostCall → List LentCall
 asked s (step c room) = lend c ∷ []
 asked s (runTo until room) = callsIn (mostTo until s) (shown s)
