@@ -31,7 +31,7 @@ use Rattle.report.proofs.AheadLaws as ahead
 use Rattle.report.proofs.AheadLaws.{UnderWay}
 use Rattle.book.specs.Progress.{standOf, turned}
 use Rattle.book.specs.Until.{periodsTo, RunsTo, given, Gives}
-use Rattle.book.specs.Steps.{Moves, toDo, Steps, Reads, StepsBy}
+use Rattle.book.specs.Steps.{Moves, toDo, Steps, StepsBy}
 use Rattle.book.specs.declared.progress.Went.{Went}
 
 -- ---- Moves: by a law, none, and one after another.

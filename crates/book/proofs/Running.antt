@@ -1,8 +1,8 @@
 -- Periods run up to a line's: one run, and one after another.
-use mathlib.Core.Path.{_≡_, refl, sym, ap, _∙_}
+use mathlib.Core.Path.{_≡_, sym, ap, _∙_}
 use mathlib.Core.Bool.{Bool, true, false, _&&_}
 use mathlib.Core.List.{List, [], _++_}
-use Prim.Native.Nat.{ℕ, zero, suc, _+_, _-_, _≤_, _<_}
+use Prim.Native.Nat.{ℕ, suc, _+_, _-_, _≤_, _<_}
 use native.Mathlib.Omega.{arith}
 use lib.Dec.{ltb, leb}
 use borrow.Author.Tests.{ltb-true, lt-ltb, leb-true, leb-false, le-leb, lt-leb}
@@ -13,11 +13,8 @@ use Rattle.timing.specs.Counts.{mostPeriods}
 use Rattle.bus.specs.Calls.Call.{period}
 use Rattle.terminal.specs.declared.Terminal.{Terminal}
 use Rattle.bus_record.specs.declared.record.BusRecord.{BusRecord}
-use Rattle.bus_record.specs.declared.side.Ran.{Ran}
 use Rattle.call_rules.specs.Kept.{Kept, found, settled}
-use Rattle.call_rules.specs.Ready.{goesOn}
-use Rattle.call_rules.specs.Period.{periodRan, keptRun}
-use Rattle.call_rules.specs.Run.{ran, keptAfter, keptOn, notYet}
+use Rattle.call_rules.specs.Run.{ran, keptAfter}
 use Rattle.call_rules.specs.Lists.{periodTold}
 use Rattle.call_rules.proofs.QuietRuns.{quiet-told}
 use Rattle.bus_held.specs.declared.HeldRun.{HeldRun}

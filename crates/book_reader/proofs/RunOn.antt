@@ -18,7 +18,7 @@ use Rattle.timing.specs.Counts.{mostPeriods}
 use Rattle.book_line.specs.Line.{longestLine, formed, judged, inOrder, periodOf, unitOf, eventOf, valueOf}
 use Rattle.book_line.proofs.Judging.{formed-parts}
 use Rattle.book_reader.specs.Book.{firstLine}
-use Rattle.book_reader.specs.Step.{BEFORE-FIRST-LINE, AT-LINES, headStep, ruled, unended, window, lineStep, tailStep, stepOf, stepAt, valueFrom, valueTo, valueAt}
+use Rattle.book_reader.specs.Step.{BEFORE-FIRST-LINE, AT-LINES, headStep, ruled, unended, window, lineStep, tailStep, stepOf, stepAt, valueFrom, valueTo}
 use Rattle.book_reader.specs.Parts.{toCome}
 use Rattle.book_reader.specs.Laws.{Entered}
 use Rattle.book_reader.specs.declared.step.Step.{Step}

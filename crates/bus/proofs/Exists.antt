@@ -31,7 +31,7 @@ use Rattle.bus.specs.Calls.Call.{event, period}
 use Rattle.bus.specs.Stretch.{seatAt, seatThen, Undisturbed, Stretch, momentsOf, moments, Calm, Stays, Waits, Completes, Begins}
 use Rattle.bus.specs.Claims.{at, opps}
 use Rattle.bus.specs.Quick.{shownBy, shownFrom}
-use Rattle.bus.specs.Scenes.{report, activating, activated, beforeWait, duringWait, duringBusy}
+use Rattle.bus.specs.Scenes.{report, activated, beforeWait, duringWait, duringBusy}
 use Rattle.bus.specs.Exists as exists
 use Rattle.bus.proofs.Quick.{up-shown, down-shown}
 use Rattle.bus.proofs.Seats.{Each, seat-heard, seat-timed, each-exchanged}

@@ -1,8 +1,8 @@
 -- Demand 3 on the calls: that of crate `bus`, whose lists of calls these are, and the notes of a part of a list.
-use mathlib.Core.List.{List, [], _∷_, _++_, append-nil}
+use mathlib.Core.List.{List, [], _∷_, _++_}
 use Rattle.bus.specs.Bus.{freshBus}
 use Rattle.bus.proofs.Demand3.{demand3}
-use Rattle.call_rules.specs.Lists.{LentCall, Same, freshFound, made, leftAll, AllMayBe}
+use Rattle.call_rules.specs.Lists.{LentCall, freshFound, made, AllMayBe}
 use Rattle.call_rules.specs.Demand3.{Demand3OnCalls}
 use Rattle.call_rules.proofs.Lists.{lists-carried, same-all}
 

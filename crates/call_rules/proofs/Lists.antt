@@ -1,6 +1,6 @@
 -- Every list of calls on the record and what is lent with it gives the replies and the notes of document 01's rules.
-use mathlib.Core.Path.{_≡_, refl, ap, _∙_}
-use mathlib.Core.Bool.{Bool, true, false, cond, _&&_}
+use mathlib.Core.Path.{_≡_, refl}
+use mathlib.Core.Bool.{true, false, cond, _&&_}
 use mathlib.Core.List.{List, [], _∷_, _++_}
 use Prim.Native.Nat.{ℕ, zero, suc, _≤_}
 use native.Mathlib.Omega.{arith}
@@ -13,7 +13,7 @@ use Rattle.reader.proofs.ReadingKept.{stands-fresh}
 use Rattle.reader.proofs.RangesKept as reader-kept
 use Rattle.bus.specs.Bus.{Bus, terminals, freshSeat, freshBus}
 use Rattle.bus.specs.Calls as bus
-use Rattle.bus.specs.Calls.{Call, after, ran}
+use Rattle.bus.specs.Calls.{Call, ran}
 use Rattle.bus.specs.Calls.Call.{event, period}
 use Rattle.bus.specs.Stretch.{seatAt}
 use Rattle.listening.specs.declared.hears.UnitNotes.{UnitNotes}

@@ -1,13 +1,12 @@
 -- What the program puts into the report is what document 01's rules give for the same calls: the lists of crate `call_rules` (specs/Lists.antt),
 -- whose calls are all lent what they must be.
 use mathlib.Core.Path.{_≡_, refl}
-use mathlib.Core.Bool.{true}
 use mathlib.Core.List.{List, [], _∷_, map}
 use Rattle.bus.specs.Bus.{Bus, freshBus}
 use Rattle.bus.specs.Calls.{Call, after, ran, reply, notes}
 use Rattle.bus.specs.Calls.Call.{event, period}
 use Rattle.call_rules.specs.Kept.{Kept, settled}
-use Rattle.call_rules.specs.Lists.{Carries, callOf, finds, leftBy, isLent, MayBe, Same, OctetValue, OctetValues, called, replied, notesTold, freshFound, lend}
+use Rattle.call_rules.specs.Lists.{callOf, finds, leftBy, isLent, Same, OctetValue, OctetValues, replied, notesTold, freshFound, lend}
 use Rattle.call_rules.proofs.Fitting.{always-fit, in-order}
 use Rattle.call_rules.proofs.Lists.{fresh-carries, lists-carried}
 use Rattle.report.specs.Report.{refusedNotes, bookNotes, allBookNotes}

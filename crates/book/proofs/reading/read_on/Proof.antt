@@ -1,6 +1,6 @@
 -- `book::reading::read_on` meets its contract: a walk of its MIR with the lemmas of crate `walks`, and those of crate `book_reader` for a reader that is
 -- asked in a walk. What holds before each turn is `GoesFrom` (ReadOn.antt). All that it knows of what it calls are their contracts. Assumes nothing.
-use Rattle.walks.proofs.Walk.{_≡_, refl, sym, _∙_, ap, ℕ, _+_, _<_, _^_, Bool, true, false, List, [], _∷_, eqb, length, set, URA, w8, w32, w64, Val, vbool, vint, SProp, ent, emp, id⊢, Memory, Routine, Heap, Tables, WpFn, Atoms, Fun, factI, givenOf, tables, tablesOf, Given, Item, ⋆, _$_, !, move, of-opd, no-more, and-then, Is, u8, u32, usize, bool, Room, onEntry, Meets, tripleOf, Contract, Triple, entered, cited, walkOf, needs, Holds, free, has, loc, sets, leaves, blurs, bool-kind, uint-kind, typed, at-list, shown, Spot, spot, word, lends-at, hands-at, Param, plain-of, lfts-at, shares-at, args-at, vals-of, lfts-of, shares-of, args-of, itemsOf, reborrows, calls-plain, Call, calls-giving, calls-giving-last, enters-with, returns-with, mut-way, shr-way, plain-way, Ways-of, stays-of, meets-by, whiles-by}
+use Rattle.walks.proofs.Walk.{_≡_, refl, sym, _∙_, ℕ, _+_, _<_, _^_, Bool, List, [], _∷_, eqb, length, set, URA, w8, w32, w64, Val, vbool, vint, SProp, ent, emp, id⊢, Memory, Routine, Heap, Tables, WpFn, Atoms, Fun, factI, givenOf, tables, tablesOf, Given, Item, ⋆, _$_, !, move, of-opd, no-more, and-then, Is, u8, u32, usize, bool, Room, onEntry, Meets, tripleOf, Contract, Triple, entered, cited, walkOf, needs, Holds, free, has, loc, sets, leaves, blurs, bool-kind, uint-kind, typed, at-list, shown, Spot, spot, word, lends-at, hands-at, Param, plain-of, lfts-at, shares-at, args-at, vals-of, lfts-of, shares-of, args-of, itemsOf, reborrows, calls-plain, Call, calls-giving, calls-giving-last, enters-with, returns-with, mut-way, shr-way, plain-way, Ways-of, stays-of, meets-by, whiles-by}
 use lib.Dec.{T as Holds-of}
 use mir.Syntax.{named, erased}
 use mir.Val.{WT, hasTy}
@@ -17,7 +17,7 @@ use Rattle.book_reader.proofs.step.Step as S
 use Rattle.book_reader.proofs.lent.Reader as T
 use Rattle.book_reader.proofs.lent.Reader.Laws as T′
 use Rattle.book_reader.proofs.Held.{steps, Text}
-use Rattle.book_reader.proofs.Asking.{reader, of-text, gives-as, goes as gives-reader, asks, asks-on, asks-part, part-back}
+use Rattle.book_reader.proofs.Asking.{reader, gives-as, goes as gives-reader, asks, asks-on, asks-part, part-back}
 use Rattle.report.specs.Ahead.{Stopped}
 use Rattle.book.specs.Progress as spec
 use Rattle.book.specs.Progress.{standOf, reason, Goes}
