@@ -28,14 +28,16 @@ use Rattle.bus.specs.Exchange.{Moment, turnOf, eComes, saidTo, seatsOf, 
 use Rattle.bus.specs.Period.{networkHears, terminalHears, stepped, heardBy, timed, periodRun}
 use Rattle.bus.specs.Calls.{Call, reply, does, after, ran}
 use Rattle.bus.specs.Calls.Call.{event, period}
-use Rattle.bus.specs.Stretch.{seatAt, seatThen, Undisturbed, Stretch, momentsOf, moments, Calm, Stays, Waits, Completes, Begins}
-use Rattle.bus.specs.Claims.{at, opps}
+use Rattle.bus.specs.Stretch.{seatAt, seatThen, Undisturbed, Stretch, momentsOf, moments, Calm, Stays, Waits, Completes, Begins, bodyHeard, firstDone, bodyCompleted}
+use Rattle.bus.specs.Claims.{at, opps, waitBound}
 use Rattle.bus.specs.Quick.{shownBy, shownFrom}
+use Rattle.bus.specs.Scenes as scenes
 use Rattle.bus.specs.Scenes.{report, activated, beforeWait, duringWait, duringBusy}
 use Rattle.bus.specs.Exists as exists
 use Rattle.bus.proofs.Quick.{up-shown, down-shown}
 use Rattle.bus.proofs.Seats.{Each, seat-heard, seat-timed, each-exchanged}
 use Rattle.bus.proofs.Stretches.{state-exchanged}
+use Rattle.bus.proofs.Demand3.{demand3}
 
 -- a terminal that is off, or activated and aligned
 data Rests (s : Seat) : Type 0 where
@@ -221,12 +223,22 @@ no-hit-is : (h : Hit) → noHit h ≡ true → h ≡ Hit.none
 no-hit-is none e = refl
 no-hit-is (given letters) e = absurd (true≢false (sym e))
 
+-- the conditions of a stretch, each by those that document 01 has for it
+undisturbed-when : (b : Bus) → b .hit ≡ Hit.none → anyInfo1 (b .seats) ≡ false → Undisturbed b
+undisturbed-when b hit calls = search
+
+stays-when : (b b′ : Bus) → b .network .state ≡ G3 → b′ .network .state ≡ G3
+    → ((i : ℕ) → seatAt i b .terminal .state ≡ F7 → seatAt i b′ .terminal .state ≡ F7) → Stays b b′
+stays-when b b′ g g′ f = search
+
 calm-event : (b : Bus) (unit number : ℕ) (value : List ℕ) → Calm b (event unit number value)
 calm-event b unit number value = search
 
 calm-is : (b : Bus) (c : Call) → isCalm b c ≡ true → Calm b c
 calm-is b (event unit number value) h = calm-event b unit number value
-calm-is b period h = λ r. record { no-hit = no-hit-is (b .hit) (and-left (noHit (b .hit)) (not (anyInfo1 (b .seats))) h); no-info-1 = not-true (anyInfo1 (b .seats)) (and-right (noHit (b .hit)) (not (anyInfo1 (b .seats))) h) }
+calm-is b period h = λ r.
+    undisturbed-when b (no-hit-is (b .hit) (and-left (noHit (b .hit)) (not (anyInfo1 (b .seats))) h))
+    (not-true (anyInfo1 (b .seats)) (and-right (noHit (b .hit)) (not (anyInfo1 (b .seats))) h))
 
 stays-is : (b b′ : Bus) → stays b b′ ≡ true → Stays b b′
 unfolding seatAt
@@ -234,11 +246,9 @@ stays-is b b′ h =
     let first = eqb (b .network .state) G3 in
     let second = eqb (b′ .network .state) G3 in
     let more = and-right first (second && keepsF7 (b .seats) (b′ .seats)) h in
-    record {
-      in-G3 = eqb-true (b .network .state) G3 (and-left first (second && keepsF7 (b .seats) (b′ .seats)) h);
-      still-G3 = eqb-true (b′ .network .state) G3 (and-left second (keepsF7 (b .seats) (b′ .seats)) more);
-      still-F7 = still-in-F7 (b .seats) (b′ .seats) (and-right second (keepsF7 (b .seats) (b′ .seats)) more);
-    }
+    stays-when b b′ (eqb-true (b .network .state) G3 (and-left first (second && keepsF7 (b .seats) (b′ .seats)) h))
+    (eqb-true (b′ .network .state) G3 (and-left second (keepsF7 (b .seats) (b′ .seats)) more))
+    (still-in-F7 (b .seats) (b′ .seats) (and-right second (keepsF7 (b .seats) (b′ .seats)) more))
 
 stretch-is : (b : Bus) (calls : List Call) → isStretch b calls ≡ true → Stretch b calls
 unfolding Stretch
@@ -269,19 +279,33 @@ beginsNow i m =
 abbrev completesNow : ℕ → ℕ → Moment → Bool
 completesNow k i m = inF7 (seatThen i m) && eqb (turnOf (eComes m) (seatThen i m) .done) k
 
--- ---- every event, and every refused call
+-- ---- what a stretch may have
 pub any-event : exists.AnyEvent
 unfolding Stretch
-any-event b unit number value more stays rest = (calm-event b unit number value, stays, rest)
+any-event b unit number value more g g′ f rest = (calm-event b unit number value, stays-when b (after b (event unit number value)) g g′ f, rest)
+
+pub any-period : exists.AnyPeriod
+unfolding Stretch
+any-period b more hit calls g g′ f rest = ((λ r. undisturbed-when b hit calls), stays-when b (after b period) g g′ f, rest)
 
 pub any-refused-call : exists.AnyRefusedCall
 unfolding Stretch after
 any-refused-call b c more g refused rest =
-    rw (ne-eqb (reply b c) 0 refused) (calm c refused, record { in-G3 = g; still-G3 = g; still-F7 = λ i f. f }, rest)
+    rw (ne-eqb (reply b c) 0 refused) (calm c refused, stays-when b b g g (λ i f. f), rest)
   where
     calm : (x : Call) → (reply b x ≡ 0 → ⊥) → Calm b x
     calm (event unit number value) r = calm-event b unit number value
     calm period r = λ e. absurd (r e)
+
+-- ---- the words, by document 01's conditions
+pub waits-when : exists.WaitsWhen
+waits-when k i m in-F7 held normal = search
+
+pub completes-when : exists.CompletesWhen
+completes-when k i m in-F7 done = search
+
+pub begins-when : exists.BeginsWhen
+begins-when i m in-F7 idle first = search
 
 -- ---- the words, at opportunities that are computed
 waits-is : (k i : ℕ) (m : Moment) → waitsNow k i m ≡ true → Waits k i m
@@ -290,10 +314,8 @@ waits-is k i m h =
     let holds = eqb (s .terminal .access .held) k in
     let low = lowOf k (s .terminal .access) in
     let more = and-right (inF7 s) (holds && not low) h in
-    let active : s .terminal .state ≡ F7 = eqb-true (s .terminal .state) F7 (and-left (inF7 s) (holds && not low) h) in
-    let held : s .terminal .access .held ≡ k = eqb-true (s .terminal .access .held) k (and-left holds (not low) more) in
-    let normal : low ≡ false = not-true low (and-right holds (not low) more) in
-    search
+    waits-when k i m (eqb-true (s .terminal .state) F7 (and-left (inF7 s) (holds && not low) h))
+    (eqb-true (s .terminal .access .held) k (and-left holds (not low) more)) (not-true low (and-right holds (not low) more))
 
 begins-is : (i : ℕ) (m : Moment) → beginsNow i m ≡ true → Begins i m
 begins-is i m h =
@@ -302,19 +324,15 @@ begins-is i m h =
     let idle = eqb (s .terminal .access .sent) 0 in
     let first = eqb (t .access .sent) 1 in
     let more = and-right (inF7 s) (idle && first) h in
-    let active : s .terminal .state ≡ F7 = eqb-true (s .terminal .state) F7 (and-left (inF7 s) (idle && first) h) in
-    let was-idle : s .terminal .access .sent ≡ 0 = eqb-true (s .terminal .access .sent) 0 (and-left idle first more) in
-    let first-left : t .access .sent ≡ 1 = eqb-true (t .access .sent) 1 (and-right idle first more) in
-    search
+    begins-when i m (eqb-true (s .terminal .state) F7 (and-left (inF7 s) (idle && first) h))
+    (eqb-true (s .terminal .access .sent) 0 (and-left idle first more)) (eqb-true (t .access .sent) 1 (and-right idle first more))
 
 completes-is : (k i : ℕ) (m : Moment) → completesNow k i m ≡ true → Completes k i m
 completes-is k i m h =
     let s = seatThen i m in
     let t = turnOf (eComes m) s in
     let done = eqb (t .done) k in
-    let active : s .terminal .state ≡ F7 = eqb-true (s .terminal .state) F7 (and-left (inF7 s) done h) in
-    let is-done : t .done ≡ k = eqb-true (t .done) k (and-right (inF7 s) done h) in
-    search
+    completes-when k i m (eqb-true (s .terminal .state) F7 (and-left (inF7 s) done h)) (eqb-true (t .done) k (and-right (inF7 s) done h))
 
 -- the worst wait, computed once
 abbrev every : List Bool → Bool
@@ -338,8 +356,10 @@ waitTests ms =
     ∷ completesNow 1 0 (at ms 127)
     ∷ []
 
-waits-to-the-last : (ms : List Moment) → every (waitTests ms) ≡ true → saidTo (at ms 126) ≡ heard (1 ∷ []) → exists.WaitsToTheLast ms
-waits-to-the-last ms h said =
+waits-to-the-last : (ms : List Moment) → every (waitTests ms) ≡ true → saidTo (at ms 126) ≡ heard (1 ∷ []) → bodyCompleted (at ms 127) ≡ (1 ∷ []) ∷ []
+    → exists.WaitsToTheLast ms
+unfolding bodyHeard
+waits-to-the-last ms h said done =
     record {
       waits = waits-is 1 0 (at ms 0) (every-one (waitTests ms) h 1);
       lasts = leb-true 128 (length ms) (every-one (waitTests ms) h 0);
@@ -349,12 +369,26 @@ waits-to-the-last ms h said =
       still-waits = waits-is 1 0 (at ms 95) (every-one (waitTests ms) h 5);
       begun = begins-is 0 (at ms 103) (every-one (waitTests ms) h 6);
       is-heard = said;
+      body-heard = rw said;
       completed = completes-is 1 0 (at ms 127) (every-one (waitTests ms) h 7);
+      body-completed = done;
     }
 
 pub worst-wait : exists.WorstWait
-unfolding report anyInfo1
-worst-wait = waits-to-the-last (opps beforeWait duringWait) refl refl
+unfolding report anyInfo1 bodyCompleted firstDone
+worst-wait = waits-to-the-last (opps beforeWait duringWait) refl refl refl
+
+-- what demand 3 says there
+pub said-of-worst-wait : exists.SaidOfWorstWait
+said-of-worst-wait =
+    let claimed = demand3 beforeWait duringWait [] worst-stretch in
+    let bound : waitBound beforeWait duringWait ≡ 128 = scenes.worst-wait .0 in
+    let long = worst-wait .lasts in
+    record {
+      in-time = claimed .wait-ends 0 0 (worst-wait .waits) (rw bound (omega (arith, long)));
+      frame-heard = claimed .begun-heard 0 1 103 126 (omega arith) (omega arith) (omega (arith, long)) (worst-wait .begun) (worst-wait .completed);
+      as-completed = claimed .heard-as-completed 0 103 16 (worst-wait .begun) (omega (arith, long));
+    }
 
 pub busy-stretch : exists.BusyStretch
 unfolding report anyInfo1

@@ -1,18 +1,21 @@
 -- Stretches of any length exist, and busy ones, and what demand 3 speaks of happens in them: what it assumes can be met. The statements are
 -- types; `proofs/Exists.antt` proves each under the same name in small letters.
 use mathlib.Core.Path.{_≡_}
+use mathlib.Core.Bool.{false}
 use mathlib.Core.List.{List, [], _∷_}
 use Prim.Native.Nat.{ℕ, _+_, _*_, _≤_}
 use lib.ListN.{length, replicate}
 use Rattle.hdlc.specs.Reading.Said.{heard}
 use Rattle.timing.specs.Counts.{mostPeriods}
+use Rattle.table_6_2.specs.Table62.{F7}
 use Rattle.table_6_3.specs.Table63.{G3}
-use Rattle.bus.specs.Bus.{Bus, freshBus}
-use Rattle.bus.specs.Exchange.{Moment, saidTo}
+use Rattle.dchannel.specs.Access.{lowOf}
+use Rattle.bus.specs.Bus.{Hit, Bus, freshBus}
+use Rattle.bus.specs.Exchange.{Moment, anyInfo1, turnOf, eComes, saidTo}
 use Rattle.bus.specs.Calls.{Call, reply, after, ran}
 use Rattle.bus.specs.Calls.Call.{event, period}
-use Rattle.bus.specs.Stretch.{Stays, Stretch, moments, Waits, Completes, Begins}
-use Rattle.bus.specs.Claims.{at, opps}
+use Rattle.bus.specs.Stretch.{seatAt, Stretch, moments, seatThen, Waits, Completes, Begins, bodyHeard, bodyCompleted}
+use Rattle.bus.specs.Claims.{at, opps, CompletedWithin, waitBound, heardFrom, completedFrom}
 use Rattle.bus.specs.Scenes.{activating, activated, beforeWait, duringWait, duringBusy}
 
 -- So many periods after document 01's book has activated its terminal.
@@ -41,20 +44,52 @@ pub record WaitsToTheLast (ms : List Moment) : Type 0 where
   -- then its frame is begun, heard and completed
   pub begun : Begins 0 (at ms 103)
   pub is-heard : saidTo (at ms 126) ≡ heard (1 ∷ [])
+  pub body-heard : bodyHeard (at ms 126) ≡ (1 ∷ []) ∷ []
   pub completed : Completes 1 0 (at ms 127)
+  pub body-completed : bodyCompleted (at ms 127) ≡ (1 ∷ []) ∷ []
 
 abbrev pub WorstWait : Type 0
 WorstWait = WaitsToTheLast (opps beforeWait duringWait)
 
--- "whatever the others request": every event may come in a stretch, accepted or refused, that leaves the network end in G3 and in F7 all
--- that are there ..
+-- .. and what demand 3 says of it: its frame is completed in time and heard, and what is heard from the frame's flag on is what is completed.
+pub record SaidOfWorstWait : Type 0 where
+  pub in-time : CompletedWithin beforeWait duringWait 1 0 0 (waitBound beforeWait duringWait)
+  pub frame-heard : saidTo (at (opps beforeWait duringWait) 126) ≡ heard (seatThen 0 (at (opps beforeWait duringWait) 127) .body)
+  pub as-completed : heardFrom beforeWait duringWait 111 16 ≡ completedFrom beforeWait duringWait 112 16
+
+-- ---- The words need no more than document 01 says. Each holds wherever its sentence does, of every terminal and class ..
+abbrev pub WaitsWhen : Type 0
+WaitsWhen =
+    (k i : ℕ) (m : Moment) → seatThen i m .terminal .state ≡ F7 → seatThen i m .terminal .access .held ≡ k →
+    lowOf k (seatThen i m .terminal .access) ≡ false → Waits k i m
+
+abbrev pub CompletesWhen : Type 0
+CompletesWhen =
+    (k i : ℕ) (m : Moment) → seatThen i m .terminal .state ≡ F7 → turnOf (eComes m) (seatThen i m) .done ≡ k → Completes k i m
+
+abbrev pub BeginsWhen : Type 0
+BeginsWhen =
+    (i : ℕ) (m : Moment) → seatThen i m .terminal .state ≡ F7 → seatThen i m .terminal .access .sent ≡ 0 →
+    turnOf (eComes m) (seatThen i m) .access .sent ≡ 1 → Begins i m
+
+-- .. and a stretch may have "whatever the others request": every event, accepted or refused, and every period without hit and INFO 1, that
+-- leaves the network end in G3 and in F7 all that are there ..
 abbrev pub AnyEvent : Type 0
 AnyEvent =
     (b : Bus) (unit number : ℕ) (value : List ℕ) (more : List Call) →
     let call = event unit number value in
-    Stays b (after b call) → Stretch (after b call) more → Stretch b (call ∷ more)
+    b .network .state ≡ G3 → after b call .network .state ≡ G3 →
+    ((i : ℕ) → seatAt i b .terminal .state ≡ F7 → seatAt i (after b call) .terminal .state ≡ F7) →
+    Stretch (after b call) more → Stretch b (call ∷ more)
 
--- .. so every refused call may: it changes nothing
+abbrev pub AnyPeriod : Type 0
+AnyPeriod =
+    (b : Bus) (more : List Call) → b .hit ≡ Hit.none → anyInfo1 (b .seats) ≡ false →
+    b .network .state ≡ G3 → after b period .network .state ≡ G3 →
+    ((i : ℕ) → seatAt i b .terminal .state ≡ F7 → seatAt i (after b period) .terminal .state ≡ F7) →
+    Stretch (after b period) more → Stretch b (period ∷ more)
+
+-- .. so every refused call may, with a hit pending or not: it changes nothing.
 abbrev pub AnyRefusedCall : Type 0
 AnyRefusedCall =
     (b : Bus) (c : Call) (more : List Call) → b .network .state ≡ G3 → (reply b c ≡ 0 → ⊥) → Stretch b more → Stretch b (c ∷ more)

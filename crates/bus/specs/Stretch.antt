@@ -22,6 +22,7 @@ seatAt i b = getD (b .seats) i freshSeat
 
 -- What a stretch allows of a period run in it: "No period run in it has a hit or a terminal sending INFO 1"
 pub record Undisturbed (b : Bus) : Type 0 where
+  -- which terminals are powered is not asked
   pub no-hit : b .hit ≡ Hit.none
   pub no-info-1 : anyInfo1 (b .seats) ≡ false
 
