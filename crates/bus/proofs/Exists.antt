@@ -39,6 +39,14 @@ use Rattle.bus.proofs.Seats.{Each, seat-heard, seat-timed, each-exchang
 use Rattle.bus.proofs.Stretches.{state-exchanged}
 use Rattle.bus.proofs.Demand3.{demand3}
 
+-- ---- the conditions of a stretch, each by those that document 01 has for it
+undisturbed-when : (b : Bus) → b .hit ≡ Hit.none → anyInfo1 (b .seats) ≡ false → Undisturbed b
+undisturbed-when b hit calls = search
+
+stays-when : (b b′ : Bus) → b .network .state ≡ G3 → b′ .network .state ≡ G3
+    → ((i : ℕ) → seatAt i b .terminal .state ≡ F7 → seatAt i b′ .terminal .state ≡ F7) → Stays b b′
+stays-when b b′ g g′ f = search
+
 -- a terminal that is off, or activated and aligned
 data Rests (s : Seat) : Type 0 where
   off : s .terminal .state ≡ F1 → Rests s
@@ -157,10 +165,10 @@ steady-stretch : (n : ℕ) (b : Bus) → Steady b → Stretch b (replicate n per
 unfolding Stretch after does
 steady-stretch zero b s = tt
 steady-stretch (suc n) b s =
-    let calm : Undisturbed b = record { no-hit = s .no-hit; no-info-1 = rest-no-info-1 (b .seats) (s .rest) } in
+    let calm = undisturbed-when b (s .no-hit) (rest-no-info-1 (b .seats) (s .rest)) in
     by-test (eqb (reply b period) 0)
-    (λ t. rw t ((λ r. calm), record { in-G3 = s .in-G3; still-G3 = net-run b s .0; still-F7 = λ i. still-run b s i .1 }, steady-stretch n (periodRun b) (steady-on b s)))
-    (λ t. rw t ((λ r. calm), record { in-G3 = s .in-G3; still-G3 = s .in-G3; still-F7 = λ i h. h }, steady-stretch n b s))
+    (λ t. rw t ((λ r. calm), stays-when b (periodRun b) (s .in-G3) (net-run b s .0) (λ i. still-run b s i .1), steady-stretch n (periodRun b) (steady-on b s)))
+    (λ t. rw t ((λ r. calm), stays-when b b (s .in-G3) (s .in-G3) (λ i h. h), steady-stretch n b s))
 
 -- document 01's book leads to such a bus: terminal 1 in F7, the others fresh
 all-fresh : (n i : ℕ) → getD (replicate n freshSeat) i freshSeat .terminal .state ≡ F1
@@ -222,14 +230,6 @@ still-in-F7 (s ∷ ss) (t ∷ ts) h (suc i) f = still-in-F7 ss ts (and-right (no
 no-hit-is : (h : Hit) → noHit h ≡ true → h ≡ Hit.none
 no-hit-is none e = refl
 no-hit-is (given letters) e = absurd (true≢false (sym e))
-
--- the conditions of a stretch, each by those that document 01 has for it
-undisturbed-when : (b : Bus) → b .hit ≡ Hit.none → anyInfo1 (b .seats) ≡ false → Undisturbed b
-undisturbed-when b hit calls = search
-
-stays-when : (b b′ : Bus) → b .network .state ≡ G3 → b′ .network .state ≡ G3
-    → ((i : ℕ) → seatAt i b .terminal .state ≡ F7 → seatAt i b′ .terminal .state ≡ F7) → Stays b b′
-stays-when b b′ g g′ f = search
 
 calm-event : (b : Bus) (unit number : ℕ) (value : List ℕ) → Calm b (event unit number value)
 calm-event b unit number value = search
