@@ -1,11 +1,11 @@
 -- Laws of fields: each is the part of the line that the definitions say, and where the last of them ends.
 use mathlib.Core.Path.{_≡_, refl, sym, ap, _∙_}
 use mathlib.Core.List.{List, []}
-use Prim.Native.Nat.{ℕ, zero, suc, _+_, _-_, _≤_, _<_, min}
+use Prim.Native.Nat.{ℕ, zero, suc, _+_, _-_, _≤_, _<_}
 use native.Mathlib.Omega.{arith}
 use lib.Dec.{ltb, leb}
 use lib.ListN.{length, getD, take, drop, length-drop, drop-of-length-le}
-use borrow.Author.Tests.{ne-eqb, ltb-true, ltb-false, leb-true, leb-false}
+use borrow.Author.Tests.{ltb-true, ltb-false, leb-true, leb-false}
 use denote.Ref.{RefT, now}
 use Rattle.cases.proofs.ByCases.{by-test}
 use Rattle.text.specs.Text.{space, split, upto, fields, field}
@@ -95,28 +95,22 @@ unfolding fieldStart
 ends-are line first second third fourth a b c d = rw (d, c, b, a)
 
 split-places : (line : List ℕ) (k : ℕ)
-    → (fieldFrom k (endsOf line) ≡ fieldStart (min k 3) line) × (fieldTo k (endsOf line) ≡ fieldEnd (min k 3) line)
+    → k ≤ 3 → (fieldFrom k (endsOf line) ≡ fieldStart k line) × (fieldTo k (endsOf line) ≡ fieldEnd k line)
 unfolding fieldStart
-split-places line zero = (refl, refl)
-split-places line (suc zero) = (refl, refl)
-split-places line (suc (suc zero)) = (refl, refl)
-split-places line (suc (suc (suc k))) =
-    let m : min (suc (suc (suc k))) 3 ≡ 3 = omega arith in
-    rw (
-      m,
-      ne-eqb (suc (suc (suc k))) 0 (λ e. omega arith),
-      ne-eqb (suc (suc (suc k))) 1 (λ e. omega arith),
-      ne-eqb (suc (suc (suc k))) 2 (λ e. omega arith),
-    ) (refl, refl)
+split-places line zero h = (refl, refl)
+split-places line (suc zero) h = (refl, refl)
+split-places line (suc (suc zero)) h = (refl, refl)
+split-places line (suc (suc (suc zero))) h = (refl, refl)
+split-places line (suc (suc (suc (suc k)))) h = absurd (omega arith)
 
 -- the next field begins at most one octet farther past the line's end
 pub end-near : (line : List ℕ) (from more : ℕ) → from ≤ length line + more → from + upto space (drop from line) ≤ length line + more
 end-near line from more h = omega (arith, upto-le space (drop from line), length-drop from line)
 
--- The parts that are handed back for a line that is split are its fields, any number above 3 taken as 3.
-pub fields-told : (line part : RefT (List ℕ)) (ends : Ends) → ends ≡ endsOf (now line) → (k : ℕ)
-    → IsPart line (fieldFrom k ends) (fieldTo k ends) part → now part ≡ field (min k 3) (now line)
-fields-told line part ends e k p =
-    let f = split-places (now line) k in
-    let q : IsPart line (fieldStart (min k 3) (now line)) (fieldEnd (min k 3) (now line)) part = rw (e, f .0, f .1) at p in
-    part-octets line _ _ part q ∙ sym (field-part (now line) (min k 3))
+-- The parts that are handed back for a line that is split are its fields.
+pub fields-told : (line part : RefT (List ℕ)) (ends : Ends) → ends ≡ endsOf (now line) → (k : ℕ) → k ≤ 3
+    → IsPart line (fieldFrom k ends) (fieldTo k ends) part → now part ≡ field k (now line)
+fields-told line part ends e k h p =
+    let f = split-places (now line) k h in
+    let q : IsPart line (fieldStart k (now line)) (fieldEnd k (now line)) part = rw (e, f .0, f .1) at p in
+    part-octets line _ _ part q ∙ sym (field-part (now line) k)

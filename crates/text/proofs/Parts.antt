@@ -5,11 +5,11 @@ use Prim.Native.Nat.{ℕ, _+_, _-_, _≤_, _<_, min}
 use native.Mathlib.Omega.{arith}
 use lib.Dec.{ltb}
 use lib.ListN.{length, take, drop, length-drop, drop-of-length-le}
-use lib.Seq.{take-all, take-nil, drop-drop}
+use lib.Seq.{take-all, take-nil, drop-drop, length-take-le}
 use borrow.Author.Tests.{ltb-true, ltb-false}
 use denote.Ref.{RefT, ptr, now}
 use Rattle.cases.proofs.ByCases.{by-test}
-use Rattle.text.specs.Part.{IsPart, partBegin, partEnd}
+use Rattle.text.specs.Part.{IsPart, PartIsOne, PartLies, partBegin, partEnd}
 
 -- what is cut out from `from` to `to` is the same where both go no farther than the text
 cut-same : (t : List ℕ) (from to : ℕ)
@@ -43,11 +43,26 @@ module _ (text : RefT (List ℕ)) (from to : ℕ) (part : RefT (List ℕ)) where
       → IsPart text (before + 1) to part
   part-behind before least f l p =
       let e : partBegin (before + 1) to (now text) ≡ partBegin from to (now text) = omega arith in
-      record { block = p .block; place = rw e (p .place); octets = rw e (p .octets) }
+      record { block = p .block; place = omega (arith, p .place, e); octets = rw e (p .octets) }
 
   -- what a part holds
   pub part-octets : IsPart text from to part → now part ≡ take (to - from) (drop from (now text))
   part-octets p = p .octets ∙ cut-same (now text) from to
+
+-- ---- IsPart says all of a part's place and octets.
+pub part-is-one : PartIsOne
+part-is-one text p q from to a b =
+    let block : ptr p .0 ≡ ptr q .0 = a .block ∙ sym (b .block) in
+    let place : ptr p .1 ≡ ptr q .1 = omega (arith, a .place, b .place) in
+    (λ i. (block i, place i), a .octets ∙ sym (b .octets))
+
+pub part-lies : PartLies
+part-lies text part from to h k a =
+    let place : ptr part .1 ≡ ptr text .1 + from = omega (arith, a .place) in
+    let room : to - from ≤ length (drop from (now text)) = omega (arith, length-drop from (now text)) in
+    let size : length (now part) ≡ to - from =
+    ap length (part-octets text from to part a) ∙ length-take-le (to - from) (drop from (now text)) room in
+    (λ i. (a .block i, place i), size)
 
 -- the lesser of two numbers, both so much farther on; and of one that is past the other
 shifted : (at x y : ℕ) → min (at + x) (at + y) ≡ at + min x y

@@ -20,9 +20,12 @@ fieldEnd k line = fieldStart k line + upto space (drop (fieldStart k line) line)
 abbrev pub endsOf : List ℕ → Ends
 endsOf line = record { first = fieldEnd 0 line; second = fieldEnd 1 line; third = fieldEnd 2 line; fourth = fieldEnd 3 line }
 
--- Where field k of a line whose fields have these ends begins and ends: 0 to 3, and any other number as 3.
+-- Where field k of a line whose fields have these ends begins and ends, for k up to 3. A line that is split has no field of any other
+-- number: such a number gives an empty part.
 abbrev pub fieldFrom : ℕ → Ends → ℕ
-fieldFrom k ends = cond (eqb k 0) 0 (cond (eqb k 1) (ends .first + 1) (cond (eqb k 2) (ends .second + 1) (ends .third + 1)))
+fieldFrom k ends =
+    cond (eqb k 0) 0 (cond (eqb k 1) (ends .first + 1) (cond (eqb k 2) (ends .second + 1) (cond (eqb k 3) (ends .third + 1) 0)))
 
 abbrev pub fieldTo : ℕ → Ends → ℕ
-fieldTo k ends = cond (eqb k 0) (ends .first) (cond (eqb k 1) (ends .second) (cond (eqb k 2) (ends .third) (ends .fourth)))
+fieldTo k ends =
+    cond (eqb k 0) (ends .first) (cond (eqb k 1) (ends .second) (cond (eqb k 2) (ends .third) (cond (eqb k 3) (ends .fourth) 0)))

@@ -2,7 +2,7 @@
 -- octets, or octets of somebody else's, are no such part.
 use mathlib.Core.Path.{_≡_}
 use mathlib.Core.List.{List}
-use Prim.Native.Nat.{ℕ, _+_, _-_, min}
+use Prim.Native.Nat.{ℕ, _+_, _-_, _≤_, min}
 use lib.ListN.{length, take, drop}
 use denote.Ref.{RefT, ptr, now}
 
@@ -19,3 +19,14 @@ pub record IsPart (text : RefT (List ℕ)) (from to : ℕ) (part : RefT (List �
   pub block : ptr part .0 ≡ ptr text .0
   pub place : ptr part .1 ≡ ptr text .1 + partBegin from to (now text)
   pub octets : now part ≡ take (partEnd to (now text) - partBegin from to (now text)) (drop (partBegin from to (now text)) (now text))
+
+-- There is one such part: two of them lie at the same place and hold the same octets.
+abbrev pub PartIsOne : Type 0
+PartIsOne =
+    (text p q : RefT (List ℕ)) (from to : ℕ) → IsPart text from to p → IsPart text from to q → (ptr p ≡ ptr q) × (now p ≡ now q)
+
+-- Where its ends lie in the text, it begins `from` octets behind the text's beginning, in the text's own block, and has `to - from` octets.
+abbrev pub PartLies : Type 0
+PartLies =
+    (text part : RefT (List ℕ)) (from to : ℕ) → from ≤ to → to ≤ length (now text) → IsPart text from to part
+    → (ptr part ≡ (ptr text .0, ptr text .1 + from)) × (length (now part) ≡ to - from)

@@ -34,7 +34,8 @@ pub fn split(line: &[u8]) -> Ends
     }
 }
 
-// Field `which` of a line whose fields have these ends, as the part of the line that it is: 0 to 3, and any other number as 3.
+// Field `which` of a line whose fields have these ends, 0 to 3, as the part of the line that it is. For any other number it is an
+// empty part of the line: a line that is split has no such field.
 pub fn field(line: &[u8], ends: Ends, which: usize) -> &[u8]
     ensures { λ r. ⌜ IsPart (line .entry) (spec.fieldFrom which ends) (spec.fieldTo which ends) r ⌝ }
 {
@@ -43,6 +44,7 @@ pub fn field(line: &[u8], ends: Ends, which: usize) -> &[u8]
         0 => part(line, 0, ends.first),
         1 => part(line, least(ends.first, most) + 1, ends.second),
         2 => part(line, least(ends.second, most) + 1, ends.third),
-        _ => part(line, least(ends.third, most) + 1, ends.fourth),
+        3 => part(line, least(ends.third, most) + 1, ends.fourth),
+        _ => part(line, 0, 0),
     }
 }

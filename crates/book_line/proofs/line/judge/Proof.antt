@@ -62,10 +62,10 @@ returns-3 c =
     ap (λ (e : Ends). e .third + 1) (split .split .ensures) ∙ sym (field-behind (now line) 2) in
     c .judge-fields .ensures
     ∙ four-judged (now line) _ _ _ _ _ (split .before .if1 .left) (fields-end (now line) 3 .1 last)
-    (fields-told line _ ends (split .split .ensures) 0 (period .field .ensures))
-    (fields-told line _ ends (split .split .ensures) 1 (unit .field2 .ensures))
-    (fields-told line _ ends (split .split .ensures) 2 (event .field3 .ensures))
-    (fields-told line _ ends (split .split .ensures) 3 (value .field4 .ensures))
+    (fields-told line _ ends (split .split .ensures) 0 (omega arith) (period .field .ensures))
+    (fields-told line _ ends (split .split .ensures) 1 (omega arith) (unit .field2 .ensures))
+    (fields-told line _ ends (split .split .ensures) 2 (omega arith) (event .field3 .ensures))
+    (fields-told line _ ends (split .split .ensures) 3 (omega arith) (value .field4 .ensures))
     at
 
 pub judge-spec : {M : Type 1} → statement M

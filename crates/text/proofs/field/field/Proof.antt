@@ -1,4 +1,4 @@
--- `field::field` meets its contract: by the field's number; a field begins behind the end of the one before it.
+-- `field::field` meets its contract: by the field's number; a field begins behind the end of the one before it, and above 3 there is none.
 use mathlib.Core.Path.{refl}
 use borrow.Author.Tests.{ne-eqb}
 use borrow.Author.Needs.{needs}
@@ -36,6 +36,9 @@ add-part-3 c = search needs
 part-requires-4 : tie.Need-part-requires-4
 part-requires-4 c κs = search needs
 
+part-requires-5 : tie.Need-part-requires-5
+part-requires-5 c κs = search needs
+
 returns : tie.Need-returns
 returns c = rw (c .before .match .keys1) (c .part .ensures)
 
@@ -57,9 +60,13 @@ returns-4 : tie.Need-returns-4
 returns-4 c =
     let least = c .before .least3 in
     let a = c .before .before .before .before .args in
-    let none = c .before .before .match .rest in
-    rw (ne-eqb _ 0 (none .0 .0 .1), ne-eqb _ 1 (none .0 .1), ne-eqb _ 2 (none .1))
+    rw (c .before .before .match .keys4)
     (part-behind (a .line) _ _ _ (a .ends .third) (least .result) refl (least .ensures) (c .part4 .ensures))
+
+returns-5 : tie.Need-returns-5
+returns-5 c =
+    let none = c .before .match .rest in
+    rw (ne-eqb _ 0 (none .0 .0 .0 .1), ne-eqb _ 1 (none .0 .0 .1), ne-eqb _ 2 (none .0 .1), ne-eqb _ 3 (none .1)) (c .part5 .ensures)
 
 pub field-spec : {M : Type 1} → statement M
 field-spec =
@@ -75,7 +82,9 @@ field-spec =
     least-requires-3
     add-part-3
     part-requires-4
+    part-requires-5
     returns
     returns-2
     returns-3
-    returns-4)
+    returns-4
+    returns-5)
