@@ -2,21 +2,21 @@
 use mathlib.Core.List.{List, [], _∷_, _++_}
 use Rattle.bus.specs.Bus.{freshBus}
 use Rattle.bus.proofs.Demand3.{demand3}
-use Rattle.call_rules.specs.Lists.{LentCall, freshFound, made, AllMayBe}
+use Rattle.call_rules.specs.Lists.{LentCall, freshFound, made, AllAdmitted}
 use Rattle.call_rules.specs.Demand3.{Demand3OnCalls}
 use Rattle.call_rules.proofs.Lists.{lists-carried, same-all}
 
 -- what the parts of a list may hold
-parts-may-be : (xs ys : List LentCall) → AllMayBe (xs ++ ys) → AllMayBe xs × AllMayBe ys
-unfolding AllMayBe
-parts-may-be [] ys m = (tt, m)
-parts-may-be (x ∷ xs) ys m = let p = parts-may-be xs ys (m .1) in ((m .0, p .0), p .1)
+parts-admitted : (xs ys : List LentCall) → AllAdmitted (xs ++ ys) → AllAdmitted xs × AllAdmitted ys
+unfolding AllAdmitted
+parts-admitted [] ys m = (tt, m)
+parts-admitted (x ∷ xs) ys m = let p = parts-admitted xs ys (m .1) in ((m .0, p .0), p .1)
 
 pub demand3-on-calls : Demand3OnCalls
 demand3-on-calls images octets letters before during later i o l m stretch =
     let k = freshFound images octets letters in
-    let p = parts-may-be before (during ++ later) m in
-    let q = parts-may-be during later (p .1) in
+    let p = parts-admitted before (during ++ later) m in
+    let q = parts-admitted during later (p .1) in
     let all = lists-carried images octets letters (before ++ (during ++ later)) i o l in
     record {
       claims = demand3 (made before) (made during) (made later) stretch;

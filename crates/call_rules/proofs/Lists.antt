@@ -1,30 +1,33 @@
 -- Every list of calls on the record and what is lent with it gives the replies and the notes of document 01's rules.
 use mathlib.Core.Path.{_≡_, refl}
-use mathlib.Core.Bool.{true, false, cond, _&&_}
+use mathlib.Core.Bool.{Bool, true, false, cond, not, _&&_, _||_}
 use mathlib.Core.List.{List, [], _∷_, _++_}
 use Prim.Native.Nat.{ℕ, zero, suc, _≤_}
 use native.Mathlib.Omega.{arith}
 use lib.Dec.{eqb, leb}
 use lib.ListN.{length, getD, replicate}
-use borrow.Author.Tests.{eqb-true}
+use borrow.Author.Tests.{eqb-true, eqb-false}
 use Rattle.cases.proofs.ByCases.{by-test, and-right-false, and-left-false}
 use Rattle.hdlc.specs.Image.{longestBody}
 use Rattle.reader.proofs.ReadingKept.{stands-fresh}
 use Rattle.reader.proofs.RangesKept as reader-kept
+use Rattle.terminal.specs.declared.Terminal.{Terminal}
 use Rattle.bus.specs.Bus.{Bus, terminals, freshSeat, freshBus}
+use Rattle.bus.specs.Event.{HIT}
 use Rattle.bus.specs.Calls as bus
 use Rattle.bus.specs.Calls.{Call, ran}
 use Rattle.bus.specs.Calls.Call.{event, period}
 use Rattle.bus.specs.Stretch.{seatAt}
 use Rattle.listening.specs.declared.hears.UnitNotes.{UnitNotes}
+use Rattle.bus_record.specs.Record.{recordInRange}
 use Rattle.bus_record.specs.NetworkSide.{noNotes, refusedRun}
 use Rattle.bus_record.specs.Echo.{hitIn}
 use Rattle.bus_event.specs.Event.{imagesRoom, areLetters, firstReason}
 use Rattle.bus_event.specs.Event as parts
 use Rattle.call_rules.specs.Kept.{Kept, kept, settled}
-use Rattle.call_rules.specs.Ready.{lentFits, runReason, runReply}
+use Rattle.call_rules.specs.Ready.{eightInRange, lentFits, runReason, runReply}
 use Rattle.call_rules.specs.Event.{reason, eventTold}
-use Rattle.call_rules.specs.Lists.{told, called, replied, notesTold, Carries, OctetValue, LentCall, callOf, finds, leftBy, isLent, wouldFit, MayBe, replyTo, notesTo, busAfter, Same, freshFound, ListsCarried, made, leftAll, allTold, AllMayBe, ToldNotes}
+use Rattle.call_rules.specs.Lists.{told, called, replied, notesTold, Carries, OctetValue, LentCall, callOf, finds, leftBy, isLent, wouldFit, Admitted, replyTo, notesTo, busAfter, Same, freshFound, ListsCarried, made, leftAll, allTold, AllAdmitted, ToldNotes}
 use Rattle.call_rules.specs.Lists.LentCall.{gives, runs, amiss}
 use Rattle.call_rules.proofs.InOrder.{order-ranges}
 use Rattle.call_rules.proofs.Fitting.{Fit, always-fit, in-order}
@@ -70,30 +73,57 @@ short-places k b c places t =
     let first = eqb (length (k .images)) imagesRoom && leb longestBody (length (k .octets)) in
     rw t (and-left-false (first && false) (areLetters (k .letters)) (and-right-false first false refl))
 
+narrower : (a b c : Bool) → (a && b) ≡ false → (a && (b && c)) ≡ false
+narrower true b c h = and-left-false b c h
+narrower false b c h = refl
+
 -- a call that is lent what does not fit
-module _ (k : Kept) (b : Bus) (c : Carries k b) (f : Fit b) (images octets letters : List ℕ) (places : List UnitNotes) where
+module _ (k : Kept) (b : Bus) (c : Carries k b) (f : Fit b)
+    (ts : List Terminal) (images octets letters : List ℕ) (places : List UnitNotes) where
   abbrev otherwise : Kept
-  otherwise = kept (k .bus) (k .terminals) images octets letters places
+  otherwise = kept (k .bus) ts images octets letters places
 
-  run-refused-2 : lentFits (length images) (length octets) letters (length places) ≡ false → runReply 1 otherwise ≡ 2
-  unfolding runReply runReason
-  run-refused-2 h = let r = order-ranges k (in-order k b c f) in rw (r .0, r .1, h)
+  abbrev Unfit : Call → Type 0
+  Unfit x = (eightInRange ts && wouldFit x images octets letters places) ≡ false
 
-  event-refused-2 : (unit number : ℕ) (value : List ℕ) → (eqb (length images) imagesRoom && areLetters letters) ≡ false
-      → reason unit number value (k .bus) (k .terminals) images letters ≡ 2
-  unfolding firstReason
-  event-refused-2 unit number value h = let r = order-ranges k (in-order k b c f) in rw (r .0, r .1, h)
+  -- 1, or with eight terminals 2
+  abbrev its-number : ℕ
+  its-number = cond (eightInRange ts) 2 1
 
-  refused-with-2 : (x : Call) → wouldFit x images octets letters places ≡ false → replied otherwise x ≡ 2
-  unfolding replied told eventTold wouldFit parts.told refusedRun
-  refused-with-2 (event unit number value) h = rw (event-refused-2 unit number value h, replied)
-  refused-with-2 period h = let e = run-refused-2 h in rw (refused-ran 1 otherwise (rw e), e, replied)
+  refused-first : (fit : Bool) (later : ℕ) → (eightInRange ts && fit) ≡ false
+      → cond (eightInRange ts && recordInRange (k .bus)) (cond fit later 2) 1 ≡ its-number
+  refused-first fit later h =
+      by-test (eightInRange ts)
+      (λ t. let unfit = rw t at h in rw (t, order-ranges k (in-order k b c f) .1, unfit))
+      (λ t. rw t)
 
-  told-nothing : (x : Call) → wouldFit x images octets letters places ≡ false → notesTold otherwise x ≡ []
-  told-nothing x h = refused-tells-none otherwise x (λ z. omega (arith, refused-with-2 x h))
+  run-refused : Unfit period → runReply 1 otherwise ≡ its-number
+  unfolding runReply runReason wouldFit
+  run-refused h = refused-first _ _ h
 
-  called-nothing : (x : Call) → wouldFit x images octets letters places ≡ false → called otherwise x ≡ otherwise
-  called-nothing x h = refused-keeps otherwise x (λ z. omega (arith, refused-with-2 x h))
+  event-refused : (unit number : ℕ) (value : List ℕ) → Unfit (event unit number value)
+      → reason unit number value (k .bus) ts images letters ≡ its-number
+  unfolding firstReason wouldFit
+  event-refused unit number value h =
+      let slices = eqb (length images) imagesRoom && areLetters letters in
+      refused-first _ _ (narrower (eightInRange ts) slices (not (eqb number HIT) || areLetters value) h)
+
+  not-0 : eqb its-number 0 ≡ false
+  not-0 = by-test (eightInRange ts) (λ t. rw t) (λ t. rw t)
+
+  refused-with : (x : Call) → Unfit x → replied otherwise x ≡ its-number
+  unfolding replied told eventTold parts.told refusedRun
+  refused-with (event unit number value) h = rw (event-refused unit number value h, not-0, replied)
+  refused-with period h = let e = run-refused h in rw (refused-ran 1 otherwise (rw e not-0), e, replied)
+
+  refused : (x : Call) → Unfit x → replied otherwise x ≡ 0 → ⊥
+  refused x h = rw (refused-with x h) (eqb-false its-number 0 not-0)
+
+  told-nothing : (x : Call) → Unfit x → notesTold otherwise x ≡ []
+  told-nothing x h = refused-tells-none otherwise x (refused x h)
+
+  called-nothing : (x : Call) → Unfit x → called otherwise x ≡ otherwise
+  called-nothing x h = refused-keeps otherwise x (refused x h)
 
 -- ---- a call of a list
 record LentCarried (k : Kept) (b : Bus) (x : LentCall) : Type 0 where
@@ -101,7 +131,7 @@ record LentCarried (k : Kept) (b : Bus) (x : LentCall) : Type 0 where
   tells : notesTold (finds k x) (callOf x) ≡ notesTo b x
   carries : Carries (leftBy k x) (busAfter b x)
 
-lent-carried : (k : Kept) (b : Bus) → Carries k b → Fit b → (x : LentCall) → MayBe x → LentCarried k b x
+lent-carried : (k : Kept) (b : Bus) → Carries k b → Fit b → (x : LentCall) → Admitted x → LentCarried k b x
 unfolding finds callOf leftBy isLent settled
 lent-carried k b c f (gives unit number value) octets =
     let d = call-carried k b c f (event unit number value) octets in
@@ -112,17 +142,19 @@ lent-carried k b c f (runs places) m =
     let d = call-carried _ b (places-carried k b places (eqb-true _ _ t) c) f period tt in
     record { replies = rw t (d .replies); tells = rw t (d .tells); carries = rw t (settled-carries _ _ (d .carries)) })
     (λ t.
-    let short : wouldFit period (k .images) (k .octets) (k .letters) places ≡ false = short-places k b c places t in
+    let short = and-right-false (eightInRange (k .terminals)) _ (short-places k b c places t) in
+    let eight = order-ranges k (in-order k b c f) .0 in
+    let unchanged = called-nothing k b c f (k .terminals) (k .images) (k .octets) (k .letters) places period short in
     record {
-      replies = rw t (refused-with-2 k b c f (k .images) (k .octets) (k .letters) places period short);
-      tells = rw t (told-nothing k b c f (k .images) (k .octets) (k .letters) places period short);
-      carries = rw (t, called-nothing k b c f (k .images) (k .octets) (k .letters) places period short) (settled-carries k b c);
+      replies = rw t (rw eight at (refused-with k b c f (k .terminals) (k .images) (k .octets) (k .letters) places period short));
+      tells = rw t (told-nothing k b c f (k .terminals) (k .images) (k .octets) (k .letters) places period short);
+      carries = rw (t, unchanged) (settled-carries k b c);
     })
-lent-carried k b c f (amiss x images octets letters places) m =
+lent-carried k b c f (amiss x ts images octets letters places) m =
     record {
-      replies = refused-with-2 k b c f images octets letters places x m;
-      tells = told-nothing k b c f images octets letters places x m;
-      carries = rw (called-nothing k b c f images octets letters places x m) (settled-carries k b c);
+      replies = refused-with k b c f ts images octets letters places x m;
+      tells = told-nothing k b c f ts images octets letters places x m;
+      carries = rw (called-nothing k b c f ts images octets letters places x m) (settled-carries k b c);
     }
 
 -- ---- lists: from a record that stands for a bus on, whatever calls come
@@ -186,9 +218,9 @@ notes-made : (b : Bus) (x : LentCall) (calls : List Call)
 unfolding bus.allNotes
 notes-made b x calls = by-test (isLent x) (λ t. rw t) (λ t. rw t)
 
-pub same-all : (k : Kept) (b : Bus) (xs ys : List LentCall) → AllMayBe xs → Same k b (xs ++ ys)
+pub same-all : (k : Kept) (b : Bus) (xs ys : List LentCall) → AllAdmitted xs → Same k b (xs ++ ys)
     → (allTold k xs ≡ bus.allNotes b (made xs)) × Same (leftAll k xs) (ran b (made xs)) ys
-unfolding Same AllMayBe allTold leftAll made bus.allNotes ran
+unfolding Same AllAdmitted allTold leftAll made bus.allNotes ran
 same-all k b [] ys m s = (refl, s)
 same-all k b (x ∷ xs) ys m s =
     let t = s .1 (m .0) in

@@ -13,10 +13,11 @@ use Rattle.bus.specs.Stretch.{Stretch}
 use Rattle.bus.specs.Claims.{Claimed}
 use Rattle.bus_event.specs.Event.{imagesRoom, areLetters}
 use Rattle.call_rules.specs.Kept.{Kept}
-use Rattle.call_rules.specs.Lists.{LentCall, Same, freshFound, made, leftAll, allTold, AllMayBe}
+use Rattle.call_rules.specs.Lists.{LentCall, Same, freshFound, made, leftAll, allTold, AllAdmitted}
 
 -- What is claimed of a stretch `during` of the list `before`, `during`, `after` of calls, the first of which finds k. Calls that are not
--- lent what they must be stand in the list, too; they are refused with 2, and the rules have nothing for them (specs/Lists.antt `made`).
+-- lent what they must be stand in the list, too: the rules refuse them with 1 or 2, and then there are no notes and no change, so that the
+-- sentences are about the others (specs/Lists.antt `replyTo`, `made`).
 pub record ClaimedOnCalls (k : Kept) (before during after : List LentCall) : Type 0 where
   -- the sentences of demand 3, of the bus that document 01's rules give for the same calls
   pub claims : Claimed (made before) (made during) (made after)
@@ -30,5 +31,5 @@ abbrev pub Demand3OnCalls : Type 0
 Demand3OnCalls =
     (images octets letters : List ℕ) (before during after : List LentCall)
     → length images ≡ imagesRoom → longestBody ≤ length octets → areLetters letters ≡ true
-    → AllMayBe (before ++ (during ++ after)) → Stretch (ran freshBus (made before)) (made during)
+    → AllAdmitted (before ++ (during ++ after)) → Stretch (ran freshBus (made before)) (made during)
     → ClaimedOnCalls (freshFound images octets letters) before during after

@@ -7,10 +7,14 @@ use Prim.Native.Nat.{ℕ, zero, suc, _+_, _-_, _≤_, _<_, min}
 use lib.Dec.{eqb, ltb}
 use lib.ListN.{length, getD, take, replicate}
 use Rattle.cells.specs.Notes.{HEARD, DONE1, DONE2, noted}
+use Rattle.symbols.specs.Symbols.{fits, within}
+use Rattle.walks.specs.Over.{foldFrom}
+use Rattle.dchannel.specs.Ranges.{accessInRange}
 use Rattle.hdlc.specs.Bits.{bitOf}
 use Rattle.hdlc.specs.Image.{longestBody}
 use Rattle.timing.specs.Counts.{mostPeriods}
 use Rattle.terminal.specs.Terminal as terminal
+use Rattle.terminal.specs.declared.Terminal.{Terminal}
 use Rattle.reader.specs.ReaderRange.{readerInRange}
 use Rattle.reader.specs.StandsFor.{StandsFor}
 use Rattle.bus.specs.Bus.{Seat, Bus, Note, terminals, freshBus, notesOf}
@@ -26,7 +30,7 @@ use Rattle.bus_record.specs.declared.side.Ran.{Ran}
 use Rattle.bus_event.specs.declared.event.Told.{Told}
 use Rattle.call_rules.specs.Kept.{Kept, kept, found, settled}
 use Rattle.bus_record.specs.Echo.{hitIn}
-use Rattle.call_rules.specs.Ready.{lentFits, goesOn}
+use Rattle.call_rules.specs.Ready.{eightInRange, lentFits, goesOn}
 use Rattle.call_rules.specs.Run.{ran, keptAfter}
 use Rattle.call_rules.specs.Event.{eventTold, terminalsAfter, imagesAfter, lettersAfter}
 
@@ -110,36 +114,35 @@ pub data LentCall : Type 0 where
   gives : (unit number : ℕ) (value : List ℕ) → LentCall
   -- a period, with these places for notes
   runs : (places : List UnitNotes) → LentCall
-  -- any call that is lent other slices than those that are kept, which do not fit it
-  amiss : (c : Call) (images octets letters : List ℕ) (places : List UnitNotes) → LentCall
+  -- any call that is lent other terminals and slices than those that are kept, which do not fit it
+  amiss : (c : Call) (ts : List Terminal) (images octets letters : List ℕ) (places : List UnitNotes) → LentCall
 
 -- what it asks for
 unfoldable pub callOf : LentCall → Call
 callOf (gives unit number value) = event unit number value
 callOf (runs places) = period
-callOf (amiss c images octets letters places) = c
+callOf (amiss c ts images octets letters places) = c
 
 -- what it finds
 unfoldable pub finds : Kept → LentCall → Kept
 finds k (gives unit number value) = k
 finds k (runs places) = kept (k .bus) (k .terminals) (k .images) (k .octets) (k .letters) places
-finds k (amiss c images octets letters places) = kept (k .bus) (k .terminals) images octets letters places
+finds k (amiss c ts images octets letters places) = kept (k .bus) ts images octets letters places
 
--- what it leaves for the next one: what was lent otherwise is none of what is kept
+-- what it leaves for the next one: what was lent otherwise is none of what is kept (a refused call leaves it, too, as it was: Refused.antt)
 unfoldable pub leftBy : Kept → LentCall → Kept
 leftBy k (gives unit number value) = settled (called k (event unit number value))
 leftBy k (runs places) = settled (called (finds k (runs places)) period)
-leftBy k (amiss c images octets letters places) =
-    let after = called (finds k (amiss c images octets letters places)) c in
-    found (after .bus) (after .terminals) (k .images) (k .octets) (k .letters)
+leftBy k (amiss c ts images octets letters places) =
+    found (called (finds k (amiss c ts images octets letters places)) c .bus) (k .terminals) (k .images) (k .octets) (k .letters)
 
 -- Whether it is lent what it must be, with what is kept: a period eight places.
 unfoldable pub isLent : LentCall → Bool
 isLent (gives unit number value) = true
 isLent (runs places) = eqb (length places) terminals
-isLent (amiss c images octets letters places) = false
+isLent (amiss c ts images octets letters places) = false
 
--- whether such slices would fit a call (refusal 2)
+-- whether such slices would fit a call (refusal 2); of the terminals that is `eightInRange` (refusal 1)
 unfoldable pub wouldFit : Call → List ℕ → List ℕ → List ℕ → List UnitNotes → Bool
 wouldFit (event unit number value) images octets letters places = eqb (length images) imagesRoom && areLetters letters
 wouldFit period images octets letters places = lentFits (length images) (length octets) letters (length places)
@@ -149,15 +152,19 @@ abbrev pub OctetValue : Call → Type 0
 OctetValue (event unit number value) = (i : ℕ) → getD value i 0 < 256
 OctetValue period = Unit
 
--- What a list may hold: events whose values are octets, periods with whatever places, and calls that are lent what does not fit them.
-abbrev pub MayBe : LentCall → Type 0
-MayBe (gives unit number value) = OctetValue (event unit number value)
-MayBe (runs places) = Unit
-MayBe (amiss c images octets letters places) = wouldFit c images octets letters places ≡ false
+-- What a list may hold: events whose values are octets, periods with whatever places, and calls that are lent what does not fit them:
+-- terminals that are not eight in their range, or slices.
+abbrev pub Admitted : LentCall → Type 0
+Admitted (gives unit number value) = OctetValue (event unit number value)
+Admitted (runs places) = Unit
+Admitted (amiss c ts images octets letters places) = (eightInRange ts && wouldFit c images octets letters places) ≡ false
 
--- ---- What document 01's rules have for it: refusal 2 where it is not lent what it must be, and then nothing changes.
+-- ---- What document 01's rules have for it: where it is lent what it must be, what crate `bus` has for the call; else refusal 1 or 2, no
+-- notes and no change. "The first that holds gives the number": 1, of the terminals, before 2, of the other slices.
 abbrev pub replyTo : Bus → LentCall → ℕ
-replyTo b x = cond (isLent x) (reply b (callOf x)) 2
+replyTo b (gives unit number value) = reply b (event unit number value)
+replyTo b (runs places) = cond (isLent (runs places)) (reply b period) 2
+replyTo b (amiss c ts images octets letters places) = cond (eightInRange ts) 2 1
 
 abbrev pub notesTo : Bus → LentCall → List Note
 notesTo b x = cond (isLent x) (notes b (callOf x)) []
@@ -170,7 +177,7 @@ unfoldable pub Same : Kept → Bus → List LentCall → Type 0
 Same k b [] = Carries k b
 Same k b (x ∷ more) =
     Carries k b
-    × (MayBe x
+    × (Admitted x
     → (replied (finds k x) (callOf x) ≡ replyTo b x) × (notesTold (finds k x) (callOf x) ≡ notesTo b x)
     × Same (leftBy k x) (busAfter b x) more)
 
@@ -198,17 +205,17 @@ unfoldable pub allTold : Kept → List LentCall → List Note
 allTold k [] = []
 allTold k (x ∷ more) = notesTold (finds k x) (callOf x) ++ allTold (leftBy k x) more
 
-unfoldable pub AllMayBe : List LentCall → Type 0
-AllMayBe [] = Unit
-AllMayBe (x ∷ more) = MayBe x × AllMayBe more
+unfoldable pub AllAdmitted : List LentCall → Type 0
+AllAdmitted [] = Unit
+AllAdmitted (x ∷ more) = Admitted x × AllAdmitted more
 
 abbrev pub ToldNotes : Type 0
 ToldNotes =
     (images octets letters : List ℕ) (calls : List LentCall)
-    → length images ≡ imagesRoom → longestBody ≤ length octets → areLetters letters ≡ true → AllMayBe calls
+    → length images ≡ imagesRoom → longestBody ≤ length octets → areLetters letters ≡ true → AllAdmitted calls
     → allTold (freshFound images octets letters) calls ≡ allNotes freshBus (made calls)
 
--- ---- Computed: a period that is lent seven places for notes, or nine, is refused, and so is one that is lent nothing.
+-- ---- Computed: a period that is lent seven places for notes, or nine, is refused.
 pub seven-places : replyTo freshBus (runs (replicate 7 noNotes)) ≡ 2
 unfolding isLent
 seven-places = refl
@@ -217,9 +224,65 @@ pub nine-places : replyTo freshBus (runs (replicate 9 noNotes)) ≡ 2
 unfolding isLent
 nine-places = refl
 
-pub nothing-lent : (wouldFit period [] [] [] [] ≡ false) × (replyTo freshBus (amiss period [] [] [] []) ≡ 2)
-unfolding isLent wouldFit lentFits
-nothing-lent = (refl, refl)
+-- It may stand in a list, and is refused with n.
+abbrev Refused : ℕ → LentCall → Type 0
+Refused n x = Admitted x × (replyTo freshBus x ≡ n)
+
+abbrev on : Call
+on = event 1 1 []
+
+abbrev fresh : ℕ → List Terminal
+fresh n = replicate n terminal.fresh
+
+-- a terminal in no state
+abbrev astray : Terminal
+astray = record { t3 = 0; access = terminal.fresh .access; state = 9; alignment = terminal.fresh .alignment }
+
+abbrev zeros : ℕ → List ℕ
+zeros n = replicate n 0
+
+abbrev places : ℕ → List UnitNotes
+places n = replicate n noNotes
+
+-- one terminal too few, one in no state, or nothing lent at all: 1
+pub terminals-amiss :
+    Refused 1 (amiss on (fresh 7) (zeros 2576) [] (zeros 48) [])
+    × Refused 1 (amiss on (astray ∷ fresh 7) (zeros 2576) [] (zeros 48) [])
+    × Refused 1 (amiss on [] [] [] [] [])
+    × Refused 1 (amiss period (fresh 7) (zeros 2576) (zeros 266) (zeros 48) (places 8))
+    × Refused 1 (amiss period (astray ∷ fresh 7) (zeros 2576) (zeros 266) (zeros 48) (places 8))
+    × Refused 1 (amiss period [] [] [] [] [])
+unfolding wouldFit lentFits eightInRange foldFrom terminal.terminalInRange accessInRange fits within
+terminals-amiss = ((refl, refl), (refl, refl), (refl, refl), (refl, refl), (refl, refl), (refl, refl))
+
+-- with eight terminals, of an event the images, or the letters in number or in code: 2
+pub event-slices-amiss :
+    Refused 2 (amiss on (fresh 8) (zeros 2575) [] (zeros 48) [])
+    × Refused 2 (amiss on (fresh 8) (zeros 2577) [] (zeros 48) [])
+    × Refused 2 (amiss on (fresh 8) (zeros 2576) [] (zeros 47) [])
+    × Refused 2 (amiss on (fresh 8) (zeros 2576) [] (4 ∷ zeros 47) [])
+unfolding wouldFit eightInRange foldFrom terminal.terminalInRange accessInRange fits within
+event-slices-amiss = ((refl, refl), (refl, refl), (refl, refl), (refl, refl))
+
+-- .. and of a period also the octets or the places
+pub period-slices-amiss :
+    Refused 2 (amiss period (fresh 8) (zeros 2575) (zeros 266) (zeros 48) (places 8))
+    × Refused 2 (amiss period (fresh 8) (zeros 2577) (zeros 266) (zeros 48) (places 8))
+    × Refused 2 (amiss period (fresh 8) (zeros 2576) (zeros 265) (zeros 48) (places 8))
+    × Refused 2 (amiss period (fresh 8) (zeros 2576) (zeros 266) (zeros 47) (places 8))
+    × Refused 2 (amiss period (fresh 8) (zeros 2576) (zeros 266) (4 ∷ zeros 47) (places 8))
+    × Refused 2 (amiss period (fresh 8) (zeros 2576) (zeros 266) (zeros 48) (places 7))
+    × Refused 2 (amiss period (fresh 8) (zeros 2576) (zeros 266) (zeros 48) (places 9))
+unfolding wouldFit lentFits eightInRange foldFrom terminal.terminalInRange accessInRange fits within
+period-slices-amiss = ((refl, refl), (refl, refl), (refl, refl), (refl, refl), (refl, refl), (refl, refl), (refl, refl))
+
+-- what has its length would fit, the octets also where they are more
+pub slices-fit :
+    (wouldFit on (zeros 2576) [] (zeros 48) [] ≡ true)
+    × (wouldFit period (zeros 2576) (zeros 266) (zeros 48) (places 8) ≡ true)
+    × (wouldFit period (zeros 2576) (zeros 267) (zeros 48) (places 8) ≡ true)
+unfolding wouldFit lentFits fits within
+slices-fit = (refl, refl, refl)
 
 -- ---- Calls that are all lent what they must be: a period eight places that hold no notes.
 unfoldable pub lend : Call → LentCall

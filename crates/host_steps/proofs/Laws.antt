@@ -17,7 +17,7 @@ use Rattle.bus.specs.Calls.Call.{event, period}
 use Rattle.bus_event.specs.Event.{imagesRoom, areLetters}
 use Rattle.call_rules.specs.Kept.{Kept, settled}
 use Rattle.call_rules.specs.Ready.{goesOn}
-use Rattle.call_rules.specs.Lists.{Carries, isCode, coded, told, called, replied, notesTold, runTold, OctetValue, LentCall, callOf, finds, leftBy, isLent, Same, made, leftAll, allTold, AllMayBe, lend, callsIn}
+use Rattle.call_rules.specs.Lists.{Carries, isCode, coded, told, called, replied, notesTold, runTold, OctetValue, LentCall, callOf, finds, leftBy, isLent, Same, made, leftAll, allTold, AllAdmitted, lend, callsIn}
 use Rattle.call_rules.specs.Run.{ran as once, keptOn, keptAfter}
 use Rattle.call_rules.proofs.InOrder.{InOrder, order-reply}
 use Rattle.call_rules.proofs.Fitting.{Fit, always-fit}
@@ -112,15 +112,15 @@ left-stored s c h =
     round-trip (called (shown s) c) (order-reply 0 (called (shown s) c) o) (octets-called (shown s) c (order s h) ∙ exact s h .octets-fit)
 
 -- ---- What stands for a bus, through the calls of document 01 and through a run of periods.
-periods-may-be : (n : ℕ) (k : Kept) → AllMayBe (callsIn n k)
-unfolding callsIn AllMayBe
-periods-may-be zero k = tt
-periods-may-be (suc n) k = (tt, by-test (goesOn (once 1 k) n) (λ t. rw t (periods-may-be n (keptAfter 1 k))) (λ t. rw t tt))
+periods-admitted : (n : ℕ) (k : Kept) → AllAdmitted (callsIn n k)
+unfolding callsIn AllAdmitted
+periods-admitted zero k = tt
+periods-admitted (suc n) k = (tt, by-test (goesOn (once 1 k) n) (λ t. rw t (periods-admitted n (keptAfter 1 k))) (λ t. rw t tt))
 
-may-be : (c : Call) → OctetValue c → AllMayBe (lend c ∷ [])
-unfolding lend AllMayBe
-may-be (event unit number value) v = (v, tt)
-may-be period v = (tt, tt)
+admitted : (c : Call) → OctetValue c → AllAdmitted (lend c ∷ [])
+unfolding lend AllAdmitted
+admitted (event unit number value) v = (v, tt)
+admitted period v = (tt, tt)
 
 pub ran-append : (b : Bus) (xs ys : List Call) → ran b (xs ++ ys) ≡ ran (ran b xs) ys
 unfolding ran
@@ -137,7 +137,7 @@ record Goes (b : Bus) (calls : List Call) (reply : ℕ) (left : Kept) (told : Li
 
 module _ (s : List ℕ) (b : Bus) (h : isBus s ≡ true) (fit : (later : List Call) → Fit (ran b later)) (c : Carries (shown s) b) where
   -- a list of calls on what the octets stand for: its notes, and what it leaves
-  carried : (calls : List LentCall) → AllMayBe calls
+  carried : (calls : List LentCall) → AllAdmitted calls
       → (allTold (shown s) calls ≡ allNotes b (made calls)) × Carries (leftAll (shown s) calls) (ran b (made calls))
   unfolding Same
   carried calls m = same-all (shown s) b calls [] m (same-from (calls ++ []) (shown s) b c fit)
@@ -145,7 +145,7 @@ module _ (s : List ℕ) (b : Bus) (h : isBus s ≡ true) (fit : (later : List Ca
   one-goes : (x : Call) → OctetValue x → Goes b (made (lend x ∷ [])) (replied (shown s) x) (called (shown s) x) (notesTold (shown s) x)
   unfolding ran
   one-goes x v =
-      let a = carried (lend x ∷ []) (may-be x v) in
+      let a = carried (lend x ∷ []) (admitted x v) in
       record {
         carries = rw (one-left x) (a .1);
         replies = call-carried (shown s) b c (fit []) x v .replies ∙ one-reply x;
@@ -173,7 +173,7 @@ module _ (s : List ℕ) (b : Bus) (h : isBus s ≡ true) (fit : (later : List Ca
   run-goes zero = record { carries = none-left; replies = none-refused s h; tells = none-told s h }
   run-goes (suc n) =
       let r = runs-are-calls n (shown s) in
-      let a = carried (callsIn (suc n) (shown s)) (periods-may-be (suc n) (shown s)) in
+      let a = carried (callsIn (suc n) (shown s)) (periods-admitted (suc n) (shown s)) in
       record {
         carries = rw (r .leaves) (a .1);
         replies = r .replies ∙ call-carried (shown s) b c (fit []) period tt .replies;
