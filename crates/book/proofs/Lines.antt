@@ -8,6 +8,7 @@ use lib.Dec.{ltb, leb}
 use lib.ListN.{length}
 use borrow.Author.Tests.{ltb-true, ltb-false, leb-true}
 use Rattle.cases.proofs.ByCases.{by-test}
+use Rattle.text.specs.declared.field.Ends.{Ends}
 use Rattle.book_line.specs.Line.{isEnd}
 use Rattle.book_line.specs.Value.{valueOctets, valueRoom}
 use Rattle.book_line.proofs.Values.{value-length}
@@ -27,8 +28,8 @@ use Rattle.book.specs.declared.until.Until.{Until}
 use Rattle.book.proofs.Moving.{stops-room, steps-at, line-ran, line-ends, line-gives}
 
 -- the octets of an entry's value are few
-pub short-value : {text : List ℕ} {at stage last period unit number start size : ℕ} → Entered text at stage last period unit number start size
-    → length (valueOctets number (valueAt text at (Entry period unit number start size))) ≤ valueRoom
+pub short-value : {text : List ℕ} {at stage last period unit number : ℕ} {ends : Ends} {size : ℕ} → Entered text at stage last period unit number ends size
+    → length (valueOctets number (valueAt text at (Entry period unit number ends size))) ≤ valueRoom
 short-value {text} {at} {size = size} e = rw (e .value-is, e .event-is) (omega (arith, value-length (lineAt text at size) (e .form)))
 
 module _ (w : Went) (images octets letters value room : List ℕ) (period unit number size : ℕ) (b : w .progress .begun ≡ true)
@@ -39,7 +40,7 @@ module _ (w : Went) (images octets letters value room : List ℕ) (period unit n
   -- what a return has to say
   abbrev Returns : List ℕ → List ℕ → List ℕ → Went → Type 0
   Returns images′ letters′ room′ x =
-      ((start : ℕ) → StepsBy (Entry period unit number start size) value (standOf (w .progress) images octets letters) room (w .wrote)
+      ((ends : Ends) → StepsBy (Entry period unit number ends size) value (standOf (w .progress) images octets letters) room (w .wrote)
       (standOf (x .progress) images′ octets₁ letters′) (x .taken) room′ (x .wrote) (x .why)) × (x .reply ≡ 0)
 
   way : UnderWay (standOf (w .progress) images octets letters)
@@ -49,9 +50,9 @@ module _ (w : Went) (images octets letters value room : List ℕ) (period unit n
       → Returns images letters room₁ x
   full-line h x e =
       rw e (
-        λ start text at whole q. steps-at 0
+        λ ends text at whole q. steps-at 0
             (stops-room
-            (line-ran text whole (standOf (w .progress) images octets letters) at room (w .wrote) period unit number start size way (q .says)
+            (line-ran text whole (standOf (w .progress) images octets letters) at room (w .wrote) period unit number ends size way (q .says)
             (found (u .bus) (u .terminals) images octets₁ letters) (u .wrote) room₁ r) h o)
             (omega arith),
         refl,
@@ -71,7 +72,7 @@ module _ (w : Went) (images octets letters value room : List ℕ) (period unit n
     pub end-line : isEnd unit number ≡ true → (x : Went) → x ≡ reached w u AFTER-END size 0 → Returns images letters room₁ x
     end-line t x e =
         rw e (
-          λ start text at whole q. line-ends text whole (standOf (w .progress) images octets letters) at room (w .wrote) period unit number start size way
+          λ ends text at whole q. line-ends text whole (standOf (w .progress) images octets letters) at room (w .wrote) period unit number ends size way
               (q .says) (found (u .bus) (u .terminals) images octets₁ letters) (u .wrote) room₁ r there t,
           refl,
         )
@@ -83,7 +84,7 @@ module _ (w : Went) (images octets letters value room : List ℕ) (period unit n
         → (x : Went) → x ≡ reached w g AT-LINES size 0 → Returns images′ letters′ room₂ x
     given-line t g images′ letters′ room₂ gives x e =
         rw e (
-          λ start text at whole q. line-gives text whole (standOf (w .progress) images octets letters) at room (w .wrote) period unit number start size way
+          λ ends text at whole q. line-gives text whole (standOf (w .progress) images octets letters) at room (w .wrote) period unit number ends size way
               (q .says) (found (u .bus) (u .terminals) images octets₁ letters) (u .wrote) room₁ r there t
               (found (g .bus) (g .terminals) images′ octets₁ letters′) (g .wrote) room₂ (rw (q .value-is) (gives octets₁)),
           refl,

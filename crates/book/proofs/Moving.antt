@@ -8,6 +8,7 @@ use lib.Dec.{leb}
 use lib.ListN.{length, drop, length-append}
 use borrow.Author.Tests.{leb-false}
 use Rattle.cases.proofs.ByCases.{clash}
+use Rattle.text.specs.declared.field.Ends.{Ends}
 use Rattle.bus.specs.Calls.{Call}
 use Rattle.call_rules.specs.Kept.{Kept}
 use Rattle.book_line.specs.Line.{valueOf, isEnd}
@@ -137,8 +138,8 @@ unfolding toDo
 less-text text s s′ at at′ b b′ h l = rw (b, b′) (omega arith)
 
 -- ---- A line.
-module _ (text : List ℕ) (whole : Bool) (s : Stand) (at : ℕ) (room : List ℕ) (wrote period unit number start size : ℕ) (way : UnderWay s)
-    (q : stepAt text at (s .stage) (ahead.run s) whole ≡ Entry period unit number start size)
+module _ (text : List ℕ) (whole : Bool) (s : Stand) (at : ℕ) (room : List ℕ) (wrote period unit number : ℕ) (ends : Ends) (size : ℕ) (way : UnderWay s)
+    (q : stepAt text at (s .stage) (ahead.run s) whole ≡ Entry period unit number ends size)
     (k₁ : Kept) (w₁ : ℕ) (room₁ : List ℕ) (r : RunsTo (s .kept) period room wrote k₁ w₁ room₁) where
   abbrev s₁ : Stand
   s₁ = record { kept = k₁; stage = s .stage; begun = s .begun; over = s .over }
@@ -146,16 +147,16 @@ module _ (text : List ℕ) (whole : Bool) (s : Stand) (at : ℕ) (room : List �
   abbrev value : List ℕ
   value = valueOf (lineAt text at size)
 
-  found : Entered text at (s .stage) (ahead.run s) period unit number start size
-  found = entered text at (s .stage) (ahead.run s) whole period unit number start size q
+  found : Entered text at (s .stage) (ahead.run s) period unit number ends size
+  found = entered text at (s .stage) (ahead.run s) whole period unit number ends size q
 
   -- what the book says, whatever number of periods up to the line's is run
   said : (last : ℕ) → last ≤ period → (later : List ℕ) → (whole ≡ true → later ≡ [])
       → toCome (record { stage = s .stage; last = last }) (drop at text ++ later)
       ≡ entry period unit number value ∷ toCome (past period unit number) (drop (at + size) text ++ later)
   said last h later fit =
-      call-law (record { stage = s .stage; last = last }) text at whole later fit (Entry period unit number start size)
-      (run-on-step text at (s .stage) (ahead.run s) whole period unit number start size last h q) .said
+      call-law (record { stage = s .stage; last = last }) text at whole later fit (Entry period unit number ends size)
+      (run-on-step text at (s .stage) (ahead.run s) whole period unit number ends size last h q) .said
 
   pub line-ran : Moves text whole s at room wrote s₁ at room₁ w₁
   unfolding answersAhead
@@ -189,7 +190,7 @@ module _ (text : List ℕ) (whole : Bool) (s : Stand) (at : ℕ) (room : List �
         (way .over-is)
 
     pub line-gives : isEnd unit number ≡ false → (k₂ : Kept) (w₂ : ℕ) (room₂ : List ℕ)
-        → Gives k₁ unit number (valueAt text at (Entry period unit number start size)) room₁ w₁ k₂ w₂ room₂
+        → Gives k₁ unit number (valueAt text at (Entry period unit number ends size)) room₁ w₁ k₂ w₂ room₂
         → Steps text whole s at room wrote (record { kept = k₂; stage = AT-LINES; begun = s .begun; over = s .over }) (at + size) room₂ w₂ 0
     unfolding answersAhead
     line-gives t k₂ w₂ room₂ gives =

@@ -1,8 +1,9 @@
 // A line of the book.
 ghost use mathlib.Core.Bool.{true, false};
 ghost use mathlib.Core.Path.{_≡_};
-ghost use Prim.Native.Nat.{ℕ, _≤_};
+ghost use Prim.Native.Nat.{_≤_};
 ghost use lib.ListN.{length};
+ghost use Rattle.text.specs.declared.field.Ends.{Ends};
 ghost use Rattle.book_line.specs.Value.{valueOctets, valueRoom};
 ghost use Rattle.book_reader.specs.declared.step.Step.the-variants.{Entry};
 ghost use Rattle.timing.specs.Counts.{mostPeriods};
@@ -57,7 +58,7 @@ pub(crate) fn line(
     requires { ⌜ spec.Goes w (now images) (now octets) (now letters) (now room)
         × (w .progress .begun ≡ true) × (w .progress .over ≡ false) × (w .progress .bus .periods .0 ≤ period)
         × (period ≤ mostPeriods) × (length (valueOctets event (now value)) ≤ valueRoom) ⌝ }
-    ensures { λ r. ⌜ ((start : ℕ) → StepsBy (Entry period unit event start size) (now (value .entry))
+    ensures { λ r. ⌜ ((ends : Ends) → StepsBy (Entry period unit event ends size) (now (value .entry))
         (spec.standOf (w .progress) (now (images .entry)) (now (octets .entry)) (now (letters .entry))) (now (room .entry)) (w .wrote)
         (spec.standOf (r .progress) (now (images .exit)) (now (octets .exit)) (now (letters .exit))) (r .taken) (now (room .exit)) (r .wrote) (r .why))
         × (r .reply ≡ 0) ⌝ }

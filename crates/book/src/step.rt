@@ -81,7 +81,7 @@ fn carry_out(
             period,
             unit,
             event,
-            value: _,
+            ends: _,
             octets: size,
         } => line(
             w,

@@ -8,10 +8,15 @@ use Rattle.symbols.specs.Symbols.{sameSymbols}
 use Rattle.cells.specs.Names.{ascii}
 use Rattle.text.specs.Text.{split, onto, upto, all, onward}
 use Rattle.text.specs.Fields.{fieldStart}
+use Rattle.text.specs.declared.field.Ends.{Ends}
 use Rattle.book_line.specs.Line.{ON, AR, DR, D1, D2, HIT, END, eventNamed, isNumber, isAbsent, isBody, isHit, valueFits, formed, judged}
 use Rattle.book_line.specs.Value.{hexDigit, pairs, bodyOf, letterCode, valueOctets}
 use Rattle.book_line.specs.declared.line.Judged.{Judged}
 use Rattle.book_line.specs.declared.line.Judged.the-variants.{Entry, Refused}
+
+-- where four fields end
+abbrev ends : ℕ → ℕ → ℕ → ℕ → Ends
+ends first second third fourth = record { first = first; second = second; third = third; fourth = fourth }
 
 -- a line, and what it says
 pub record Example : Type 0 where
@@ -28,16 +33,16 @@ says-long line zeros judged = record { line = ascii line ++ replicate zeros 48; 
 abbrev examples : List Example
 examples =
     -- document 01's example
-    says "0 1 on -" (Entry 0 1 ON 7)
-    ∷ says "1 1 ar -" (Entry 1 1 AR 7)
-    ∷ says "9 1 d1 00" (Entry 9 1 D1 7)
-    ∷ says "20 0 end -" (Entry 20 0 END 9)
+    says "0 1 on -" (Entry 0 1 ON (ends 1 3 6 8))
+    ∷ says "1 1 ar -" (Entry 1 1 AR (ends 1 3 6 8))
+    ∷ says "9 1 d1 00" (Entry 9 1 D1 (ends 1 3 6 9))
+    ∷ says "20 0 end -" (Entry 20 0 END (ends 2 4 8 10))
     -- seven digits, leading zeros, an empty body, a unit that is none, an event that is not one for the unit
-    ∷ says "9999999 0000008 d2 -" (Entry 9999999 8 D2 19)
-    ∷ says "3 9 dr -" (Entry 3 9 DR 7)
-    ∷ says "5 0 hit kpmnkpmnkpmnkpmnkpmnkpmnkpmnkpmnkpmnkpmnkpmnkpmn" (Entry 5 0 HIT 8)
+    ∷ says "9999999 0000008 d2 -" (Entry 9999999 8 D2 (ends 7 15 18 20))
+    ∷ says "3 9 dr -" (Entry 3 9 DR (ends 1 3 6 8))
+    ∷ says "5 0 hit kpmnkpmnkpmnkpmnkpmnkpmnkpmnkpmnkpmnkpmnkpmnkpmn" (Entry 5 0 HIT (ends 1 3 7 56))
     -- 600 characters with the LF; one more is too long
-    ∷ says-long "0 1 d1 " 592 (Entry 0 1 D1 7)
+    ∷ says-long "0 1 d1 " 592 (Entry 0 1 D1 (ends 1 3 6 599))
     ∷ says-long "00 1 d1 " 592 (Refused 12)
     -- not four fields
     ∷ says "" (Refused 12)

@@ -9,7 +9,8 @@ use lib.ListN.{length}
 use borrow.Author.Tests.{eqb-true, eqb-false, ne-eqb, ltb-true, lt-ltb, le-ltb, not-true, not-false}
 use Rattle.cases.proofs.ByCases.{by-test, and-left, and-right, and-right-false}
 use Rattle.text.specs.Text.{fields, field, number}
-use Rattle.text.specs.Fields.{fieldStart}
+use Rattle.text.specs.Fields.{endsOf}
+use Rattle.text.specs.declared.field.Ends.{Ends}
 use Rattle.book_line.specs.Line.{longestLine, isNumber, numberOf, eventNamed, periodOf, unitOf, eventOf, valueFits, valueOf, formed, judged, judgedFields}
 use Rattle.book_line.specs.declared.number.Number.{Number}
 use Rattle.book_line.specs.declared.line.Judged.{Judged}
@@ -43,32 +44,32 @@ unfolding judged formed
 not-four line h =
     rw (and-right-false (ltb (length line) longestLine) (eqb (length (fields line)) 4) (ne-eqb (length (fields line)) 4 h))
 
-pub four-judged : (line f0 f1 f2 v : List ℕ) (at : ℕ) → length line < longestLine → length (fields line) ≡ 4
-    → f0 ≡ field 0 line → f1 ≡ field 1 line → f2 ≡ field 2 line → v ≡ field 3 line → at ≡ fieldStart 3 line
-    → judgedFields f0 f1 f2 v at ≡ judged line
+pub four-judged : (line f0 f1 f2 v : List ℕ) (ends : Ends) → length line < longestLine → length (fields line) ≡ 4
+    → f0 ≡ field 0 line → f1 ≡ field 1 line → f2 ≡ field 2 line → v ≡ field 3 line → ends ≡ endsOf line
+    → judgedFields f0 f1 f2 v ends ≡ judged line
 unfolding judged formed judgedFields
-four-judged line f0 f1 f2 v at short four a b c d e = rw (a, b, c, d, e, lt-ltb (length line) longestLine short, four)
+four-judged line f0 f1 f2 v ends short four a b c d e = rw (a, b, c, d, e, lt-ltb (length line) longestLine short, four)
 
-module _ (f0 f1 f2 v : List ℕ) (at : ℕ) where
+module _ (f0 f1 f2 v : List ℕ) (ends : Ends) where
   abbrev said : Bool
   said = not (eqb (eventNamed f2) 0) && valueFits (eventNamed f2) v
 
-  pub wrong-period : (k : ℕ) → Number.Refused k ≡ numberOf f0 → Judged.Refused 12 ≡ judgedFields f0 f1 f2 v at
+  pub wrong-period : (k : ℕ) → Number.Refused k ≡ numberOf f0 → Judged.Refused 12 ≡ judgedFields f0 f1 f2 v ends
   unfolding judgedFields
   wrong-period k h = rw (number-wrong f0 k h)
 
-  pub wrong-unit : (k : ℕ) → Number.Refused k ≡ numberOf f1 → Judged.Refused 12 ≡ judgedFields f0 f1 f2 v at
+  pub wrong-unit : (k : ℕ) → Number.Refused k ≡ numberOf f1 → Judged.Refused 12 ≡ judgedFields f0 f1 f2 v ends
   unfolding judgedFields
   wrong-unit k h = rw (and-right-false (isNumber f0) (isNumber f1) (number-wrong f1 k h))
 
   pub wrong-told : (event : ℕ) (fits : Bool) → event ≡ eventNamed f2 → fits ≡ valueFits event v → not (not (eqb event 0) && fits) ≡ true
-      → Judged.Refused 12 ≡ judgedFields f0 f1 f2 v at
+      → Judged.Refused 12 ≡ judgedFields f0 f1 f2 v ends
   unfolding judgedFields
   wrong-told event fits e w h = rw (and-right-false (isNumber f0 && isNumber f1) said (not-true said (rw (w, e) at h)))
 
   pub right : (p u event : ℕ) (fits : Bool) → Number.Is p ≡ numberOf f0 → Number.Is u ≡ numberOf f1
       → event ≡ eventNamed f2 → fits ≡ valueFits event v → not (not (eqb event 0) && fits) ≡ false
-      → Judged.Entry p u event at ≡ judgedFields f0 f1 f2 v at
+      → Judged.Entry p u event ends ≡ judgedFields f0 f1 f2 v ends
   unfolding judgedFields
   right p u event fits period unit e w h =
       let x = number-said f0 p period in
@@ -118,6 +119,6 @@ pub judged-twelve : (line : List ℕ) (k : ℕ) → Judged.Refused k ≡ judged 
 unfolding judged
 judged-twelve line k e =
     by-test (formed line)
-    (λ f. let z : Judged.Refused k ≡ Judged.Entry (periodOf line) (unitOf line) (eventOf line) (fieldStart 3 line) = rw f at e in
+    (λ f. let z : Judged.Refused k ≡ Judged.Entry (periodOf line) (unitOf line) (eventOf line) (endsOf line) = rw f at e in
     let o : _≡_ {A = ℕ} 0 1 = cc in absurd (omega arith))
     (λ f. let z : Judged.Refused k ≡ Judged.Refused 12 = rw f at e in cc)

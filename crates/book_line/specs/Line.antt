@@ -9,7 +9,8 @@ use Rattle.symbols.specs.Symbols.{lineLength}
 use Rattle.cells.specs.Names.{ascii}
 use Rattle.timing.specs.Counts.{mostPeriods}
 use Rattle.text.specs.Text.{fields, field, same, all, isDigit, isHex, isLetter, number}
-use Rattle.text.specs.Fields.{fieldStart}
+use Rattle.text.specs.Fields.{endsOf}
+use Rattle.text.specs.declared.field.Ends.{Ends}
 use Rattle.book_line.specs.declared.number.Number.{Number}
 use Rattle.book_line.specs.declared.line.Judged.{Judged}
 
@@ -119,14 +120,14 @@ inOrder last period = leb last period && leb period mostPeriods
 unfoldable pub numberOf : List ℕ → Number
 numberOf f = cond (isNumber f) (Number.Is (number f)) (Number.Refused 12)
 
--- What a line says and where in it its value begins, or that its form is wrong: 12.
+-- What a line says and where its fields end, or that its form is wrong: 12.
 unfoldable pub judged : List ℕ → Judged
-judged line = cond (formed line) (Judged.Entry (periodOf line) (unitOf line) (eventOf line) (fieldStart 3 line)) (Judged.Refused 12)
+judged line = cond (formed line) (Judged.Entry (periodOf line) (unitOf line) (eventOf line) (endsOf line)) (Judged.Refused 12)
 
--- What four fields say, the last of which begins at `at`. This is how the code goes: it is `judged` where they are the fields of a line of
+-- What four fields with these ends say. This is how the code goes: it is `judged` where they are the fields of a line of
 -- right length (proofs/Judging.antt `four-judged`).
-unfoldable pub judgedFields : List ℕ → List ℕ → List ℕ → List ℕ → ℕ → Judged
-judgedFields period unit name value at =
+unfoldable pub judgedFields : List ℕ → List ℕ → List ℕ → List ℕ → Ends → Judged
+judgedFields period unit name value ends =
     cond (isNumber period && isNumber unit && (not (eqb (eventNamed name) 0) && valueFits (eventNamed name) value))
-    (Judged.Entry (number period) (number unit) (eventNamed name) at)
+    (Judged.Entry (number period) (number unit) (eventNamed name) ends)
     (Judged.Refused 12)

@@ -3,6 +3,7 @@ use crate::event::event_named;
 use crate::form::value_fits;
 use crate::number::Number;
 use crate::number::digits;
+use text::field::Ends;
 use text::field::field;
 use text::field::split;
 ghost use mathlib.Core.Path.{_≡_};
@@ -22,20 +23,20 @@ const VALUE: usize = 3;
 
 // What the judging of a line answers.
 pub enum Judged {
-    // A line of right form; its value, which is its last field, begins at `value`.
+    // A line of right form, and where its fields end: the value is the last of them.
     Entry {
         period: u32,
         unit: u32,
         event: u8,
-        value: usize,
+        ends: Ends,
     },
     // A line of the wrong form: 12.
     Refused(u8),
 }
 
-// What four fields say, the last of which begins at `at`.
-fn judge_fields(period: &[u8], unit: &[u8], name: &[u8], value: &[u8], at: usize) -> Judged
-    ensures { λ r. ⌜ r ≡ spec.judgedFields (now (period .entry)) (now (unit .entry)) (now (name .entry)) (now (value .entry)) at ⌝ }
+// What four fields with these ends say.
+fn judge_fields(period: &[u8], unit: &[u8], name: &[u8], value: &[u8], ends: Ends) -> Judged
+    ensures { λ r. ⌜ r ≡ spec.judgedFields (now (period .entry)) (now (unit .entry)) (now (name .entry)) (now (value .entry)) ends ⌝ }
 {
     let Number::Is(period) = digits(period) else {
         return Judged::Refused(12);
@@ -51,7 +52,7 @@ fn judge_fields(period: &[u8], unit: &[u8], name: &[u8], value: &[u8], at: usize
         period,
         unit,
         event,
-        value: at,
+        ends,
     }
 }
 
@@ -71,6 +72,6 @@ pub fn judge(line: &[u8]) -> Judged
         field(line, ends, UNIT),
         field(line, ends, EVENT),
         field(line, ends, VALUE),
-        ends.third + 1,
+        ends,
     )
 }

@@ -10,7 +10,7 @@ use lib.Seq.{take-all, length-take-le, take-append-le, drop-append-le, drop-drop
 use borrow.Author.Tests.{eqb-true, eqb-false, ne-eqb, lt-ltb, le-ltb, ltb-true, ltb-false}
 use Rattle.cases.proofs.ByCases.{by-test}
 use Rattle.text.specs.Text.{LF, split, upto, same, onto}
-use Rattle.text.specs.Fields.{fieldStart}
+use Rattle.text.specs.Fields.{endsOf}
 use Rattle.text.proofs.Pieces.{upto-le, split-upto, split-some, same-length}
 use Rattle.book_line.specs.Line.{longestLine, formed, judged, inOrder, isEnd, periodOf, unitOf, eventOf, valueOf}
 use Rattle.book_reader.specs.Book.{firstLine, nothing, closing, lines, answersFrom}
@@ -204,7 +204,7 @@ module _ (p : Place) (text : List ℕ) (at : ℕ) (whole : Bool) (later : List �
       found-law =
           by-test (formed line)
           (λ e. by-test (inOrder (p .last) (periodOf line))
-          (λ f. law-at (ruled (p .last) (k + 1) (judged line)) (Entry (periodOf line) (unitOf line) (eventOf line) (fieldStart 3 line) (k + 1)) (rw (e, f))
+          (λ f. law-at (ruled (p .last) (k + 1) (judged line)) (Entry (periodOf line) (unitOf line) (eventOf line) (endsOf line) (k + 1)) (rw (e, f))
           (let a : k + 1 - 1 ≡ k = omega arith in let b : at + (k + 1) ≡ at + suc k = omega arith in
           record {
             within = omega (arith, length-drop at text);

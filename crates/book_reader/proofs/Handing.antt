@@ -32,9 +32,9 @@ handed-right : {p : Place} {text : List ℕ} {at : ℕ} {whole : Bool} {parts : 
 unfolding joined
 handed-right (first {p = p} {text = text} {at = at} {whole = whole} {parts = parts} e h) fit =
     said p text at whole parts fit Begun e .said ∙ handed-right h fit
-handed-right (line {p = p} {text = text} {at = at} {whole = whole} {parts = parts} period unit event value octets e h) fit =
-    said p text at whole parts fit (Entry period unit event value octets) e .said
-    ∙ rw (entered text at (p .stage) (p .last) whole period unit event value octets e .value-is, handed-right h fit)
+handed-right (line {p = p} {text = text} {at = at} {whole = whole} {parts = parts} period unit event fields octets e h) fit =
+    said p text at whole parts fit (Entry period unit event fields octets) e .said
+    ∙ rw (entered text at (p .stage) (p .last) whole period unit event fields octets e .value-is, handed-right h fit)
 handed-right (stops {p = p} {text = text} {at = at} {whole = whole} {parts = parts} n e) fit = said p text at whole parts fit (Fault n) e
 handed-right (ends {p = p} {text = text} {at = at} {whole = whole} {parts = parts} e) fit = said p text at whole parts fit Done e
 handed-right (more {p = p} {text = text} {at = at} {part = part} {parts = parts} text′ at′ e m h) fit =
@@ -78,14 +78,14 @@ module _ (fuel : ℕ) (rec : (p : Place) (text : List ℕ) (at : ℕ) (whole : B
       rec (begun p) text (at + length firstLine) whole parts fit
       (omega (arith, f .within, length-drop at text, length-drop (at + length firstLine) text)) in
       record { taken = g .taken; handed = first e (g .handed) }
-  on-step p text at whole parts fit h (Entry period unit event value octets) e =
-      let k = said p text at whole parts fit (Entry period unit event value octets) e in
+  on-step p text at whole parts fit h (Entry period unit event fields octets) e =
+      let k = said p text at whole parts fit (Entry period unit event fields octets) e in
       let g =
       rec (past period unit event) text (at + octets) whole parts fit
       (omega (arith, k .within, k .lf, length-drop at text, length-drop (at + octets) text)) in
       record {
-        taken = entry period unit event (valueAt text at (Entry period unit event value octets)) ∷ g .taken;
-        handed = line {got = g .taken} period unit event value octets e (g .handed);
+        taken = entry period unit event (valueAt text at (Entry period unit event fields octets)) ∷ g .taken;
+        handed = line {got = g .taken} period unit event fields octets e (g .handed);
       }
   on-step p text at whole parts fit h Done e = record { taken = []; handed = ends e }
   on-step p text at whole parts fit h (Fault n) e = record { taken = fault n ∷ []; handed = stops n e }

@@ -10,6 +10,7 @@ use lib.Seq.{take-all}
 use borrow.Author.Tests.{eq-eqb, ne-eqb, lt-ltb, le-ltb, ltb-true, ltb-false}
 use Rattle.cases.proofs.ByCases.{by-test}
 use Rattle.text.specs.Text.{LF, upto}
+use Rattle.text.specs.declared.field.Ends.{Ends}
 use Rattle.book_line.specs.Line.{longestLine, judged, inOrder}
 use Rattle.book_line.proofs.Judging.{judged-twelve}
 use Rattle.book_line.specs.declared.line.Judged.{Judged}
@@ -22,11 +23,11 @@ module _ (last end : ℕ) where
   unfolding ruled
   ruled-wrong k line q = ap Step.Fault (sym (judged-twelve line k q)) ∙ ap (ruled last end) q
 
-  pub ruled-late : (p u e v : ℕ) (j : Judged) → Judged.Entry p u e v ≡ j → inOrder last p ≡ false → Step.Fault 13 ≡ ruled last end j
+  pub ruled-late : (p u e : ℕ) (v : Ends) (j : Judged) → Judged.Entry p u e v ≡ j → inOrder last p ≡ false → Step.Fault 13 ≡ ruled last end j
   unfolding ruled
   ruled-late p u e v j q f = let z : Step.Fault 13 ≡ ruled last end (Judged.Entry p u e v) = rw f in z ∙ ap (ruled last end) q
 
-  pub ruled-entry : (p u e v : ℕ) (j : Judged) → Judged.Entry p u e v ≡ j → inOrder last p ≡ true → Step.Entry p u e v end ≡ ruled last end j
+  pub ruled-entry : (p u e : ℕ) (v : Ends) (j : Judged) → Judged.Entry p u e v ≡ j → inOrder last p ≡ true → Step.Entry p u e v end ≡ ruled last end j
   unfolding ruled
   ruled-entry p u e v j q f = let z : Step.Entry p u e v end ≡ ruled last end (Judged.Entry p u e v) = rw f in z ∙ ap (ruled last end) q
 

@@ -5,6 +5,7 @@ use mathlib.Core.List.{List, [], _∷_, _++_}
 use Prim.Native.Nat.{ℕ, _+_, _≤_, _<_}
 use lib.ListN.{length, drop}
 use Rattle.timing.specs.Counts.{mostPeriods}
+use Rattle.text.specs.declared.field.Ends.{Ends}
 use Rattle.book_line.specs.Line.{longestLine, formed, valueFits, periodOf, unitOf, eventOf, valueOf}
 use Rattle.book_reader.specs.Book.{firstLine}
 use Rattle.book_reader.specs.Book.Answer.{entry, fault}
@@ -33,13 +34,13 @@ module _ (p : Place) (text : List ℕ) (at : ℕ) (whole : Bool) (later : List �
 
   abbrev pub Law : Step → Type 0
   Law Begun = First
-  Law (Entry period unit event value octets) = Taken period unit event octets
+  Law (Entry period unit event ends octets) = Taken period unit event octets
   Law Done = toCome p (drop at text ++ later) ≡ []
   Law (Fault n) = toCome p (drop at text ++ later) ≡ fault n ∷ []
   Law More = Short
 
 -- An entry: its line lies in the text, is of right form and says just that, and its period may stand after last.
-pub record Entered (text : List ℕ) (at stage last period unit event value octets : ℕ) : Type 0 where
+pub record Entered (text : List ℕ) (at stage last period unit event : ℕ) (ends : Ends) (octets : ℕ) : Type 0 where
   pub lines : stage ≡ AT-LINES
   pub within : at + octets ≤ length text
   pub lf : 1 ≤ octets
@@ -48,7 +49,7 @@ pub record Entered (text : List ℕ) (at stage last period unit event value octe
   pub period-is : period ≡ periodOf (lineAt text at octets)
   pub unit-is : unit ≡ unitOf (lineAt text at octets)
   pub event-is : event ≡ eventOf (lineAt text at octets)
-  pub value-is : valueAt text at (Entry period unit event value octets) ≡ valueOf (lineAt text at octets)
+  pub value-is : valueAt text at (Entry period unit event ends octets) ≡ valueOf (lineAt text at octets)
   pub fits : valueFits event (valueOf (lineAt text at octets)) ≡ true
   pub after : last ≤ period
   pub most : period ≤ mostPeriods

@@ -6,6 +6,7 @@ use Prim.Native.Nat.{ℕ, _+_}
 use lib.Dec.{eqb}
 use lib.ListN.{length, drop}
 use Rattle.text.specs.Text.{LF, split}
+use Rattle.text.specs.declared.field.Ends.{Ends}
 use Rattle.book_line.specs.Line.{isEnd}
 use Rattle.book_reader.specs.Book.{Answer, firstLine, answersFrom, lines, closing}
 use Rattle.book_reader.specs.Book.Answer.{entry, fault}
@@ -45,10 +46,10 @@ pub data Handed : Place → List ℕ → ℕ → Bool → List (List ℕ) → Li
       → stepAt text at (p .stage) (p .last) whole ≡ Step.Begun
       → Handed (begun p) text (at + length firstLine) whole parts got → Handed p text at whole parts got
   line : {p : Place} {text : List ℕ} {at : ℕ} {whole : Bool} {parts : List (List ℕ)} {got : List Answer}
-      (period unit event value octets : ℕ)
-      → stepAt text at (p .stage) (p .last) whole ≡ Step.Entry period unit event value octets
+      (period unit event : ℕ) (ends : Ends) (octets : ℕ)
+      → stepAt text at (p .stage) (p .last) whole ≡ Step.Entry period unit event ends octets
       → Handed (past period unit event) text (at + octets) whole parts got
-      → Handed p text at whole parts (entry period unit event (valueAt text at (Step.Entry period unit event value octets)) ∷ got)
+      → Handed p text at whole parts (entry period unit event (valueAt text at (Step.Entry period unit event ends octets)) ∷ got)
   stops : {p : Place} {text : List ℕ} {at : ℕ} {whole : Bool} {parts : List (List ℕ)} (n : ℕ)
       → stepAt text at (p .stage) (p .last) whole ≡ Step.Fault n → Handed p text at whole parts (fault n ∷ [])
   ends : {p : Place} {text : List ℕ} {at : ℕ} {whole : Bool} {parts : List (List ℕ)}

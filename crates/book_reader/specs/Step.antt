@@ -6,6 +6,7 @@ use Prim.Native.Nat.{ℕ, _+_, _-_, min}
 use lib.Dec.{eqb, ltb}
 use lib.ListN.{length, take, drop}
 use Rattle.text.specs.Text.{LF, upto, same}
+use Rattle.text.specs.Fields.{fieldFrom, fieldTo}
 use Rattle.book_line.specs.Line.{longestLine, judged, inOrder}
 use Rattle.book_line.specs.declared.line.Judged.{Judged}
 use Rattle.book_reader.specs.Book.{firstLine}
@@ -30,7 +31,7 @@ headStep t whole =
 -- A line of so many octets, its LF included (12, then 13).
 unfoldable pub ruled : ℕ → ℕ → Judged → Step
 ruled last octets (Judged.Refused k) = Step.Fault k
-ruled last octets (Judged.Entry p u e value) = cond (inOrder last p) (Step.Entry p u e value octets) (Step.Fault 13)
+ruled last octets (Judged.Entry p u e ends) = cond (inOrder last p) (Step.Entry p u e ends octets) (Step.Fault 13)
 
 -- n octets without LF: too long a line (12); or the book ends here, after a LF (14) or without one (12); or the line is cut.
 unfoldable pub unended : ℕ → Bool → Step
@@ -63,7 +64,7 @@ stepAt text at stage last whole = stepOf (drop at text) stage last whole
 -- The octets that an answer takes: those of the first line, or of the entry's line.
 unfoldable pub takenBy : Step → ℕ
 takenBy Step.Begun = length firstLine
-takenBy (Step.Entry p u e value octets) = octets
+takenBy (Step.Entry p u e ends octets) = octets
 takenBy Step.Done = 0
 takenBy (Step.Fault n) = 0
 takenBy Step.More = 0
@@ -75,14 +76,14 @@ lineAt text at octets = take (octets - 1) (drop at text)
 -- Where the value of the line that was read begins and ends, from the line's beginning. Where no line was read it is empty.
 unfoldable pub valueFrom : Step → ℕ
 valueFrom Step.Begun = 0
-valueFrom (Step.Entry p u e value octets) = value
+valueFrom (Step.Entry p u e ends octets) = fieldFrom 3 ends
 valueFrom Step.Done = 0
 valueFrom (Step.Fault n) = 0
 valueFrom Step.More = 0
 
 unfoldable pub valueTo : Step → ℕ
 valueTo Step.Begun = 0
-valueTo (Step.Entry p u e value octets) = octets - 1
+valueTo (Step.Entry p u e ends octets) = fieldTo 3 ends
 valueTo Step.Done = 0
 valueTo (Step.Fault n) = 0
 valueTo Step.More = 0

@@ -8,6 +8,8 @@ ghost use Rattle.book_reader.specs.Step as spec;
 use book_line::line::Judged;
 use book_line::line::LONGEST_LINE;
 use book_line::line::judge;
+use text::field::Ends;
+use text::field::field;
 use text::length::least;
 use text::part::part;
 use text::piece::LF;
@@ -22,6 +24,9 @@ pub const AT_LINES: u8 = 1;
 
 pub const AFTER_END: u8 = 2;
 
+// The field of a line that is its value: period, unit and event come before it.
+const VALUE: usize = 3;
+
 // The octets of the book's first line, its LF included.
 const FIRST_LINE_LENGTH: usize = 24;
 
@@ -29,12 +34,12 @@ const FIRST_LINE_LENGTH: usize = 24;
 pub enum Step {
     // The book's first line has been read.
     Begun,
-    // A line of so many octets, its LF included; its value begins at `value` of it.
+    // A line of so many octets, its LF included, and where its fields end: the value is the last of them.
     Entry {
         period: u32,
         unit: u32,
         event: u8,
-        value: usize,
+        ends: Ends,
         octets: usize,
     },
     // The book has ended with its accepted `end` line.
@@ -55,7 +60,7 @@ pub fn octets_of(step: Step) -> usize
             period: _,
             unit: _,
             event: _,
-            value: _,
+            ends: _,
             octets,
         } => octets,
         Step::Done => 0,
@@ -95,7 +100,7 @@ fn rule(line: &[u8], octets: usize, last: u32) -> Step
         period,
         unit,
         event,
-        value,
+        ends,
     } = judge(line)
     else {
         return Step::Fault(12);
@@ -107,7 +112,7 @@ fn rule(line: &[u8], octets: usize, last: u32) -> Step
         period,
         unit,
         event,
-        value,
+        ends,
         octets,
     }
 }
@@ -174,10 +179,10 @@ pub fn value_at(text: &[u8], at: usize, said: Step) -> &[u8]
 {
     let from = least(at, text.len());
     let rest = &text[from..];
-    let Step::Entry { value, octets, .. } = said else {
+    let Step::Entry { ends, .. } = said else {
         return part(rest, 0, 0);
     };
-    part(rest, value, octets - least(octets, 1))
+    field(rest, ends, VALUE)
 }
 
 // So many octets further on, at most at the text's end.

@@ -1,13 +1,12 @@
 -- `line::judge` meets its contract: a line that is short enough and has four fields is judged by them.
 use mathlib.Core.Path.{_≡_, sym, ap, _∙_}
-use Prim.Native.Nat.{_+_}
 use native.Mathlib.Omega.{arith}
 use lib.ListN.{length}
 use borrow.Author.Needs.{needs}
 use denote.Ref.{now}
-use Rattle.text.specs.Fields.{fieldStart, fieldEnd}
+use Rattle.text.specs.Fields.{fieldEnd}
 use Rattle.text.specs.declared.field.Ends.{Ends}
-use Rattle.text.proofs.Fields.{fields-end, field-behind, fields-told}
+use Rattle.text.proofs.Fields.{fields-end, fields-told}
 use Rattle.book_line.proofs.Judging.{too-long, not-four, four-judged}
 use Rattle.book_line.proofs.line.judge.Statement.{statement}
 use Rattle.book_line.proofs.line.judge.Tie as tie
@@ -35,21 +34,12 @@ field-requires-3 c κs = search needs
 field-requires-4 : tie.Need-field-requires-4
 field-requires-4 c κs = search needs
 
-add-judge-fields : tie.Need-add-judge-fields
-add-judge-fields c =
-    let ends = c .before .before .before .before .before in
-    let split = ends .before .before in
-    let line = split .before .before .before .args .line .now in
-    let third = ap (λ (e : Ends). e .third) (split .split .ensures) in
-    let fourth = ap (λ (e : Ends). e .fourth) (split .split .ensures) in
-    omega (arith, field-behind line 2, third, fourth, ends .if2 .left)
-
 judge-fields-requires : tie.Need-judge-fields-requires
 judge-fields-requires c κs = search needs
 
 returns-3 : tie.Need-returns-3
 returns-3 c =
-    let value = c .before .before in
+    let value = c .before in
     let event = value .before in
     let unit = event .before in
     let period = unit .before in
@@ -58,15 +48,13 @@ returns-3 c =
     let line = split .before .before .before .args .line in
     let ends = split .split .result in
     let last : fieldEnd 3 (now line) ≡ length (now line) = sym (ap (λ (e : Ends). e .fourth) (split .split .ensures)) ∙ four .if2 .left in
-    let at : ends .third + 1 ≡ fieldStart 3 (now line) =
-    ap (λ (e : Ends). e .third + 1) (split .split .ensures) ∙ sym (field-behind (now line) 2) in
     c .judge-fields .ensures
     ∙ four-judged (now line) _ _ _ _ _ (split .before .if1 .left) (fields-end (now line) 3 .1 last)
     (fields-told line _ ends (split .split .ensures) 0 (omega arith) (period .field .ensures))
     (fields-told line _ ends (split .split .ensures) 1 (omega arith) (unit .field2 .ensures))
     (fields-told line _ ends (split .split .ensures) 2 (omega arith) (event .field3 .ensures))
     (fields-told line _ ends (split .split .ensures) 3 (omega arith) (value .field4 .ensures))
-    at
+    (split .split .ensures)
 
 pub judge-spec : {M : Type 1} → statement M
 judge-spec =
@@ -79,6 +67,5 @@ judge-spec =
     field-requires-2
     field-requires-3
     field-requires-4
-    add-judge-fields
     judge-fields-requires
     returns-3)

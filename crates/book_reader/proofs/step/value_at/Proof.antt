@@ -1,8 +1,7 @@
--- `value_at` meets its contract: a part of what the text has from the line's place on.
+-- `value_at` meets its contract: the splitter's part of what the text has from the line's place on.
 use mathlib.Core.Path.{_≡_, refl}
 use mathlib.Core.List.{[], _∷_}
 use mathlib.Core.Logic.{inl, inr}
-use Prim.Native.Nat.{ℕ, _-_, min}
 use native.Mathlib.Omega.{arith}
 use types.Run.{OneOf}
 use denote.Enum.Declared.{tagOf}
@@ -19,17 +18,13 @@ use Rattle.book_reader.proofs.step.value_at.Tie as tie
 no-entry : (said : Step) → OneOf (0 ∷ 2 ∷ 3 ∷ 4 ∷ []) (tagOf S.the-type said) → (valueFrom said ≡ 0) × (valueTo said ≡ 0)
 unfolding valueFrom valueTo
 no-entry Begun k = (refl, refl)
-no-entry (Entry p u e value octets) (inl k) = absurd (omega arith)
-no-entry (Entry p u e value octets) (inr (inl k)) = absurd (omega arith)
-no-entry (Entry p u e value octets) (inr (inr (inl k))) = absurd (omega arith)
-no-entry (Entry p u e value octets) (inr (inr (inr k))) = absurd (omega arith)
+no-entry (Entry p u e ends octets) (inl k) = absurd (omega arith)
+no-entry (Entry p u e ends octets) (inr (inl k)) = absurd (omega arith)
+no-entry (Entry p u e ends octets) (inr (inr (inl k))) = absurd (omega arith)
+no-entry (Entry p u e ends octets) (inr (inr (inr k))) = absurd (omega arith)
 no-entry Done k = (refl, refl)
 no-entry (Fault n) k = (refl, refl)
 no-entry More k = (refl, refl)
-
--- the LF is left off
-one-less : (octets n : ℕ) → n ≡ min octets 1 → octets - n ≡ octets - 1
-one-less octets n e = omega arith
 
 least-requires : tie.Need-least-requires
 least-requires c κs = search needs
@@ -56,36 +51,17 @@ returns c =
     let none = no-entry (a .said) (c .before .match .keys2) in
     rw (none .0, none .1) (part-within (a .text) _ _ (a .at) (from .result) 0 0 (from .ensures) refl refl refl (c .part .ensures))
 
-least-requires-2 : tie.Need-least-requires-2
-least-requires-2 c κs = search needs
-
-sub-part : tie.Need-sub-part
-sub-part c = search needs
-
-part-requires-2 : tie.Need-part-requires-2
-part-requires-2 c κs = search needs
+field-requires : tie.Need-field-requires
+field-requires c κs = search needs
 
 returns-2 : tie.Need-returns-2
 unfolding valueFrom valueTo
 returns-2 c =
-    let a = c .before .before .before .before .before .before .before .before .args in
-    let from = c .before .before .before .before .before .before .least in
-    rw (c .before .before .before .said .given .1)
-    (part-within (a .text) _ _ (a .at) (from .result) _ _ (from .ensures) refl refl refl
-    (rw (one-less _ (c .before .least2 .result) (c .before .least2 .ensures)) at (c .part2 .ensures)))
+    let a = c .before .before .before .before .before .before .before .args in
+    let from = c .before .before .before .before .before .least in
+    rw (c .before .before .said .given .1)
+    (part-within (a .text) _ _ (a .at) (from .result) _ _ (from .ensures) refl refl refl (c .field .ensures))
 
 pub value-at-spec : {M : Type 1} → statement M
 value-at-spec =
-    tie.close
-    (tie.spec
-    least-requires
-    sub-rest
-    part-rest-start
-    part-rest-end
-    enum-known-said
-    part-requires
-    returns
-    least-requires-2
-    sub-part
-    part-requires-2
-    returns-2)
+    tie.close (tie.spec least-requires sub-rest part-rest-start part-rest-end enum-known-said part-requires returns field-requires returns-2)
