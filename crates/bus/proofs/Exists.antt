@@ -1,5 +1,5 @@
 -- The laws of `specs/Exists.antt`: a bus with terminals in F7 goes on as it is, for as many periods as wanted.
-use mathlib.Core.Path.{_≡_, refl, sym, _∙_}
+use mathlib.Core.Path.{_≡_, refl, sym, ap, _∙_}
 use mathlib.Core.Bool.{Bool, true, false, not, _&&_, _||_, true≢false}
 use mathlib.Core.List.{List, [], _∷_}
 use Prim.Native.Nat.{ℕ, zero, suc, _+_}
@@ -12,6 +12,7 @@ use Rattle.cells.specs.Cells.{cellIn, infoIn}
 use Rattle.table_6_2.specs.Table62.{F1, F7}
 use Rattle.table_6_2.specs.Table62 as table62
 use Rattle.table_6_3.specs.Table63.{G3}
+use Rattle.hdlc.specs.Reading.{Said}
 use Rattle.hdlc.specs.Reading.Said.{heard}
 use Rattle.dchannel.specs.Access.{lowOf}
 use Rattle.timing.specs.Counts.{mostPeriods}
@@ -374,9 +375,23 @@ waits-to-the-last ms h said done =
       body-completed = done;
     }
 
-pub worst-wait : exists.WorstWait
+-- what is seen there, computed at once
+record Seen : Type 0 where
+  tests : Bool
+  said : Said
+  completed : List (List ℕ)
+
+abbrev seen : List Moment → Seen
+seen ms = record { tests = every (waitTests ms); said = saidTo (at ms 126); completed = bodyCompleted (at ms 127) }
+
+worst-seen : seen (opps beforeWait duringWait) ≡ record { tests = true; said = heard (1 ∷ []); completed = (1 ∷ []) ∷ [] }
 unfolding report anyInfo1 bodyCompleted firstDone
-worst-wait = waits-to-the-last (opps beforeWait duringWait) refl refl refl
+worst-seen = refl
+
+pub worst-wait : exists.WorstWait
+worst-wait =
+    waits-to-the-last (opps beforeWait duringWait) (ap (λ (s : Seen). s .tests) worst-seen) (ap (λ (s : Seen). s .said) worst-seen)
+    (ap (λ (s : Seen). s .completed) worst-seen)
 
 -- what demand 3 says there
 pub said-of-worst-wait : exists.SaidOfWorstWait
@@ -390,12 +405,20 @@ said-of-worst-wait =
       as-completed = claimed .heard-as-completed 0 103 16 (worst-wait .begun) (omega (arith, long));
     }
 
+abbrev seenBusy : List Moment → Seen
+seenBusy ms = record { tests = beginsNow 0 (at ms 7) && completesNow 1 0 (at ms 31); said = saidTo (at ms 30); completed = [] }
+
+busy-seen : seenBusy exists.busy ≡ record { tests = true; said = heard (0 ∷ []); completed = [] }
+unfolding report anyInfo1
+busy-seen = refl
+
 pub busy-stretch : exists.BusyStretch
 unfolding report anyInfo1
 busy-stretch =
+    let both = ap (λ (s : Seen). s .tests) busy-seen in
     record {
       is-stretch = stretch-is activated duringBusy refl;
-      begun = begins-is 0 (at exists.busy 7) refl;
-      is-heard = refl;
-      completed = completes-is 1 0 (at exists.busy 31) refl;
+      begun = begins-is 0 (at exists.busy 7) (and-left (beginsNow 0 (at exists.busy 7)) (completesNow 1 0 (at exists.busy 31)) both);
+      is-heard = ap (λ (s : Seen). s .said) busy-seen;
+      completed = completes-is 1 0 (at exists.busy 31) (and-right (beginsNow 0 (at exists.busy 7)) (completesNow 1 0 (at exists.busy 31)) both);
     }
