@@ -16,9 +16,8 @@ use Rattle.hdlc.specs.Reading.{Reading}
 use Rattle.dchannel.specs.Access.{normal1, normal2}
 use Rattle.contention.specs.Channel.{Station, Channel, Action, change, mayHold, holding, entering, leaving, withStations, step, run}
 use Rattle.contention.specs.Channel.Action.{hand}
-use Rattle.contention.specs.Crossing.{crossing, crossed, crossings, clearing}
 use Rattle.contention.proofs.Change.{change-map}
-use Rattle.contention.proofs.Crossing.{run-crossing, run-crossings, run-clearing}
+use Rattle.contention.proofs.Crossing.{run-crossing, run-crossings, run-clearing, crossing, crossed, crossings, clearing}
 use Rattle.contention.proofs.WholeList.{run-append}
 use Rattle.network.specs.Network as network
 use Rattle.network.proofs.Laws.{timers-keep-G3}

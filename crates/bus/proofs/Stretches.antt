@@ -13,9 +13,8 @@ use Rattle.table_6_3.specs.Table63.{G3}
 use Rattle.dchannel.specs.Access.{normal1, normal2}
 use Rattle.contention.specs.Channel.{Station, Channel, combinedD, run}
 use Rattle.contention.specs.Stretch as channel
-use Rattle.contention.specs.Crossing.{crossings, clearing}
 use Rattle.contention.proofs.Change.{change-there}
-use Rattle.contention.proofs.Crossing.{crossing-calm, crossing-none, crossings-calm, crossings-none, clearing-calm, clearing-none}
+use Rattle.contention.proofs.Crossing.{crossing-calm, crossing-none, crossings-calm, crossings-none, clearing-calm, clearing-none, crossings, clearing}
 use Rattle.contention.proofs.WholeList.{opportunities-append, stretch-append}
 use Rattle.network.specs.Network as network
 use Rattle.network.proofs.Laws.{timers-keep-G3}

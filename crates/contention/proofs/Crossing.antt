@@ -1,5 +1,6 @@
--- What the steps of a bus leave of the channel; that they are calm where nobody leaves F7 and the network end stays in G3; and that they
--- have no D opportunity. Also the terminals of a channel that is made from another list.
+-- What a step of the terminals, or of the network end, is to the D channel: F7 is entered or left, G3 is left, or nothing happens. A bus
+-- over this channel turns its calls into actions with these. Then: what they leave of the channel; that they are calm where nobody leaves
+-- F7 and the network end stays in G3; and that they have no D opportunity. Also the terminals of a channel that is made from another list.
 use mathlib.Core.Bool.{Bool, true, false, cond, true≢false}
 use mathlib.Core.Path.{_≡_, refl, sym, ap, _∙_}
 use mathlib.Core.List.{List, [], _∷_, _++_, map, append-assoc}
@@ -7,11 +8,35 @@ use Prim.Native.Nat.{ℕ, suc}
 use native.Mathlib.Numerals.{add-one}
 use lib.ListN.{length, getD, length-append, List·getD-map}
 use Rattle.hdlc.specs.Reading.{cleared}
-use Rattle.contention.specs.Channel.{Station, Channel, freshStation, change, withStations, step, run}
+use Rattle.contention.specs.Channel.{Station, Channel, Action, freshStation, change, entering, leaving, withStations, step, run}
+use Rattle.contention.specs.Channel.Action.{enter, leave, clear}
 use Rattle.contention.specs.Stretch.{Stretch, opportunities, station}
-use Rattle.contention.specs.Crossing.{crossing, crossed, crossings, clearing}
 use Rattle.contention.proofs.Change.{change-at, change-same}
 use Rattle.contention.proofs.WholeList.{run-append, opportunities-append, stretch-append}
+
+-- the terminal at an index was in F7 or not, and then is or is not
+unfoldable pub crossing : ℕ → Bool → Bool → List Action
+crossing i true true = []
+crossing i true false = leave i ∷ []
+crossing i false true = enter i ∷ []
+crossing i false false = []
+
+abbrev pub crossed : Bool → Bool → Station → Station
+crossed true true s = s
+crossed true false s = leaving s
+crossed false true s = entering s
+crossed false false s = s
+
+-- all terminals take a step, the first of the list being at the index: `was` and `is` are each one's station before and after it
+unfoldable pub crossings : {A : Type 0} → (A → Station) → (A → Station) → ℕ → List A → List Action
+crossings was is i [] = []
+crossings was is i (x ∷ xs) = crossing i (was x .active) (is x .active) ++ crossings was is (suc i) xs
+
+-- the network end was in G3 or not, and then is or is not
+unfoldable pub clearing : Bool → Bool → List Action
+clearing true true = []
+clearing true false = clear ∷ []
+clearing false is = []
 
 -- the terminal at an index, where the terminals are made from a list; d makes a fresh one
 pub station-map : {A : Type 0} (f : A → Station) (d : A) → f d ≡ freshStation → (c : Channel) (xs : List A) → c .stations ≡ map f xs → (i : ℕ)

@@ -1,9 +1,8 @@
 -- Terminals on one D channel, for demand 3: what the channel does, what a stretch is, what holds always, what is claimed, the class 2 wait,
--- what the steps of a bus are to the channel, and some scenes. proofs/Demand3.antt has the proof of the claims.
+-- and some scenes. proofs/Demand3.antt has the proof of the claims.
 pub mod Channel
 pub mod Stretch
 pub mod Invariant
 pub mod Claims
 pub mod ClassTwo
-pub mod Crossing
 pub mod Scenes
