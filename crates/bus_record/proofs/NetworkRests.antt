@@ -20,7 +20,8 @@ use Rattle.network.specs.Network.{unchanged, acts, happens, andThen, aligned, t
 use Rattle.network.specs.Network as network
 use Rattle.network.specs.declared.Network.{Network}
 use Rattle.network.specs.declared.NetworkStep.{NetworkStep}
-use Rattle.bus_record.specs.NetworkSide.{leavesG3, hears, timers, networkListens, restsInG3, restsElsewhere, networkRests, nothingHeard}
+use Rattle.bus_record.specs.NetworkSide.{leavesG3, hears, timers, networkListens, restsInG3, restsElsewhere, noNotes, networkRests}
+use Rattle.bus_record.specs.declared.side.NetworkHeard.{NetworkHeard}
 
 -- ---- What is known of one that rests.
 module _ (line : Upward) (n : Network) (h : networkRests line n ≡ true) where
@@ -91,6 +92,10 @@ leaves-none : (s : ℕ) → leavesG3 s s ≡ false
 leaves-none s = by-test (eqb s G3) (λ t. rw t) (λ t. rw t)
 
 -- ---- Both.
+-- it is as it was, and has no notes
+abbrev pub nothingHeard : Network → NetworkHeard
+nothingHeard n = record { network = n; notes = noNotes; left = false }
+
 module _ (line : Upward) (p : Periods) (n : Network) (r : networkRests line n ≡ true) (a : due (n .t1) (nextPeriod p .0) ≡ false) (b : due (n .t2) (nextPeriod p .0) ≡ false) where
   hearing : (hears line p n .network ≡ n) × (hears line p n .notes ≡ packedNotes [])
   unfolding hears

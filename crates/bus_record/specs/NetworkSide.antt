@@ -60,9 +60,6 @@ networkRests line n =
     eqb (n .alignment .run) 0
     && cond (eqb (n .state) G3) (restsInG3 line (n .alignment .aligned)) (not (n .alignment .aligned) && restsElsewhere line (n .state))
 
-abbrev pub nothingHeard : Network → NetworkHeard
-nothingHeard n = record { network = n; notes = noNotes; left = false }
-
 -- "four for each period whose lines leave the network end in G3"
 unfoldable pub countedAfter : ℕ → Opportunities → Opportunities
 countedAfter state o = cond (eqb state G3) (fourMore o) o

@@ -13,7 +13,8 @@ use lib.Seq.{getD-at, append-snoc, take-suc}
 use borrow.Author.Tests.{ltb-true, ltb-false, leb-true, leb-false, eqb-true, eqb-false, lt-ltb, le-ltb, le-leb, lt-leb, eq-eqb, ne-eqb, not-true}
 use Rattle.hdlc.specs.Bits.{sameBit}
 use Rattle.hdlc.specs.Image.{image, shortestImage, longestImage, IsBody}
-use Rattle.dchannel.specs.Access.{entered, countAfter, lowAfter, afterE, sending, lowOf, threshold, mayStart, sendsNext, stops, completes, idles, turn, leavesAt, atRest}
+use Rattle.dchannel.specs.Access.{entered, countAfter, lowAfter, afterE, sending, lowOf, threshold, mayStart, sendsNext, stops, completes, idles, turn}
+use Rattle.dchannel.specs.AtRest.{atRest}
 use Rattle.dchannel.specs.Handing.{classNumber, isImageLength, takenUp, handed, left}
 use Rattle.hdlc.specs.Ones.{endingOnes}
 use Rattle.cases.proofs.ByCases.{by-test, both}
@@ -102,6 +103,10 @@ may-held x1 x2 a m z = true≢false (sym m ∙ rw z)
 pub after-held : (x1 x2 : ℕ) (e : Bool) (a : Access) → afterE x1 x2 e a .held ≡ a .held
 unfolding afterE
 after-held x1 x2 e a = refl
+
+-- whether a bit of the image leaves at the opportunity with this E
+unfoldable pub leavesAt : ℕ → ℕ → Bool → Access → Bool
+leavesAt x1 x2 e a = cond (sending a) (cond (sameBit e (a .last)) (ltb (a .sent) (a .length)) false) (mayStart x1 x2 (afterE x1 x2 e a))
 
 -- a bit leaves exactly where `leavesAt` says so, and then the opportunity is that of the next bit ..
 pub turn-leaves : (x1 x2 : ℕ) (e next : Bool) (a : Access) → leavesAt x1 x2 e a ≡ true

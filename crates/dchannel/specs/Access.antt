@@ -1,6 +1,6 @@
 -- One terminal's access to the D channel (document 01, "D access (6.1)"), for normal levels x1 of class 1 and x2 of class 2;
 -- each low level is one more.
-use mathlib.Core.Bool.{Bool, true, false, cond, not, _&&_}
+use mathlib.Core.Bool.{Bool, true, false, cond}
 use Prim.Native.Nat.{ℕ, _+_}
 use lib.Dec.{ltb, leb, eqb}
 use Rattle.hdlc.specs.Bits.{sameBit}
@@ -112,12 +112,3 @@ tries x1 x2 next a = cond (mayStart x1 x2 a) (sendsNext next a) (idles a)
 -- levels first; then what a terminal does that was sending as E came, or was not.
 unfoldable pub turn : ℕ → ℕ → Bool → Bool → Access → Turn
 turn x1 x2 e next a = cond (sending a) (goesOn e next (afterE x1 x2 e a)) (tries x1 x2 next (afterE x1 x2 e a))
-
--- whether a bit of the image leaves at the opportunity with this E
-unfoldable pub leavesAt : ℕ → ℕ → Bool → Access → Bool
-leavesAt x1 x2 e a = cond (sending a) (cond (sameBit e (a .last)) (ltb (a .sent) (a .length)) false) (mayStart x1 x2 (afterE x1 x2 e a))
-
--- An access that every further E of 1 leaves as it is: no frame is held, C has come to its end, and class 2 is at its normal level (class 1
--- no longer changes there, at whichever level it is).
-unfoldable pub atRest : ℕ → Access → Bool
-atRest x2 a = ((eqb (a .held) 0 && eqb (a .sent) 0) && eqb (a .count) (x2 + 1)) && not (a .low2)

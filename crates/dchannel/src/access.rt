@@ -1,7 +1,8 @@
 // One terminal's access to the D channel (document 01, "D access (6.1)").
 ghost use mathlib.Core.Path.{_≡_};
 ghost use mathlib.Core.Bool.{cond};
-ghost use Rattle.dchannel.specs.Access.{normal1, normal2, fresh, entered, afterE, mayStart, completes, stops, turn, atRest};
+ghost use Rattle.dchannel.specs.Access.{normal1, normal2, fresh, entered, afterE, mayStart, completes, stops, turn};
+ghost use Rattle.dchannel.specs.AtRest.{atRest};
 ghost use Rattle.dchannel.specs.Handing.{handed, left};
 ghost use Rattle.dchannel.specs.Ranges.{accessInRange};
 

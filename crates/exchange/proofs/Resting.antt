@@ -14,7 +14,8 @@ use Rattle.combining.specs.Hit.{keepLetter}
 use Rattle.cells.specs.Cells.{infoIn}
 use Rattle.table_6_2.specs.Table62.{F7, infoSent}
 use Rattle.packing.specs.Octets.{shifted}
-use Rattle.dchannel.specs.Access.{normal1, normal2, atRest, idles}
+use Rattle.dchannel.specs.Access.{normal1, normal2, idles}
+use Rattle.dchannel.specs.AtRest.{atRest}
 use Rattle.dchannel.proofs.AccessLaws.{rests}
 use Rattle.terminal.specs.declared.Terminal.{Terminal}
 use Rattle.walks.specs.Over.{mapFrom, foldFrom}

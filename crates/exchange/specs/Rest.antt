@@ -9,7 +9,8 @@ use lib.Dec.{eqb}
 use Rattle.combining.specs.Hit.{struckBit}
 use Rattle.cells.specs.Cells.{infoIn}
 use Rattle.table_6_2.specs.Table62.{F7, infoSent}
-use Rattle.dchannel.specs.Access.{normal2, atRest}
+use Rattle.dchannel.specs.Access.{normal2}
+use Rattle.dchannel.specs.AtRest.{atRest}
 use Rattle.terminal.specs.declared.Terminal.{Terminal}
 use Rattle.walks.specs.Over.{foldFrom}
 use Rattle.bus.specs.Quick.{sentE}

@@ -5,7 +5,13 @@ use mathlib.Core.List.{List, [], _∷_, _++_}
 use Prim.Native.Nat.{ℕ, zero, suc, _≤_}
 use native.Mathlib.Omega.{arith}
 use lib.ListN.{take}
-use Rattle.hdlc.specs.Ones.{onesAfter, endingOnes, Runs}
+use Rattle.hdlc.specs.Ones.{onesAfter, endingOnes}
+
+-- no more than m 1s in a row, with the k 1s that stand before the list
+abbrev pub Runs : ℕ → ℕ → List Bool → Type 0
+Runs m k [] = Unit {0}
+Runs m k (true ∷ bs) = (suc k ≤ m) × Runs m (suc k) bs
+Runs m k (false ∷ bs) = Runs m 0 bs
 
 pub onesAfter-append : (bs cs : List Bool) (k : ℕ) → onesAfter k (bs ++ cs) ≡ onesAfter (onesAfter k bs) cs
 unfolding onesAfter

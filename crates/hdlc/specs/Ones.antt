@@ -1,7 +1,7 @@
 -- Runs of 1s in a list of bits.
 use mathlib.Core.Bool.{Bool, true, false}
 use mathlib.Core.List.{List, [], _∷_}
-use Prim.Native.Nat.{ℕ, suc, _≤_}
+use Prim.Native.Nat.{ℕ, suc}
 
 -- how many 1s stand directly before what follows the list, k of them standing before it
 unfoldable pub onesAfter : ℕ → List Bool → ℕ
@@ -18,9 +18,3 @@ unfoldable pub leading : List Bool → ℕ
 leading [] = 0
 leading (true ∷ bs) = suc (leading bs)
 leading (false ∷ bs) = 0
-
--- no more than m 1s in a row, with the k 1s that stand before the list
-abbrev pub Runs : ℕ → ℕ → List Bool → Type 0
-Runs m k [] = Unit {0}
-Runs m k (true ∷ bs) = (suc k ≤ m) × Runs m (suc k) bs
-Runs m k (false ∷ bs) = Runs m 0 bs

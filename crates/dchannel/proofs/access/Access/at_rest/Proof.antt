@@ -1,5 +1,5 @@
 use mathlib.Core.Path.{refl}
-use Rattle.dchannel.specs.Access.{atRest}
+use Rattle.dchannel.specs.AtRest.{atRest}
 use borrow.Author.Needs.{needs}
 use Rattle.dchannel.proofs.access.Access.at_rest.Statement.{statement}
 use Rattle.dchannel.proofs.access.Access.at_rest.Tie as tie

@@ -4,9 +4,9 @@ use mathlib.Core.Logic.{⊎-elim}
 use Prim.Native.Nat.{_<_}
 use native.Mathlib.Omega.{arith}
 use borrow.Author.Tests.{lt-ltb, le-ltb, ltb-true}
-use Rattle.dchannel.specs.Access.{normal1, normal2, afterE, sendsNext, idles, leavesAt}
+use Rattle.dchannel.specs.Access.{normal1, normal2, afterE, sendsNext, idles}
 use Rattle.cases.proofs.Operators.{and-both, and-cond}
-use Rattle.dchannel.proofs.AccessLaws.{turn-leaves, turn-ends, turn-idles, same-beq}
+use Rattle.dchannel.proofs.AccessLaws.{leavesAt, turn-leaves, turn-ends, turn-idles, same-beq}
 use borrow.Author.Needs.{needs}
 use Rattle.dchannel.proofs.access.Access.turn.Statement.{statement}
 use Rattle.dchannel.proofs.access.Access.turn.Tie as tie
