@@ -15,7 +15,8 @@ use Rattle.cases.proofs.Operators.{and-both}
 use Rattle.symbols.proofs.Scan.{Rest, rest-start}
 use Rattle.text.specs.Text.{all, isDigit, onward, number}
 use Rattle.text.proofs.Pieces.{all-go}
-use Rattle.book_line.specs.Line.{mostDigits, isNumber, numberOf}
+use Rattle.book_line.specs.Line.{mostDigits, isNumber}
+use Rattle.book_line.specs.Judging.{numberOf}
 use Rattle.book_line.specs.declared.number.Number.{Number}
 
 -- what the digits before i wrote, with those from i on, is the whole number

@@ -7,7 +7,7 @@ use text::field::Ends;
 use text::field::field;
 use text::field::split;
 ghost use mathlib.Core.Path.{_≡_};
-ghost use Rattle.book_line.specs.Line as spec;
+ghost use Rattle.book_line.specs.Judging as spec;
 
 // The most characters of a line, its LF included.
 pub const LONGEST_LINE: usize = 600;

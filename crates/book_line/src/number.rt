@@ -1,7 +1,7 @@
 // Numbers of a line: a period, a unit.
 use text::octets::is_digit;
 ghost use mathlib.Core.Path.{_≡_};
-ghost use Rattle.book_line.specs.Line as spec;
+ghost use Rattle.book_line.specs.Judging as spec;
 
 // The most digits of a number.
 const MOST_DIGITS: usize = 7;

@@ -12,7 +12,8 @@ use Rattle.cases.proofs.ByCases.{by-test}
 use Rattle.text.specs.Text.{LF, split, upto, same, onto}
 use Rattle.text.specs.Fields.{endsOf}
 use Rattle.text.proofs.Pieces.{upto-le, split-upto, split-some, same-length}
-use Rattle.book_line.specs.Line.{longestLine, formed, judged, inOrder, isEnd, periodOf, unitOf, eventOf, valueOf}
+use Rattle.book_line.specs.Line.{longestLine, formed, inOrder, isEnd, periodOf, unitOf, eventOf, valueOf}
+use Rattle.book_line.specs.Judging.{judged}
 use Rattle.book_reader.specs.Book.{firstLine, nothing, closing, lines, answersFrom}
 use Rattle.book_reader.specs.Book.Answer.{entry, fault}
 use Rattle.book_reader.specs.Step.{BEFORE-FIRST-LINE, AT-LINES, headStep, ruled, unended, window, lineStep, tailStep, stepOf, stepAt}

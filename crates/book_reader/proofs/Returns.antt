@@ -11,7 +11,8 @@ use borrow.Author.Tests.{eq-eqb, ne-eqb, lt-ltb, le-ltb, ltb-true, ltb-false}
 use Rattle.cases.proofs.ByCases.{by-test}
 use Rattle.text.specs.Text.{LF, upto}
 use Rattle.text.specs.declared.field.Ends.{Ends}
-use Rattle.book_line.specs.Line.{longestLine, judged, inOrder}
+use Rattle.book_line.specs.Line.{longestLine, inOrder}
+use Rattle.book_line.specs.Judging.{judged}
 use Rattle.book_line.proofs.Judging.{judged-twelve}
 use Rattle.book_line.specs.declared.line.Judged.{Judged}
 use Rattle.book_reader.specs.Step.{BEFORE-FIRST-LINE, AT-LINES, ruled, window, lineStep, unended, headStep, tailStep, stepOf, stepAt}

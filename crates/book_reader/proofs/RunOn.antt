@@ -16,7 +16,8 @@ use Rattle.text.specs.Fields.{fieldStart, fieldEnd, endsOf, fieldFrom, fieldTo}
 use Rattle.text.specs.declared.field.Ends.{Ends}
 use Rattle.text.proofs.Fields.{field-part, fields-end, field-behind}
 use Rattle.timing.specs.Counts.{mostPeriods}
-use Rattle.book_line.specs.Line.{longestLine, formed, judged, inOrder, periodOf, unitOf, eventOf, valueOf}
+use Rattle.book_line.specs.Line.{longestLine, formed, inOrder, periodOf, unitOf, eventOf, valueOf}
+use Rattle.book_line.specs.Judging.{judged}
 use Rattle.book_line.proofs.Judging.{formed-parts}
 use Rattle.book_reader.specs.Book.{firstLine}
 use Rattle.book_reader.specs.Step.{BEFORE-FIRST-LINE, AT-LINES, headStep, ruled, unended, window, lineStep, tailStep, stepOf, stepAt, valueFrom, valueTo}

@@ -7,7 +7,8 @@ use lib.Dec.{eqb, ltb}
 use lib.ListN.{length, take, drop}
 use Rattle.text.specs.Text.{LF, upto, same}
 use Rattle.text.specs.Fields.{fieldFrom, fieldTo}
-use Rattle.book_line.specs.Line.{longestLine, judged, inOrder}
+use Rattle.book_line.specs.Line.{longestLine, inOrder}
+use Rattle.book_line.specs.Judging.{judged}
 use Rattle.book_line.specs.declared.line.Judged.{Judged}
 use Rattle.book_reader.specs.Book.{firstLine}
 use Rattle.book_reader.specs.declared.step.Step.{Step}

@@ -3,7 +3,8 @@
 ghost use mathlib.Core.Path.{_≡_};
 ghost use Prim.Native.Nat.{_+_};
 ghost use Rattle.text.specs.Part.{IsPart};
-ghost use Rattle.book_line.specs.Line.{judged, inOrder};
+ghost use Rattle.book_line.specs.Line.{inOrder};
+ghost use Rattle.book_line.specs.Judging.{judged};
 ghost use Rattle.book_reader.specs.Step as spec;
 use book_line::line::Judged;
 use book_line::line::LONGEST_LINE;

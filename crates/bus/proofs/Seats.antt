@@ -7,7 +7,7 @@ use lib.Dec.{eqb}
 use lib.ListN.{length, getD, length-map, List·getD-map}
 use Rattle.cases.proofs.ByCases.{by-test}
 use Rattle.timing.specs.Timers.{due}
-use Rattle.contention.specs.Channel.{change}
+use Rattle.contention.specs.Change.{change}
 use Rattle.contention.proofs.Change.{length-change}
 use Rattle.terminal.specs.Terminal as terminal
 use Rattle.bus.specs.Bus.{Seat, Bus, freshSeat}

@@ -14,7 +14,8 @@ use Rattle.table_6_3.specs.Table63.{G3}
 use Rattle.hdlc.specs.Image.{isBody}
 use Rattle.hdlc.specs.Reading.{Reading}
 use Rattle.dchannel.specs.Access.{normal1, normal2}
-use Rattle.contention.specs.Channel.{Station, Channel, Action, change, mayHold, holding, entering, leaving, withStations, step, run}
+use Rattle.contention.specs.Channel.{Station, Channel, Action, mayHold, holding, entering, leaving, withStations, step, run}
+use Rattle.contention.specs.Change.{change}
 use Rattle.contention.specs.Channel.Action.{hand}
 use Rattle.contention.proofs.Change.{change-map}
 use Rattle.contention.proofs.Crossing.{run-crossing, run-crossings, run-clearing, crossing, crossed, crossings, clearing}

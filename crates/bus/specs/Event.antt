@@ -13,7 +13,7 @@ use Rattle.table_6_3.specs.Table63.{G1, G2, G3, G4}
 use Rattle.table_6_3.specs.Table63 as table63
 use Rattle.hdlc.specs.Image.{image, isBody}
 use Rattle.dchannel.specs.Handing.{takenUp}
-use Rattle.contention.specs.Channel.{change}
+use Rattle.contention.specs.Change.{change}
 use Rattle.network.specs.Network as network
 use Rattle.terminal.specs.Terminal as terminal
 use Rattle.network.specs.declared.Network.{Network}

@@ -20,7 +20,7 @@ use Rattle.reader.specs.StandsFor.{StandsFor}
 use Rattle.reader.specs.declared.Reader.{Reader}
 use Rattle.reader.proofs.ReadingKept.{stands-fresh}
 use Rattle.reader.proofs.RangesKept as reader-kept
-use Rattle.contention.specs.Channel.{change}
+use Rattle.contention.specs.Change.{change}
 use Rattle.contention.proofs.Change.{change-each, change-there}
 use Rattle.dchannel.specs.Handing.{takenUp}
 use Rattle.hdlc.specs.Image.{image, IsBody, isBody, longestBody}

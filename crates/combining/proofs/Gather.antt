@@ -12,7 +12,9 @@ use lib.Seq.{drop-drop, length-take-le}
 use Rattle.symbols.specs.Symbols.{none, plus, minus, lineLength, fits, lineBy, leaves}
 use Rattle.frame.specs.Bits.{bit}
 use Rattle.info.specs.Info.{info0}
-use Rattle.combining.specs.Combine.{terminals, linesLength, isSent, only, combinedSymbol, column, rows, combined, combineFits, combinedReply, eight, gathered, gatheredSymbol}
+use Rattle.combining.specs.Combine.{isSent, only, combinedSymbol, column, combined}
+use Rattle.combining.specs.Gathering.{gathered, gatheredSymbol}
+use Rattle.combining.specs.Calls.{terminals, linesLength, rows, combineFits, combinedReply, eight}
 use Rattle.combining.specs.declared.combine.Combined.{Combined}
 use Rattle.cases.proofs.ByCases.{at-each-below}
 use Rattle.symbols.proofs.Lines.{Small, within-small, fits-within}

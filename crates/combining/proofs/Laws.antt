@@ -17,7 +17,8 @@ use Rattle.frame.specs.Down.{downLine, eIndex, aIndex}
 use Rattle.frame.proofs.Laws.{d-up, e-down, a-down}
 use Rattle.info.specs.Info.{info3Fields}
 use Rattle.info.proofs.Laws.{line-info0, line-info1, line-info3}
-use Rattle.combining.specs.Combine.{isSent, only, combinedSymbol, column, combined, rows, laid}
+use Rattle.combining.specs.Combine.{isSent, only, combinedSymbol, column, combined}
+use Rattle.combining.specs.Calls.{rows, laid}
 use Rattle.combining.specs.Sent.{Sent, sentLine}
 use Rattle.combining.specs.Sent.Sent.{silent, calling, frame}
 use Rattle.combining.specs.Hit.{keepLetter, plusLetter, minusLetter, struck, hit, struckBit, struckE, struckA}

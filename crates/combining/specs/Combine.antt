@@ -1,13 +1,11 @@
 -- Several terminals on one line (document 01, "The line": together, several terminals give plus where only plus is sent, minus where
 -- only minus, none otherwise).
-use mathlib.Core.Bool.{Bool, true, false, cond, _&&_, _||_}
-use mathlib.Core.List.{List, [], _∷_, _++_, map}
-use Prim.Native.Nat.{ℕ, zero, suc, _*_}
-use lib.Bits.{bitOr}
+use mathlib.Core.Bool.{Bool, true, false, _||_}
+use mathlib.Core.List.{List, [], _∷_, map}
+use Prim.Native.Nat.{ℕ}
 use lib.Dec.{eqb}
-use lib.ListN.{getD, take, drop}
-use Rattle.symbols.specs.Symbols.{lineLength, none, plus, minus, fits, tabulate, hasLineLength}
-use Rattle.combining.specs.declared.combine.Combined.{Combined}
+use lib.ListN.{getD}
+use Rattle.symbols.specs.Symbols.{lineLength, none, plus, minus, tabulate}
 
 -- Whether s is among the symbols sent.
 unfoldable pub isSent : ℕ → List ℕ → Bool
@@ -35,44 +33,3 @@ combinedOver n ls = tabulate n (λ i. combinedSymbol (column i ls))
 
 unfoldable pub combined : List (List ℕ) → List ℕ
 combined ls = combinedOver lineLength ls
-
--- The terminals of a bus, and the symbols of all their lines.
-abbrev pub terminals : ℕ
-terminals = 8
-
-abbrev pub linesLength : ℕ
-linesLength = terminals * lineLength
-
--- A list of n times 48 symbols as n lines.
-unfoldable pub rows : ℕ → List ℕ → List (List ℕ)
-rows zero l = []
-rows (suc n) l = take lineLength l ∷ rows n (drop lineLength l)
-
--- Lines laid one after the other, as they are lent.
-unfoldable pub laid : List (List ℕ) → List ℕ
-laid [] = []
-laid (l ∷ ls) = l ++ laid ls
-
--- The eight terminals' lines are lent as 384 symbols, and the combined line goes into 48 octets: refusal 2 for a wrong length or code.
-abbrev pub combineFits : List ℕ → List ℕ → Bool
-combineFits lines lent = hasLineLength lent && fits linesLength minus lines
-
--- What the call replies.
-abbrev pub combinedReply : Bool → Combined
-combinedReply good = cond good Combined.Line (Combined.Refused 2)
-
--- The combined line of the eight.
-abbrev pub eight : List ℕ → List ℕ
-eight lines = combined (rows terminals lines)
-
--- How the code gathers what is sent at a position, bit by bit: plus and minus together are 3.
-abbrev pub plusAndMinus : ℕ
-plusAndMinus = 3
-
-unfoldable pub gathered : ℕ → List ℕ → ℕ
-gathered m [] = m
-gathered m (x ∷ xs) = gathered (bitOr m x) xs
-
--- The symbol of what is gathered.
-abbrev pub gatheredSymbol : ℕ → ℕ
-gatheredSymbol m = cond (eqb m plusAndMinus) none m

@@ -15,7 +15,8 @@ use Rattle.frame.specs.declared.fields.Four.{Four}
 use Rattle.frame.specs.declared.fields.DownFields.{DownFields}
 use Rattle.frame.specs.declared.fields.UpFields.{UpFields}
 use Rattle.info.specs.Info.{info0, info1, info3}
-use Rattle.combining.specs.Combine.{terminals, linesLength, combinedOver, combined, rows, laid, eight}
+use Rattle.combining.specs.Combine.{combinedOver, combined}
+use Rattle.combining.specs.Calls.{terminals, linesLength, rows, laid, eight}
 use Rattle.combining.specs.Groups.{Combines, allOf, ofSender}
 use Rattle.combining.specs.Sent.{Sent, sentLine, sentD, anyCalling, frames, framesLine, heardWithInfo1}
 use Rattle.combining.specs.Hit.{keepLetter, plusLetter, minusLetter, noneLetter, struck, hit, struckBit, struckE, struckA}

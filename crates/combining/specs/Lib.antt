@@ -1,5 +1,7 @@
 -- Several terminals on one line, and hits.
 pub mod Combine
+pub mod Calls
+pub mod Gathering
 pub mod Groups
 pub mod Sent
 pub mod Hit

@@ -4,7 +4,7 @@ use mathlib.Core.List.{List, [], _∷_, _++_, map}
 use Prim.Native.Nat.{ℕ, zero, suc, _<_}
 use native.Mathlib.Omega.{arith}
 use lib.ListN.{length, getD}
-use Rattle.contention.specs.Channel.{change}
+use Rattle.contention.specs.Change.{change}
 
 module _ {A : Type 0} (f : A → A) where
   pub length-change : (i : ℕ) (xs : List A) → length (change f i xs) ≡ length xs

@@ -11,7 +11,8 @@ use borrow.Author.Tests.{eqb-true, eq-eqb, ne-eqb}
 use Rattle.cases.proofs.ByCases.{by-test}
 use Rattle.dchannel.specs.Access.{entered}
 use Rattle.dchannel.specs.Handing.{takenUp}
-use Rattle.contention.specs.Channel.{Station, Channel, Action, freshStation, mayHold, holding, entering, change, turnAt, hears, step}
+use Rattle.contention.specs.Channel.{Station, Channel, Action, freshStation, mayHold, holding, entering, turnAt, hears, step}
+use Rattle.contention.specs.Change.{change}
 use Rattle.contention.specs.Channel.Action.{hand, enter, leave, clear, opportunity}
 use Rattle.contention.specs.Stretch.{Stretch, opportunities, station, Completes, howMany}
 use Rattle.contention.specs.Claims.{at, InStretches}

@@ -8,7 +8,8 @@ use Prim.Native.Nat.{ℕ, suc}
 use native.Mathlib.Numerals.{add-one}
 use lib.ListN.{length, getD, length-append, List·getD-map}
 use Rattle.hdlc.specs.Reading.{cleared}
-use Rattle.contention.specs.Channel.{Station, Channel, Action, freshStation, change, entering, leaving, withStations, step, run}
+use Rattle.contention.specs.Channel.{Station, Channel, Action, freshStation, entering, leaving, withStations, step, run}
+use Rattle.contention.specs.Change.{change}
 use Rattle.contention.specs.Channel.Action.{enter, leave, clear}
 use Rattle.contention.specs.Stretch.{Stretch, opportunities, station}
 use Rattle.contention.proofs.Change.{change-at, change-same}

@@ -2,7 +2,7 @@
 -- it is a list of actions. x1 and x2 are the normal levels of class 1 and class 2, 8 and 10 in document 01.
 use mathlib.Core.Bool.{Bool, true, false, cond, _&&_, _||_}
 use mathlib.Core.List.{List, [], _∷_, map}
-use Prim.Native.Nat.{ℕ, zero, suc}
+use Prim.Native.Nat.{ℕ}
 use lib.Dec.{eqb}
 use lib.ListN.{length, getD, replicate}
 use Rattle.dchannel.specs.declared.access.Access.{Access}
@@ -11,6 +11,7 @@ use Rattle.hdlc.specs.Image.{image, isBody}
 use Rattle.dchannel.specs.Access.{fresh, entered, turn}
 use Rattle.dchannel.specs.Handing.{takenUp, left}
 use Rattle.hdlc.specs.Reading.{Reading, cleared, next}
+use Rattle.contention.specs.Change.{change}
 
 -- a terminal as the D channel sees it
 pub record Station : Type 0 where
@@ -36,12 +37,6 @@ pub data Action : Type 0 where
   -- "A D opportunity is an E and the D after it": the E that all terminals in F7 hear, the D that the network end hears, and whether it
   -- reads D (in G3)
   opportunity : Bool → Bool → Bool → Action
-
--- the one at an index changed
-unfoldable pub change : {A : Type 0} → (A → A) → ℕ → List A → List A
-change f i [] = []
-change f zero (x ∷ xs) = f x ∷ xs
-change f (suc i) (x ∷ xs) = x ∷ change f i xs
 
 -- a frame is taken by a terminal in F7 that holds none, for class 1 or 2, if it is a body (refusals 6 to 8); else nothing changes
 unfoldable pub mayHold : ℕ → List ℕ → Station → Bool

@@ -11,7 +11,8 @@ use Rattle.dchannel.specs.Access.{entered, countAfter, lowAfter, afterE, lowOf,
 use Rattle.hdlc.specs.Reading.{Said, startsWith, unstuff, reversed, rest, contents, between, aborted, says, said, next}
 use Rattle.hdlc.specs.Reading.Said.{nothing, torn, heard}
 use Rattle.dchannel.specs.Handing.{takenUp, left}
-use Rattle.contention.specs.Channel.{Station, Channel, Action, change, mayHold, holding, entering, leaving, nextBit, turnAt, hears, sendsD, combinedD, step, freshChannel}
+use Rattle.contention.specs.Channel.{Station, Channel, Action, mayHold, holding, entering, leaving, nextBit, turnAt, hears, sendsD, combinedD, step, freshChannel}
+use Rattle.contention.specs.Change.{change}
 use Rattle.contention.specs.Channel.Action.{hand, enter}
 use Rattle.contention.specs.Stretch.{saidAt, onward}
 use Rattle.contention.specs.Claims.{waitBound}

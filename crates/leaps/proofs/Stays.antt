@@ -11,7 +11,7 @@ use Rattle.cases.proofs.ByCases.{behind}
 use Rattle.cases.proofs.Operators.{and-both}
 use Rattle.walks.specs.Over.{foldFrom}
 use Rattle.timing.specs.Counts.{mostPeriods}
-use Rattle.timing.specs.Timers.{Clear, clear}
+use Rattle.timing.specs.Clear.{Clear, clear}
 use Rattle.timing.proofs.TimerLaws.{clear-most, clear-is, clear-later}
 use Rattle.hearing.specs.declared.heard.Downward.{Downward}
 use Rattle.terminal.specs.declared.Terminal.{Terminal}

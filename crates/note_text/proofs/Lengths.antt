@@ -12,7 +12,8 @@ use Rattle.cells.specs.Names.{plain, printed, printedAs}
 use Rattle.cells.specs.Notes.{HEARD, REFUSED}
 use Rattle.bus.specs.Bus.{Note}
 use Rattle.text.specs.Text.{LF}
-use Rattle.note_text.specs.NoteText.{decimalIn, decimal, hexOf, note, named, openValue, noteLine}
+use Rattle.note_text.specs.NoteText.{decimalIn, decimal, hexOf, note, noteLine}
+use Rattle.note_text.specs.LineParts.{named, openValue}
 use Rattle.note_text.specs.NoteOctets.{noteOctets}
 use Rattle.note_text.specs.Lengths.{DecimalFits, LineFits, RefusedFits, HeardFits, OctetsLength}
 use Rattle.note_text.proofs.DecimalLaws.{decimal-length}

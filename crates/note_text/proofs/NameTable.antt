@@ -12,7 +12,7 @@ use Rattle.cells.specs.Names.{Value, printed, printedAs}
 use Rattle.cells.specs.Names.Value.{no-value, body, number, word}
 use Rattle.cells.specs.Notes.{HEARD, REFUSED}
 use Rattle.cells.proofs.Rows.{sameNumbers, same-numbers}
-use Rattle.note_text.specs.NoteText.{named, openValue}
+use Rattle.note_text.specs.LineParts.{named, openValue}
 
 -- The texts of the codes from one on; how they lie one behind the other, and where each begins.
 abbrev pub texts : ℕ → ℕ → List (List ℕ)

@@ -13,7 +13,8 @@ use Rattle.cells.specs.Names.{Value, printedAs}
 use Rattle.cells.specs.Names.Value.{no-value, body, number, word}
 use Rattle.bus.specs.Bus.{Note, notesOf}
 use Rattle.text.specs.Text.{LF, space}
-use Rattle.note_text.specs.NoteText.{decimal, valueText, fixedValue, named, openValue, note, noteLine, noteIn, notesIn}
+use Rattle.note_text.specs.NoteText.{decimal, valueText, note, noteLine, noteIn, notesIn}
+use Rattle.note_text.specs.LineParts.{fixedValue, named, openValue}
 use Rattle.note_text.specs.declared.form.Form.{Form}
 
 -- a value in the part that the code decides and the other

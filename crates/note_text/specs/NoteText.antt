@@ -84,22 +84,6 @@ notesIn form (n ∷ notes) = noteIn form n ++ notesIn form notes
 abbrev pub notesText : List Note → List ℕ
 notesText notes = notesIn Line notes
 
--- ---- A note's line in the parts in which it is put: behind the unit what the code decides, then the rest of the value, then LF.
-abbrev pub fixedValue : Value → List ℕ
-fixedValue no-value = ascii "-"
-fixedValue body = []
-fixedValue number = []
-fixedValue (word w) = w
-
-unfoldable pub named : ℕ → List ℕ
-named code = space ∷ printedAs code .name ++ (space ∷ fixedValue (printedAs code .value))
-
-abbrev pub openValue : Value → List ℕ → List ℕ
-openValue no-value value = []
-openValue body value = hexOf value
-openValue number value = decimal (getD value 0 0)
-openValue (word w) value = []
-
 -- ---- Computed: document 01's example report, line by line, and some numbers.
 pub example-report :
     map noteLine

@@ -11,7 +11,7 @@ use Rattle.cases.proofs.Operators.{and-both}
 use Rattle.cells.specs.Cells.{infoIn}
 use Rattle.table_6_2.specs.Table62.{F1, F7, infoSent}
 use Rattle.table_6_3.specs.Table63.{G3}
-use Rattle.timing.specs.Timers.{Clear}
+use Rattle.timing.specs.Clear.{Clear}
 use Rattle.timing.proofs.TimerLaws.{clear-most, clear-is}
 use Rattle.timing.specs.declared.counts.Periods.{Periods}
 use Rattle.terminal.specs.declared.Terminal.{Terminal}

@@ -8,7 +8,7 @@ use Rattle.walks.specs.Over.{foldFrom}
 use Rattle.cells.specs.Cells.{infoIn}
 use Rattle.table_6_2.specs.Table62.{F7}
 use Rattle.timing.specs.Counts.{atPeriod}
-use Rattle.timing.specs.Timers.{clear}
+use Rattle.timing.specs.Clear.{clear}
 use Rattle.dchannel.specs.Access.{countAfter}
 use Rattle.hdlc.specs.Bits.{bitOf}
 use Rattle.packing.specs.Packing.{packedBit}

@@ -8,7 +8,7 @@ use lib.Dec.{eqb, ltb}
 use Rattle.walks.specs.Over.{mapFrom, foldFrom}
 use Rattle.table_6_2.specs.Table62.{F7}
 use Rattle.table_6_3.specs.Table63.{G3}
-use Rattle.timing.specs.Timers.{Clear, clear}
+use Rattle.timing.specs.Clear.{Clear, clear}
 use Rattle.timing.specs.declared.counts.Periods.{Periods}
 use Rattle.terminal.specs.declared.Terminal.{Terminal}
 use Rattle.bus.specs.Quick.{shownBy}

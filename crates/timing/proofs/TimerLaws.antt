@@ -9,7 +9,8 @@ use borrow.Author.Tests.{ltb-true, ltb-false, leb-true, leb-false, lt-leb, ne-eq
 use Rattle.cases.proofs.ByCases.{by-test}
 use Rattle.timing.specs.Counts.{mostPeriods, atPeriod, nextPeriod}
 use Rattle.timing.specs.declared.counts.Periods.{Periods}
-use Rattle.timing.specs.Timers.{due, Clear, clear}
+use Rattle.timing.specs.Timers.{due}
+use Rattle.timing.specs.Clear.{Clear, clear}
 
 pub clear-most : (now most timer : ℕ) → clear now most timer ≤ most
 unfolding clear

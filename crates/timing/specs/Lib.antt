@@ -1,3 +1,4 @@
--- Counts of periods and D opportunities, and timers.
+-- Counts of periods and D opportunities, timers, and how long a timer is not due.
 pub mod Counts
 pub mod Timers
+pub mod Clear

@@ -1,8 +1,7 @@
 -- Timers (document 01, "Order inside a period"): the period at whose start one is due, 0 for none.
 use mathlib.Core.Bool.{Bool, false, cond}
-use mathlib.Core.Logic.{_⊎_}
-use Prim.Native.Nat.{ℕ, _+_, _-_, _≤_, _<_}
-use lib.Dec.{eqb, ltb, leb}
+use Prim.Native.Nat.{ℕ, _+_}
+use lib.Dec.{eqb}
 use Rattle.cells.specs.Cells.{START, STOP}
 
 -- "T1 and T3 are 120,000 periods, T2 is 200"
@@ -26,11 +25,3 @@ startedBy start v action now timer = cond (eqb action start) (now + v) timer
 -- A timer that START starts and STOP stops.
 unfoldable pub timerAfter : ℕ → ℕ → ℕ → ℕ → ℕ
 timerAfter v action now timer = cond (eqb action STOP) 0 (startedBy START v action now timer)
-
--- A timer that is due at none of the next n periods' starts; `now` is the number of the coming period.
-abbrev pub Clear : ℕ → ℕ → ℕ → Type 0
-Clear now n timer = (timer ≤ now) ⊎ (now + n < timer)
-
--- How many of the next periods' starts come before a timer is due, `most` at most.
-unfoldable pub clear : ℕ → ℕ → ℕ → ℕ
-clear now most timer = cond (ltb now timer) (cond (leb (timer - now) most) (timer - now - 1) most) most

@@ -1,6 +1,7 @@
 // Timers: the period at whose start one is due, 0 for none.
 ghost use mathlib.Core.Path.{_≡_};
-ghost use Rattle.timing.specs.Timers.{due, startedBy, timerAfter, clear};
+ghost use Rattle.timing.specs.Timers.{due, startedBy, timerAfter};
+ghost use Rattle.timing.specs.Clear.{clear};
 use super::counts::Periods;
 use cells::cell::START;
 use cells::cell::STOP;

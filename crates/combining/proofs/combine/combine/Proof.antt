@@ -7,7 +7,7 @@ use Rattle.symbols.specs.Symbols.{minus, hasLineLength, fits}
 use Rattle.symbols.proofs.Lines.{fits-length}
 use Rattle.symbols.proofs.Written.{left-written}
 use Rattle.info.specs.Info.{info0}
-use Rattle.combining.specs.Combine.{linesLength}
+use Rattle.combining.specs.Calls.{linesLength}
 use Rattle.combining.proofs.Gather.{combine-refused, combine-done, combines}
 use borrow.Author.Needs.{needs}
 use Rattle.combining.proofs.combine.combine.Statement.{statement}

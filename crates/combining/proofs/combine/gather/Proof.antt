@@ -3,7 +3,7 @@ use mathlib.Core.Path.{_≡_, sym, _∙_}
 use Prim.Native.Nat.{_+_, _-_, _*_}
 use native.Mathlib.Omega.{arith}
 use Rattle.symbols.specs.Symbols.{lineLength}
-use Rattle.combining.specs.Combine.{terminals}
+use Rattle.combining.specs.Calls.{terminals}
 use Rattle.combining.proofs.Gather.{Gathering, gather-start, gather-next, gather-done, part-line}
 use Rattle.combining.proofs.combine.gather.Statement.{statement}
 use Rattle.combining.proofs.combine.gather.Tie as tie

@@ -3,7 +3,7 @@ use mathlib.Core.Path.{sym, _∙_}
 use Prim.Native.Nat.{ℕ, _-_}
 use native.Mathlib.Omega.{arith}
 use lib.ListN.{getD}
-use Rattle.combining.specs.Combine.{gatheredSymbol}
+use Rattle.combining.specs.Gathering.{gatheredSymbol}
 use Rattle.symbols.specs.Symbols.{none, lineLength}
 use Rattle.symbols.proofs.Fill.{Filled, fill-start, fill-next, fill-read, fill-done}
 use Rattle.combining.proofs.combine.resolve.Statement.{statement}

@@ -1,6 +1,6 @@
 -- `timing::timers::clear` meets its contract.
 use borrow.Author.Tests.{lt-ltb, le-ltb, le-leb, lt-leb}
-use Rattle.timing.specs.Timers.{clear}
+use Rattle.timing.specs.Clear.{clear}
 use borrow.Author.Needs.{needs}
 use Rattle.timing.proofs.timers.clear.Statement.{statement}
 use Rattle.timing.proofs.timers.clear.Tie as tie

@@ -1,0 +1,37 @@
+-- Calls: what the call that combines the eight terminals' lines is lent, and what it replies.
+use mathlib.Core.Bool.{Bool, cond, _&&_}
+use mathlib.Core.List.{List, [], _∷_, _++_}
+use Prim.Native.Nat.{ℕ, zero, suc, _*_}
+use lib.ListN.{take, drop}
+use Rattle.symbols.specs.Symbols.{lineLength, minus, fits, hasLineLength}
+use Rattle.combining.specs.Combine.{combined}
+use Rattle.combining.specs.declared.combine.Combined.{Combined}
+
+-- The terminals of a bus, and the symbols of all their lines.
+abbrev pub terminals : ℕ
+terminals = 8
+
+abbrev pub linesLength : ℕ
+linesLength = terminals * lineLength
+
+-- A list of n times 48 symbols as n lines.
+unfoldable pub rows : ℕ → List ℕ → List (List ℕ)
+rows zero l = []
+rows (suc n) l = take lineLength l ∷ rows n (drop lineLength l)
+
+-- Lines laid one after the other, as they are lent.
+unfoldable pub laid : List (List ℕ) → List ℕ
+laid [] = []
+laid (l ∷ ls) = l ++ laid ls
+
+-- The eight terminals' lines are lent as 384 symbols, and the combined line goes into 48 octets: refusal 2 for a wrong length or code.
+abbrev pub combineFits : List ℕ → List ℕ → Bool
+combineFits lines lent = hasLineLength lent && fits linesLength minus lines
+
+-- What the call replies.
+abbrev pub combinedReply : Bool → Combined
+combinedReply good = cond good Combined.Line (Combined.Refused 2)
+
+-- The combined line of the eight.
+abbrev pub eight : List ℕ → List ℕ
+eight lines = combined (rows terminals lines)

@@ -1,0 +1,18 @@
+-- How the code goes: what is sent at a position is gathered bit by bit, and plus and minus together are 3.
+use mathlib.Core.Bool.{cond}
+use mathlib.Core.List.{List, [], _∷_}
+use Prim.Native.Nat.{ℕ}
+use lib.Bits.{bitOr}
+use lib.Dec.{eqb}
+use Rattle.symbols.specs.Symbols.{none}
+
+abbrev pub plusAndMinus : ℕ
+plusAndMinus = 3
+
+unfoldable pub gathered : ℕ → List ℕ → ℕ
+gathered m [] = m
+gathered m (x ∷ xs) = gathered (bitOr m x) xs
+
+-- The symbol of what is gathered.
+abbrev pub gatheredSymbol : ℕ → ℕ
+gatheredSymbol m = cond (eqb m plusAndMinus) none m
