@@ -13,10 +13,12 @@ use Rattle.cells.specs.Cells.{infoIn}
 use Rattle.table_6_3.specs.Table63.{infoSent}
 use Rattle.hearing.specs.Sensing.{shownDown}
 use Rattle.hearing.specs.declared.heard.Downward.{Downward}
+use Rattle.terminal.specs.declared.Terminal.{Terminal}
 use Rattle.bus.specs.Bus.{Hit}
 use Rattle.bus.specs.Quick.{shownBy}
 use Rattle.exchange.specs.Moment as exchange
 use Rattle.exchange.specs.Shown.{lettersOf}
+use Rattle.exchange.specs.Opportunities.{momentAfterFour, terminalsAfterFour}
 use Rattle.exchange.specs.declared.moment.Moment.{Moment}
 use Rattle.bus_record.specs.declared.record.BusRecord.{BusRecord}
 
@@ -46,3 +48,15 @@ unfoldable pub heardDown : BusRecord → Four → List ℕ → Downward
 heardDown r ds letters =
     let line = lineFor (r .network .state) (sentEs r ds) in
     cond (r .hit) (shownDown (leaves (hitFits letters line) (hit letters line) line)) (shownBy (r .network .state))
+
+-- ---- A period's exchange over all terminals.
+-- the exchange, and the terminals after it
+unfoldable pub stepMoment : BusRecord → List Terminal → List ℕ → List ℕ → Moment
+stepMoment bus ts images letters = momentAfterFour images (firstMoment bus letters) ts
+
+unfoldable pub stepExchanged : BusRecord → List Terminal → List ℕ → List ℕ → List Terminal
+stepExchanged bus ts images letters = terminalsAfterFour images (firstMoment bus letters) ts
+
+-- what the terminals hear
+unfoldable pub stepLine : BusRecord → List Terminal → List ℕ → List ℕ → Downward
+stepLine bus ts images letters = heardDown bus (stepMoment bus ts images letters .ds) letters

@@ -15,6 +15,7 @@ use Rattle.timing.specs.declared.counts.Periods.{Periods}
 use Rattle.dchannel.specs.declared.access.Class.{Class}
 use Rattle.dchannel.specs.declared.access.Class.the-variants.{One, Two}
 use Rattle.hdlc.specs.Image.{image}
+use Rattle.hearing.specs.Sensing.{shownDown}
 use Rattle.network.specs.Network as network
 use Rattle.network.proofs.Laws as network-laws
 use Rattle.terminal.specs.Terminal as terminal
@@ -26,17 +27,19 @@ use Rattle.bus.specs.Bus.{Note, notesOf}
 use Rattle.bus.specs.Calls.Call.{event, period}
 use Rattle.bus.specs.Event.{ON, OFF, AR, D1, D2, HIT}
 use Rattle.bus.specs.Exchange.{Sender, exchanged, wholeDown}
+use Rattle.bus.specs.Period.{terminalHears}
 use Rattle.bus.proofs.Telling.{network-hears-plain, network-timers-plain, terminal-hears-plain}
 use Rattle.reader.specs.declared.ReaderAnswer.{ReaderAnswer}
 use Rattle.reader.specs.declared.ReaderAnswer.the-variants.{Nothing, Heard, Torn, Refused}
 use Rattle.hdlc.specs.Bits.{bitOf}
+use Rattle.listening.specs.Shown.{heardNotes, timedNotes, terminalNotes}
 use Rattle.listening.specs.declared.hears.UnitNotes.{UnitNotes}
 use Rattle.bus_record.specs.declared.record.BusRecord.{BusRecord}
 use Rattle.bus_record.specs.declared.side.Ran.{Ran}
 use Rattle.bus_event.specs.Event as parts
 use Rattle.call_rules.specs.Kept.{Kept}
 use Rattle.call_rules.specs.Shown.{busIn}
-use Rattle.call_rules.specs.Period.{noteOf, networkNotes, terminalNotes, terminalsNotes, answersIn, periodRan, keptRun}
+use Rattle.call_rules.specs.Period.{noteOf, networkNotes, terminalsNotes, answersIn, periodRan, keptRun}
 use Rattle.call_rules.specs.Ready.{goesOn}
 use Rattle.call_rules.specs.Run.{ran, keptAfter}
 use Rattle.call_rules.specs.Event.{reason, eventTold}
@@ -111,8 +114,8 @@ said-code (Refused k ∷ more) h = said-code more h
 -- ---- A period.
 module _ (k : Kept) where
   all-codes : (ss : List Sender)
-      → AllCodes (map (λ (s : Sender). terminalNotes (wholeDown (exchanged (busIn k))) (busIn k .periods) (s .seat .terminal)) ss)
-  unfolding AllCodes terminalNotes
+      → AllCodes (map (λ (s : Sender). terminalNotes (shownDown (wholeDown (exchanged (busIn k)))) (busIn k .periods) (s .seat .terminal)) ss)
+  unfolding AllCodes terminalNotes heardNotes timedNotes terminalHears
   all-codes [] = tt
   all-codes (s ∷ ss) = (
     of-tables _ (terminal-hears-plain (wholeDown (exchanged (busIn k))) (busIn k .periods) (s .seat .terminal)),

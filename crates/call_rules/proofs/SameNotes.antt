@@ -9,6 +9,7 @@ use Rattle.hdlc.specs.Bits.{numberLowFirst, bitOf}
 use Rattle.hdlc.proofs.OctetLaws.{number-bit}
 use Rattle.bus.specs.Bus.{Bus, freshSeat}
 use Rattle.bus.specs.Exchange.{Sender, seatsOf, turned, doneOf, hearsE, seated, exchanged, wholeDown}
+use Rattle.hearing.specs.Sensing.{shownDown}
 use Rattle.bus.specs.Period.{terminalHears, stepped, doneCodes, hearingNotes, timerNotes}
 use Rattle.bus.specs.Event.{among}
 use Rattle.bus.specs.Stretch.{seatAt}
@@ -18,7 +19,8 @@ use Rattle.bus.proofs.Ranges.{done-bits-in}
 use Rattle.listening.specs.declared.hears.UnitNotes.{UnitNotes}
 use Rattle.bus_record.specs.declared.side.Ran.{Ran}
 use Rattle.exchange.specs.Shown.{doneOctet}
-use Rattle.call_rules.specs.Period.{dRead, leftG3, doneMask, networkNotes, terminalNotes, terminalsNotes}
+use Rattle.listening.specs.Shown.{heardNotes, timedNotes, terminalNotes}
+use Rattle.call_rules.specs.Period.{dRead, leftG3, doneMask, networkNotes, terminalsNotes}
 use Rattle.call_rules.specs.Lists.{doneNotes, terminalsTold, timersTold}
 use Rattle.call_rules.proofs.Pairs.{both-equal}
 use Rattle.call_rules.proofs.SameExchange.{SameSender, SameBus, exchanged-same, ds-same, down-same, network-hears-same, heard-same, period-same}
@@ -47,8 +49,8 @@ module _ (a b : Bus) (h : SameBus a b) where
   unfolding terminalsNotes
   terminals-notes-same =
       both-equal SameSender
-      (λ (s : Sender). terminalNotes (wholeDown (exchanged a)) (a .periods) (s .seat .terminal))
-      (λ (s : Sender). terminalNotes (wholeDown (exchanged b)) (b .periods) (s .seat .terminal))
+      (λ (s : Sender). terminalNotes (shownDown (wholeDown (exchanged a))) (a .periods) (s .seat .terminal))
+      (λ (s : Sender). terminalNotes (shownDown (wholeDown (exchanged b))) (b .periods) (s .seat .terminal))
       (λ s t e. rw (down-same _ _ (exchanged-same a b h), h .periods-is, e .seat .terminal-is))
       (exchanged-same a b h .senders)
 
@@ -73,12 +75,12 @@ module _ (b : Bus) (r : InRange b) where
 -- ---- the terminals' notes
 module _ (down : List ℕ) (now : ℕ) where
   abbrev told : Sender → UnitNotes
-  told s = terminalNotes down now (s .seat .terminal)
+  told s = terminalNotes (shownDown down) now (s .seat .terminal)
 
   pub hearing-told : (r : Ran) (d : Sender) (i : ℕ) (ss : List Sender) →
       ((j : ℕ) → doneNotes (bitOf (r .done1) (i + j)) (bitOf (r .done2) (i + j)) ≡ doneCodes (getD ss j d .done)) →
       terminalsTold now r i (map told ss) ≡ hearingNotes down now (suc i) ss
-  unfolding terminalsTold hearingNotes terminalNotes
+  unfolding terminalsTold hearingNotes terminalNotes heardNotes timedNotes terminalHears
   hearing-told r d i [] h = refl
   hearing-told r d i (s ∷ ss) h =
       let z : i + 0 ≡ i = omega arith in
@@ -87,6 +89,6 @@ module _ (down : List ℕ) (now : ℕ) where
 
   pub timers-told : (i : ℕ) (ss : List Sender) →
       timersTold (now + 1) i (map told ss) ≡ timerNotes (now + 1) (suc i) (map (stepped (terminalHears down now)) (seatsOf ss))
-  unfolding timersTold timerNotes terminalNotes stepped
+  unfolding timersTold timerNotes terminalNotes heardNotes timedNotes terminalHears stepped
   timers-told i [] = refl
   timers-told i (s ∷ ss) = rw (timers-told (suc i) ss)

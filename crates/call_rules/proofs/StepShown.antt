@@ -37,9 +37,9 @@ use Rattle.exchange.specs.Shown.{doneOctet, firstOf, Exchanges}
 use Rattle.exchange.specs.declared.moment.Moment.{Moment}
 use Rattle.exchange.proofs.Shown.{exchange-shown}
 use Rattle.listening.specs.Hears.{heardOne, hasNote, notesAfter, toldAfter}
-use Rattle.listening.specs.Shown.{allInRange, terminalsOf, heardNotes, timedNotes, notesThen}
+use Rattle.listening.specs.Shown.{allInRange, terminalsOf, terminalNotes}
 use Rattle.listening.proofs.Shown.{seats-shown, notes-shown}
-use Rattle.bus_record.specs.Echo.{hitIn, firstMoment, lineFor, sentEs, heardDown}
+use Rattle.bus_record.specs.Echo.{hitIn, firstMoment, lineFor, sentEs, heardDown, stepMoment, stepExchanged, stepLine}
 use Rattle.bus_record.specs.NetworkSide as side
 use Rattle.bus_record.specs.Reading.{readIn}
 use Rattle.bus_event.specs.Event.{areLetters}
@@ -47,8 +47,8 @@ use Rattle.bus_record.specs.declared.record.BusRecord.{BusRecord}
 use Rattle.call_rules.specs.Kept.{Kept}
 use Rattle.call_rules.specs.Shown.{busIn}
 use Rattle.call_rules.specs.Period as period
-use Rattle.call_rules.specs.Period.{periodRan, keptRun, terminalNotes, terminalsNotes, networkNotes, leftG3, anyNote}
-use Rattle.call_rules.specs.Step.{stepMoment, stepExchanged, stepLine, stepTerminals, stepNotes, stepTold, stepRan, stepOctets, StepShows, StepShown}
+use Rattle.call_rules.specs.Period.{periodRan, keptRun, terminalsNotes, networkNotes, leftG3, anyNote}
+use Rattle.call_rules.specs.Step.{stepTerminals, stepNotes, stepTold, stepRan, stepOctets, StepShows, StepShown}
 use Rattle.call_rules.proofs.ReadFour.{read-in, octets-in}
 use Rattle.call_rules.proofs.InOrder.{InOrder, in-order, one-left, all-fit, bus-in-range}
 
@@ -86,8 +86,7 @@ told-noted line now i told (t ∷ ts) =
 
 -- ---- Their notes.
 notes-of : (down : List ℕ) (now : ℕ) (ss : List Sender) →
-    map (notesThen (shownDown down) now) (terminalsOf (seatsOf ss)) ≡ map (λ (s : Sender). terminalNotes down now (s .seat .terminal)) ss
-unfolding notesThen heardNotes timedNotes terminalNotes terminalHears
+    map (terminalNotes (shownDown down) now) (terminalsOf (seatsOf ss)) ≡ map (λ (s : Sender). terminalNotes (shownDown down) now (s .seat .terminal)) ss
 notes-of down now [] = refl
 notes-of down now (s ∷ ss) = rw (notes-of down now ss)
 

@@ -6,9 +6,8 @@ use lib.Dec.{eqb}
 use Rattle.cells.specs.Notes.{HEARD, TORN}
 use Rattle.table_6_3.specs.Table63.{G3}
 use Rattle.timing.specs.Counts.{atPeriod}
+use Rattle.hearing.specs.Sensing.{shownDown}
 use Rattle.network.specs.Network as network
-use Rattle.terminal.specs.Terminal as terminal
-use Rattle.terminal.specs.declared.Terminal.{Terminal}
 use Rattle.reader.specs.Counters.{freshReader}
 use Rattle.reader.specs.Calls as reader
 use Rattle.reader.specs.declared.Reader.{Reader}
@@ -16,8 +15,9 @@ use Rattle.reader.specs.declared.ReaderAnswer.{ReaderAnswer}
 use Rattle.reader.specs.declared.ReaderAnswer.the-variants.{Nothing, Heard, Torn, Refused}
 use Rattle.bus.specs.Bus.{Seat, Bus}
 use Rattle.bus.specs.Exchange.{Sender, opportunitiesOf, dComes, exchanged, wholeDown, wholeUp}
-use Rattle.bus.specs.Period.{networkHears, terminalHears, heardBy, periodRun}
+use Rattle.bus.specs.Period.{networkHears, heardBy, periodRun}
 use Rattle.listening.specs.Hears.{hasNote}
+use Rattle.listening.specs.Shown.{terminalNotes}
 use Rattle.listening.specs.declared.hears.UnitNotes.{UnitNotes}
 use Rattle.exchange.specs.Shown.{doneOctet}
 use Rattle.bus_record.specs.NetworkSide.{leavesG3}
@@ -76,16 +76,9 @@ networkNotes b =
       timed = network.timers (b .periods + 1) (heardBy (exchanged b) b .network) .notes;
     }
 
--- a terminal that hears the line `down` in period `now`
-unfoldable pub terminalNotes : List ℕ → ℕ → Terminal → UnitNotes
-terminalNotes down now t =
-    record {
-      heard = terminalHears down now t .notes;
-      timed = terminal.timer (now + 1) (terminalHears down now t .terminal) .notes;
-    }
-
+-- the terminals: what each says of hearing the line, and of the timers
 unfoldable pub terminalsNotes : Bus → List UnitNotes
-terminalsNotes b = map (λ (s : Sender). terminalNotes (wholeDown (exchanged b)) (b .periods) (s .seat .terminal)) (exchanged b .senders)
+terminalsNotes b = map (λ (s : Sender). terminalNotes (shownDown (wholeDown (exchanged b))) (b .periods) (s .seat .terminal)) (exchanged b .senders)
 
 unfoldable pub anyNote : List UnitNotes → Bool
 anyNote [] = false

@@ -5,13 +5,10 @@ use mathlib.Core.List.{List}
 use mathlib.Core.Path.{_≡_}
 use Prim.Native.Nat.{ℕ}
 use Rattle.walks.specs.Over.{mapFrom, foldFrom}
-use Rattle.hearing.specs.declared.heard.Downward.{Downward}
 use Rattle.terminal.specs.declared.Terminal.{Terminal}
-use Rattle.exchange.specs.Opportunities.{momentAfterFour, terminalsAfterFour}
-use Rattle.exchange.specs.declared.moment.Moment.{Moment}
 use Rattle.listening.specs.Hears.{terminalAfter, notesAfter, toldAfter}
 use Rattle.listening.specs.declared.hears.UnitNotes.{UnitNotes}
-use Rattle.bus_record.specs.Echo.{firstMoment, heardDown}
+use Rattle.bus_record.specs.Echo.{stepMoment, stepExchanged, stepLine}
 use Rattle.bus_record.specs.NetworkSide.{ranAfter, octetsAfter}
 use Rattle.bus_record.specs.declared.record.BusRecord.{BusRecord}
 use Rattle.bus_record.specs.declared.side.Ran.{Ran}
@@ -19,17 +16,7 @@ use Rattle.call_rules.specs.Kept.{Kept}
 use Rattle.call_rules.specs.Period.{periodRan, keptRun}
 use Rattle.call_rules.specs.Ready.{runReply}
 
--- the exchange, and the terminals after it
-unfoldable pub stepMoment : BusRecord → List Terminal → List ℕ → List ℕ → Moment
-stepMoment bus ts images letters = momentAfterFour images (firstMoment bus letters) ts
-
-unfoldable pub stepExchanged : BusRecord → List Terminal → List ℕ → List ℕ → List Terminal
-stepExchanged bus ts images letters = terminalsAfterFour images (firstMoment bus letters) ts
-
--- what the terminals hear
-unfoldable pub stepLine : BusRecord → List Terminal → List ℕ → List ℕ → Downward
-stepLine bus ts images letters = heardDown bus (stepMoment bus ts images letters .ds) letters
-
+-- the terminals' hearing, after the exchange (crate `bus_record`, specs/Echo.antt)
 unfoldable pub stepTerminals : BusRecord → List Terminal → List ℕ → List ℕ → List Terminal
 stepTerminals bus ts images letters =
     mapFrom (terminalAfter (stepLine bus ts images letters) (bus .periods)) 0 (stepExchanged bus ts images letters)

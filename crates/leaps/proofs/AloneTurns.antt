@@ -28,7 +28,8 @@ use Rattle.call_rules.specs.Kept.{Kept, kept}
 use Rattle.call_rules.specs.Ready.{goesOn}
 use Rattle.call_rules.specs.Period.{periodRan, keptRun}
 use Rattle.call_rules.specs.Run.{ranOn, keptOn}
-use Rattle.call_rules.specs.Step.{stepMoment, stepExchanged, stepLine, stepTold, stepRan, stepTerminals, stepOctets, stepNotes}
+use Rattle.call_rules.specs.Step.{stepTold, stepRan, stepTerminals, stepOctets, stepNotes}
+use Rattle.bus_record.specs.Echo.{stepMoment, stepExchanged, stepLine}
 use Rattle.call_rules.proofs.InOrder.{in-order}
 use Rattle.call_rules.proofs.RunLoop.{Going, going-on}
 use Rattle.leaps.specs.Turn.{Turns}

@@ -27,13 +27,13 @@ use Rattle.exchange.specs.Shown.{lettersOf}
 use Rattle.exchange.proofs.Resting.{rest-four}
 use Rattle.listening.specs.Hears.{rests}
 use Rattle.listening.proofs.Rests.{AllRest, Unchanged, all-rest}
-use Rattle.bus_record.specs.Echo.{hitIn, firstMoment, heardDown}
+use Rattle.bus_record.specs.Echo.{hitIn, firstMoment, heardDown, stepMoment, stepExchanged, stepLine}
 use Rattle.bus_record.specs.Reading.{quietReading, readerWaits, readIn, octetsIn}
 use Rattle.bus_record.proofs.SpokenLaws.{four-ones}
 use Rattle.bus_record.proofs.NetworkRests.{rested, listens-rests}
 use Rattle.bus_record.specs.NetworkSide.{readerAfter, restsElsewhere, networkRests, countedAfter, anyNote, ranWith, ranAfter, octetsAfter, noNotes, refusedRun}
 use Rattle.bus_record.specs.declared.record.BusRecord.{BusRecord}
-use Rattle.call_rules.specs.Step.{stepMoment, stepExchanged, stepLine, stepTerminals, stepNotes, stepTold, stepRan, stepOctets}
+use Rattle.call_rules.specs.Step.{stepTerminals, stepNotes, stepTold, stepRan, stepOctets}
 use Rattle.leaps.specs.Still.{quiet, countedOver, leapt}
 use Rattle.leaps.proofs.Stays.{AllStay, Still}
 

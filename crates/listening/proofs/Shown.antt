@@ -21,9 +21,13 @@ use Rattle.bus.specs.Bus.{Seat}
 use Rattle.bus.specs.Period.{stepped}
 use Rattle.walks.specs.Over.{mapFrom, foldFrom}
 use Rattle.listening.specs.Hears.{heardStep, timedStep, hasNote, heardOne, terminalAfter, notesAfter, toldAfter}
-use Rattle.listening.specs.Shown.{allInRange, terminalsOf, hearsThen, heardNotes, timedNotes, notesThen, TerminalsShown, SeatsShown, NotesShown, RangesKept, NoneNoted, ToldNone, NoneTold}
+use Rattle.listening.specs.Shown.{allInRange, terminalsOf, heardNotes, timedNotes, terminalNotes, SeatsShown, NotesShown, RangesKept, NoneNoted, ToldNone, NoneTold}
 
 -- ---- one terminal
+-- it hears period now, and then comes the start of the next
+unfoldable pub hearsThen : Downward → ℕ → Terminal → Terminal
+hearsThen line now t = terminal.timer (now + 1) (terminal.hears line now t .terminal) .terminal
+
 another : (now : ℕ) → now + 1 ≤ mostPeriods → nextPeriod (atPeriod now) ≡ atPeriod (now + 1)
 unfolding nextPeriod
 another now l = rw (lt-leb mostPeriods now (omega arith))
@@ -45,8 +49,8 @@ module _ (line : Downward) (now : ℕ) (l : now + 1 ≤ mostPeriods) (t : Termin
   unfolding heardOne hearsThen
   terminal-is = rw timing-is
 
-  notes-is : heardOne line (atPeriod now) t .notes ≡ notesThen line now t
-  unfolding heardOne notesThen heardNotes timedNotes
+  notes-is : heardOne line (atPeriod now) t .notes ≡ terminalNotes line now t
+  unfolding heardOne terminalNotes heardNotes timedNotes
   notes-is = rw (hearing-is, timing-is)
 
   told-is : heardOne line (atPeriod now) t .told ≡ (hasNote (heardNotes line now t) || hasNote (timedNotes line now t))
@@ -66,14 +70,15 @@ module _ (line : Downward) (now : ℕ) (l : now + 1 ≤ mostPeriods) where
       let g = both-in-range t ts h in
       rw (terminal-is line now l t (g .0), terminals-from (suc k) ts (g .1))
 
-  notes-from : (k : ℕ) (ts : List Terminal) → allInRange ts ≡ true → mapFrom (notesAfter line (atPeriod now)) k ts ≡ map (notesThen line now) ts
+  notes-from : (k : ℕ) (ts : List Terminal) → allInRange ts ≡ true → mapFrom (notesAfter line (atPeriod now)) k ts ≡ map (terminalNotes line now) ts
   unfolding mapFrom
   notes-from k [] h = refl
   notes-from k (t ∷ ts) h =
       let g = both-in-range t ts h in
       rw (notes-is line now l t (g .0), notes-from (suc k) ts (g .1))
 
-pub terminals-shown : TerminalsShown
+pub terminals-shown : (line : Downward) (now : ℕ) (ts : List Terminal) → now + 1 ≤ mostPeriods → allInRange ts ≡ true
+    → mapFrom (terminalAfter line (atPeriod now)) 0 ts ≡ map (hearsThen line now) ts
 terminals-shown line now ts l h = terminals-from line now l 0 ts h
 
 pub notes-shown : NotesShown

@@ -24,25 +24,17 @@ abbrev pub terminalsOf : List Seat → List Terminal
 terminalsOf ss = map (λ s. s .terminal) ss
 
 -- ---- One terminal: it hears period now, and then comes the start of the next.
-unfoldable pub hearsThen : Downward → ℕ → Terminal → Terminal
-hearsThen line now t = terminal.timer (now + 1) (terminal.hears line now t .terminal) .terminal
-
 unfoldable pub heardNotes : Downward → ℕ → Terminal → Notes
 heardNotes line now t = terminal.hears line now t .notes
 
 unfoldable pub timedNotes : Downward → ℕ → Terminal → Notes
 timedNotes line now t = terminal.timer (now + 1) (terminal.hears line now t .terminal) .notes
 
-unfoldable pub notesThen : Downward → ℕ → Terminal → UnitNotes
-notesThen line now t = record { heard = heardNotes line now t; timed = timedNotes line now t }
+unfoldable pub terminalNotes : Downward → ℕ → Terminal → UnitNotes
+terminalNotes line now t = record { heard = heardNotes line now t; timed = timedNotes line now t }
 
 -- ---- All of them.
-abbrev pub TerminalsShown : Type 0
-TerminalsShown =
-    (line : Downward) (now : ℕ) (ts : List Terminal) → now + 1 ≤ mostPeriods → allInRange ts ≡ true →
-    mapFrom (terminalAfter line (atPeriod now)) 0 ts ≡ map (hearsThen line now) ts
-
--- as the bus has them, on their seats
+-- as the bus has them, on their seats (proofs/Shown.antt `terminals-shown` has them without seats)
 abbrev pub SeatsShown : Type 0
 SeatsShown =
     (line : Downward) (now : ℕ) (ss : List Seat) → now + 1 ≤ mostPeriods → allInRange (terminalsOf ss) ≡ true →
@@ -52,7 +44,7 @@ SeatsShown =
 abbrev pub NotesShown : Type 0
 NotesShown =
     (line : Downward) (now : ℕ) (ts : List Terminal) → now + 1 ≤ mostPeriods → allInRange ts ≡ true →
-    mapFrom (notesAfter line (atPeriod now)) 0 ts ≡ map (notesThen line now) ts
+    mapFrom (notesAfter line (atPeriod now)) 0 ts ≡ map (terminalNotes line now) ts
 
 -- every record is in range afterwards, whatever the period
 abbrev pub RangesKept : Type 0

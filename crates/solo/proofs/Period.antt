@@ -27,7 +27,7 @@ use Rattle.exchange.specs.Moment as exchange
 use Rattle.exchange.specs.Shown.{lettersOf}
 use Rattle.listening.specs.Hears.{rests}
 use Rattle.listening.proofs.Rests.{AllRest, all-rest}
-use Rattle.bus_record.specs.Echo.{hitIn, firstMoment, heardDown}
+use Rattle.bus_record.specs.Echo.{hitIn, firstMoment, heardDown, stepMoment, stepExchanged, stepLine}
 use Rattle.solo.specs.Solo.{soloAfterFour, soloGoes, followed}
 use Rattle.solo.specs.Alone.{staysAlone, goesAlone}
 use Rattle.solo.specs.Search.{allHearAlike, AllClear}
@@ -98,7 +98,7 @@ module _ (images letters : List ℕ) (a : Alone) (ts : List Terminal) (g : Goes 
   first-is = rw (g .no-hit, g .heard-is)
 
   line-is : lineHere images letters a ts ≡ shownBy G3
-  unfolding heardDown
+  unfolding stepLine heardDown
   line-is = rw (g .no-hit, g .in-g3)
 
   info-is : eqb (infoIn table63.infoSent (a .ran .bus .network .state)) 4 ≡ true
@@ -106,6 +106,7 @@ module _ (images letters : List ℕ) (a : Alone) (ts : List Terminal) (g : Goes 
   info-is = rw (g .in-g3)
 
 pub period-alone : PeriodAlone
+unfolding stepMoment stepExchanged
 period-alone images letters a ts on seats sender rest clear =
     let g = goes-facts images a on in
     let four = solo-four images (a .ran .bus .network .state) (a .solo) ts (info-is images letters a ts g) seats sender (g .goes) in

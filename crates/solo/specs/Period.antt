@@ -8,36 +8,26 @@ use lib.ListN.{length, replicate}
 use Rattle.walks.specs.Over.{mapFrom, foldFrom}
 use Rattle.hearing.specs.declared.heard.Downward.{Downward}
 use Rattle.terminal.specs.declared.Terminal.{Terminal}
-use Rattle.exchange.specs.Opportunities.{momentAfterFour, terminalsAfterFour}
-use Rattle.exchange.specs.declared.moment.Moment.{Moment}
 use Rattle.listening.specs.Hears.{terminalAfter, notesAfter, toldAfter}
-use Rattle.bus_record.specs.Echo.{firstMoment, heardDown}
+use Rattle.bus_record.specs.Echo.{stepMoment, stepExchanged, stepLine}
 use Rattle.bus_record.specs.NetworkSide.{noNotes}
-use Rattle.bus_record.specs.declared.record.BusRecord.{BusRecord}
 use Rattle.solo.specs.Solo.{soloAfterFour, soloMoment, followed, soloSeats, senderIn}
 use Rattle.solo.specs.Alone.{goesAlone}
 use Rattle.solo.specs.Search.{allHearAlike, AllClear}
 use Rattle.solo.specs.declared.alone.Alone.{Alone}
 
--- the exchange of the period, and the line that is heard
-abbrev pub exchangeOver : BusRecord → List ℕ → List ℕ → List Terminal → Moment
-exchangeOver bus images letters ts = momentAfterFour images (firstMoment bus letters) ts
-
-abbrev pub lineOver : BusRecord → List ℕ → List ℕ → List Terminal → Downward
-lineOver bus images letters ts = heardDown bus (exchangeOver bus images letters ts .ds) letters
-
--- the terminals at its start, as the run has them, and after the exchange
+-- the terminals at its start, as the run has them, and after the exchange; and the line that is heard
 abbrev pub terminalsHere : Alone → List Terminal → List Terminal
 terminalsHere a ts = mapFrom (followed (a .solo)) 0 ts
 
 abbrev pub exchangedHere : List ℕ → List ℕ → Alone → List Terminal → List Terminal
-exchangedHere images letters a ts = terminalsAfterFour images (firstMoment (a .ran .bus) letters) (terminalsHere a ts)
+exchangedHere images letters a ts = stepExchanged (a .ran .bus) (terminalsHere a ts) images letters
 
 abbrev pub lineHere : List ℕ → List ℕ → Alone → List Terminal → Downward
-lineHere images letters a ts = lineOver (a .ran .bus) images letters (terminalsHere a ts)
+lineHere images letters a ts = stepLine (a .ran .bus) (terminalsHere a ts) images letters
 
 pub record IsPeriod (images letters : List ℕ) (a : Alone) (ts : List Terminal) : Type 0 where
-  pub moment-is : exchangeOver (a .ran .bus) images letters (terminalsHere a ts) ≡ soloMoment images (a .ran .bus .network .state) (a .solo)
+  pub moment-is : stepMoment (a .ran .bus) (terminalsHere a ts) images letters ≡ soloMoment images (a .ran .bus .network .state) (a .solo)
   pub terminals-are : mapFrom (terminalAfter (lineHere images letters a ts) (a .ran .bus .periods)) 0 (exchangedHere images letters a ts) ≡ mapFrom (followed (soloAfterFour images (a .solo))) 0 ts
   pub notes-are : mapFrom (notesAfter (lineHere images letters a ts) (a .ran .bus .periods)) 0 (exchangedHere images letters a ts) ≡ replicate (length ts) noNotes
   pub told-is : foldFrom (toldAfter (lineHere images letters a ts) (a .ran .bus .periods)) 0 false (exchangedHere images letters a ts) ≡ false

@@ -16,13 +16,13 @@ use Rattle.listening.specs.Hears.{allTold, allTerminals, allNotes}
 use Rattle.listening.specs.declared.hears.UnitNotes.{UnitNotes}
 use Rattle.listening.proofs.Structs.{lines, periods}
 use Rattle.listening.proofs.hears.UnitNotes as N
-use Rattle.bus_record.specs.Echo.{firstMoment, heardDown}
+use Rattle.bus_record.specs.Echo.{firstMoment, heardDown, stepMoment, stepExchanged, stepLine}
 use Rattle.bus_record.specs.NetworkSide.{ranAfter, octetsAfter}
 use Rattle.bus_record.specs.declared.record.BusRecord.{BusRecord}
 use Rattle.bus_record.specs.declared.side.Ran.{Ran}
 use Rattle.bus_record.proofs.record.BusRecord as B
 use Rattle.bus_record.proofs.side.Ran as R
-use Rattle.call_rules.specs.Step.{stepMoment, stepExchanged, stepLine, stepTerminals, stepNotes, stepTold, stepRan, stepOctets}
+use Rattle.call_rules.specs.Step.{stepTerminals, stepNotes, stepTold, stepRan, stepOctets}
 use Rattle.bus_calls.proofs.Structs.{buses, runs}
 use Rattle.bus_record.proofs.echo.first_moment as first
 use Rattle.bus_record.proofs.echo.first_moment.Symbol as first-def
