@@ -27,7 +27,7 @@ use Rattle.terminal.specs.declared.Terminal.{Terminal}
 use Rattle.terminal.proofs.Laws.{happens-state, happens-alignment, hears-state, hears-alignment}
 use Rattle.terminal.proofs.RangesKept.{terminal-fits}
 use Rattle.bus.specs.Bus.{Seat, Bus, terminals, freshSeat, freshBus}
-use Rattle.bus.specs.Exchange.{anyInfo1, anyInfo3, inF7, turned, exchanged, wholeDown}
+use Rattle.bus.specs.Exchange.{anySends, anyInfo1, anyInfo3, inF7, turned, exchanged, wholeDown}
 use Rattle.bus.specs.Period.{terminalHears, stepped, heardBy, timed, periodRun}
 use Rattle.bus.specs.Event as events
 use Rattle.bus.specs.Event.{classOf, seatOf, terminalDoes, withFrame, seatAfter, refusal, eventDone}
@@ -277,13 +277,13 @@ module _ (a : Alignment) (s : Seat) (w : Hears a s) where
       from (behind r two e k) f = absurd (true≢false (sym (rw two at f)))
 
 one-calls : (a : Alignment) (ss : List Seat) → Each (Hears a) ss → anyInfo1 ss ≡ true → a .aligned ≡ false
-unfolding anyInfo1
+unfolding anySends
 one-calls a [] w h = absurd (true≢false (sym h))
 one-calls a (s ∷ ss) w h =
     by-test (eqb (infoIn table62.infoSent (s .terminal .state)) 1) (λ t. calls-unaligned a s (w 0) t) (λ t. one-calls a ss (λ i. w (suc i)) (rw t at h))
 
 one-sends : (a : Alignment) (ss : List Seat) → Each (Hears a) ss → anyInfo3 ss ≡ true → a .aligned ≡ true
-unfolding anyInfo3
+unfolding anySends
 one-sends a [] w h = absurd (true≢false (sym h))
 one-sends a (s ∷ ss) w h =
     by-test (eqb (infoIn table62.infoSent (s .terminal .state)) 3) (λ t. frames-aligned a s (w 0) t) (λ t. one-sends a ss (λ i. w (suc i)) (rw t at h))

@@ -25,7 +25,7 @@ use Rattle.network.specs.declared.Network.{Network}
 use Rattle.terminal.specs.Terminal as terminal
 use Rattle.bus.specs.Bus.{Seat, Hit, Bus, freshSeat, freshBus}
 use Rattle.bus.specs.Bus.Hit.{none, given}
-use Rattle.bus.specs.Exchange.{Moment, turnOf, eComes, saidTo, seatsOf, anyInfo1, anyInfo3, turned, onward, begins, opportunitiesOf, exchanged, wholeDown, wholeUp, lineDown, inF7}
+use Rattle.bus.specs.Exchange.{Moment, turnOf, eComes, saidTo, seatsOf, anySends, anyInfo1, anyInfo3, turned, onward, begins, opportunitiesOf, exchanged, wholeDown, wholeUp, lineDown, inF7}
 use Rattle.bus.specs.Period.{networkHears, terminalHears, stepped, heardBy, timed, periodRun}
 use Rattle.bus.specs.Calls.{Call, reply, does, after, ran}
 use Rattle.bus.specs.Calls.Call.{event, period}
@@ -100,7 +100,7 @@ rests-turned e s (active f a) = active (rw f) (rw f a)
 
 -- ---- the bus
 rest-no-info-1 : (ss : List Seat) → Each Rests ss → anyInfo1 ss ≡ false
-unfolding anyInfo1
+unfolding anySends
 rest-no-info-1 [] r = refl
 rest-no-info-1 (s ∷ ss) r = rw (quiet s (r 0)) (rest-no-info-1 ss (λ i. r (suc i)))
   where
@@ -109,7 +109,7 @@ rest-no-info-1 (s ∷ ss) r = rw (quiet s (r 0)) (rest-no-info-1 ss (λ i. r (su
     quiet x (active f a) = rw f (unfold infoIn in refl)
 
 one-sends : (ss : List Seat) (i : ℕ) → getD ss i freshSeat .terminal .state ≡ F7 → anyInfo3 ss ≡ true
-unfolding anyInfo3 infoIn
+unfolding anySends infoIn
 one-sends [] i h = cc
 one-sends (s ∷ ss) zero h = rw h
 one-sends (s ∷ ss) (suc i) h = rw (one-sends ss i h) (or-true (eqb (infoIn table62.infoSent (s .terminal .state)) 3))
@@ -263,7 +263,7 @@ stretch-is b (c ∷ more) h =
     )
 
 pub worst-stretch : exists.WorstStretch
-unfolding report anyInfo1
+unfolding report anySends
 worst-stretch = stretch-is (ran freshBus beforeWait) duringWait refl
 
 -- ---- the words as tests
@@ -385,7 +385,7 @@ abbrev seen : List Moment → Seen
 seen ms = record { tests = every (waitTests ms); said = saidTo (at ms 126); completed = bodyCompleted (at ms 127) }
 
 worst-seen : seen (opps beforeWait duringWait) ≡ record { tests = true; said = heard (1 ∷ []); completed = (1 ∷ []) ∷ [] }
-unfolding report anyInfo1 bodyCompleted firstDone
+unfolding report anySends bodyCompleted firstDone
 worst-seen = refl
 
 pub worst-wait : exists.WorstWait
@@ -409,11 +409,11 @@ abbrev seenBusy : List Moment → Seen
 seenBusy ms = record { tests = beginsNow 0 (at ms 7) && completesNow 1 0 (at ms 31); said = saidTo (at ms 30); completed = [] }
 
 busy-seen : seenBusy exists.busy ≡ record { tests = true; said = heard (0 ∷ []); completed = [] }
-unfolding report anyInfo1
+unfolding report anySends
 busy-seen = refl
 
 pub busy-stretch : exists.BusyStretch
-unfolding report anyInfo1
+unfolding report anySends
 busy-stretch =
     let both = ap (λ (s : Seen). s .tests) busy-seen in
     record {

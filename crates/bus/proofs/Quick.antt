@@ -33,7 +33,7 @@ use Rattle.hearing.specs.Sensing.{shownUp}
 use Rattle.hearing.proofs.Shown.{shown-up-info0, shown-info1, shown-info3, shown-down-info0, shown-info2, shown-info4}
 use Rattle.bus.specs.Bus.{Seat, Hit}
 use Rattle.bus.specs.Bus.Hit.{none, given}
-use Rattle.bus.specs.Exchange.{Sender, seatsOf, anyInfo1, anyInfo3, inF7, sentDown, sentUp, turned, dOf, hearsE, sentOf, lineDown, lineUp, eComes, sendersAfter, dComes, onward, seated, begins}
+use Rattle.bus.specs.Exchange.{Sender, seatsOf, anySends, anyInfo1, anyInfo3, inF7, sentDown, sentUp, turned, dOf, hearsE, sentOf, lineDown, lineUp, eComes, sendersAfter, dComes, onward, seated, begins}
 use Rattle.bus.specs.Quick.{sentE, struckAt, allD, InStep, shownFrom, shownBy}
 use Rattle.bus.specs.Quick.InStep.{end, one}
 use Rattle.bus.specs.Quick as quick
@@ -48,7 +48,7 @@ all-zero (suc (suc (suc zero))) h = refl
 all-zero (suc (suc (suc (suc k)))) h = absurd (omega arith)
 
 -- the E at place k of what is sent: in INFO 4 the bit at that place
-pub e-sent : (k state : ℕ) (es : List Bool) → k < 4 → pick k (eBits (levels (sentDown state es))) ≡ sentE state (getD es k true)
+pub e-sent : (k state : ℕ) (es : List Bool) → k < 4 → pick k (eBits (levels (sentDown state (padded es)))) ≡ sentE state (getD es k true)
 unfolding sentDown sentE
 e-sent k state es h =
     by-test (eqb (infoIn table63.infoSent state) 4)
@@ -61,7 +61,7 @@ pub e-down : (k state : ℕ) (h : Hit) (es : List Bool) → k < 4 → pick k (eB
 unfolding lineDown struckAt
 e-down k state none es h = e-sent k state es h
 e-down k state (given letters) es h =
-    rw (e-hit letters (sentDown state es), pick-struck-e k letters (eBits (levels (sentDown state es))) h, e-sent k state es h)
+    rw (e-hit letters (sentDown state (padded es)), pick-struck-e k letters (eBits (levels (sentDown state (padded es)))) h, e-sent k state es h)
 
 pub quick-e : quick.QuickE
 unfolding eComes
@@ -78,7 +78,7 @@ abbrev infoOf : Seat → ℕ
 infoOf s = infoIn table62.infoSent (s .terminal .state)
 
 pub calling-is : (ss : List Sender) → anyCalling (map sentOf ss) ≡ anyInfo1 (seatsOf ss)
-unfolding anyCalling anyInfo1 sentOf sentUp
+unfolding anyCalling anySends sentOf sentUp
 calling-is [] = refl
 calling-is (s ∷ ss) =
     rw (calling-is ss)
@@ -114,12 +114,12 @@ d-all k e (s ∷ ss) h (one l more) =
     rw (pick-and k (sentD (sentOf (hearsE e s))) (andAll (map sentD (map sentOf (map (hearsE e) ss)))), d-new k e s h l, d-all k e ss h more)
 
 pub info1-hears : (e : Bool) (ss : List Sender) → anyInfo1 (seatsOf (map (hearsE e) ss)) ≡ anyInfo1 (seatsOf ss)
-unfolding anyInfo1 hearsE
+unfolding anySends hearsE
 info1-hears e [] = refl
 info1-hears e (s ∷ ss) = rw (state-turned e (s .seat), info1-hears e ss)
 
 pub info3-hears : (e : Bool) (ss : List Sender) → anyInfo3 (seatsOf (map (hearsE e) ss)) ≡ anyInfo3 (seatsOf ss)
-unfolding anyInfo3 hearsE
+unfolding anySends hearsE
 info3-hears e [] = refl
 info3-hears e (s ∷ ss) = rw (state-turned e (s .seat), info3-hears e ss)
 
@@ -161,7 +161,7 @@ in-step-onward m i = rw (one-more (m .es) (m .heardD) (length (m .es)) refl) (in
 
 -- ---- What is shown.
 frames-are : (ss : List Sender) → shownUp (framesLine (frames (map sentOf ss))) ≡ shownFrom false (anyInfo3 (seatsOf ss))
-unfolding frames sentOf sentUp anyInfo3 shownFrom
+unfolding frames sentOf sentUp anySends shownFrom
 frames-are [] = shown-up-info0
 frames-are (s ∷ ss) =
     by-test (eqb (infoOf (s .seat)) 3) (λ t. rw t (shown-info3 _))
@@ -186,7 +186,7 @@ unfolding combined isSent tabulate hasPulse firstPulse framedIn sameSymbols upLi
 signal-beside d = at-each-four (λ x. signalUp (combined (info1 ∷ info3 x ∷ []))) d refl
 
 beside-are : (ss : List Sender) → shownUp (combined (info1 ∷ framesLine (frames (map sentOf ss)) ∷ [])) ≡ shownFrom true (anyInfo3 (seatsOf ss))
-unfolding frames sentOf sentUp anyInfo3 shownFrom
+unfolding frames sentOf sentUp anySends shownFrom
 beside-are [] = rw (combined-info0 (info1 ∷ []) [], combined-one info1 line-info1) shown-info1
 beside-are (s ∷ ss) =
     by-test (eqb (infoOf (s .seat)) 3) (λ t. rw t (signal-shown _ (signal-beside _)))
@@ -202,5 +202,5 @@ up-shown ss =
 pub down-shown : quick.DownShown
 unfolding sentDown shownBy
 down-shown state es =
-    by-test (eqb (infoIn table63.infoSent state) 4) (λ t. rw t (shown-info4 (padded es)))
+    by-test (eqb (infoIn table63.infoSent state) 4) (λ t. rw t (shown-info4 es))
     (λ t. rw t (by-test (eqb (infoIn table63.infoSent state) 2) (λ u. rw u shown-info2) (λ u. rw u shown-down-info0)))

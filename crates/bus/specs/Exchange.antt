@@ -9,6 +9,7 @@ use Rattle.symbols.specs.Symbols.{levels}
 use Rattle.frame.specs.Four.{pick, padded}
 use Rattle.frame.specs.Bits.{dBits}
 use Rattle.frame.specs.Down.{eBits}
+use Rattle.frame.specs.declared.fields.Four.{Four}
 use Rattle.info.specs.Info.{info0, info2, info4}
 use Rattle.combining.specs.Combine.{combined}
 use Rattle.combining.specs.Sent.{Sent, silent, calling, frame, sentLine}
@@ -25,11 +26,11 @@ use Rattle.hdlc.specs.Reading.Said.{nothing}
 use Rattle.bus.specs.Bus.{Seat, Hit, Bus}
 use Rattle.bus.specs.Bus.Hit.{none, given}
 
--- The line that a network end sends in a state, with the E bits so far: INFO 0, 2 or 4.
-unfoldable pub sentDown : ℕ → List Bool → List ℕ
+-- The line that a network end sends in a state, with four E bits: INFO 0, 2 or 4.
+unfoldable pub sentDown : ℕ → Four → List ℕ
 sentDown state es =
     let info = infoIn table63.infoSent state in
-    cond (eqb info 4) (info4 (padded es)) (cond (eqb info 2) info2 info0)
+    cond (eqb info 4) (info4 es) (cond (eqb info 2) info2 info0)
 
 -- What a terminal sends in a state, with its D bits so far: INFO 0, 1 or 3.
 unfoldable pub sentUp : ℕ → List Bool → Sent
@@ -37,14 +38,17 @@ sentUp state ds =
     let info = infoIn table62.infoSent state in
     cond (eqb info 3) (frame (padded ds)) (cond (eqb info 1) calling silent)
 
--- Who sends what: whether any terminal sends INFO 1, and whether any sends INFO 3.
-unfoldable pub anyInfo1 : List Seat → Bool
-anyInfo1 [] = false
-anyInfo1 (s ∷ ss) = eqb (infoIn table62.infoSent (s .terminal .state)) 1 || anyInfo1 ss
+-- Who sends what: whether a terminal in any of some states sends the INFO of a number; whether any terminal sends INFO 1, and whether any
+-- sends INFO 3.
+unfoldable pub anySends : ℕ → List ℕ → Bool
+anySends info [] = false
+anySends info (state ∷ states) = eqb (infoIn table62.infoSent state) info || anySends info states
 
-unfoldable pub anyInfo3 : List Seat → Bool
-anyInfo3 [] = false
-anyInfo3 (s ∷ ss) = eqb (infoIn table62.infoSent (s .terminal .state)) 3 || anyInfo3 ss
+abbrev pub anyInfo1 : List Seat → Bool
+anyInfo1 ss = anySends 1 (map (λ (s : Seat). s .terminal .state) ss)
+
+abbrev pub anyInfo3 : List Seat → Bool
+anyInfo3 ss = anySends 3 (map (λ (s : Seat). s .terminal .state) ss)
 
 -- "hit: .. for this period's downward line"
 abbrev pub struckBy : Hit → List ℕ → List ℕ
@@ -106,9 +110,9 @@ hearsE e s = record { seat = turned e (s .seat); ds = s .ds ++ (dOf e (s .seat) 
 unfoldable pub sentOf : Sender → Sent
 sentOf s = sentUp (s .seat .terminal .state) (s .ds)
 
--- The line that all powered terminals hear, and the line that all terminals give together.
+-- The line that all powered terminals hear, with the E bits so far, and the line that all terminals give together.
 unfoldable pub lineDown : ℕ → Hit → List Bool → List ℕ
-lineDown network h es = struckBy h (sentDown network es)
+lineDown network h es = struckBy h (sentDown network (padded es))
 
 unfoldable pub lineUp : List Sender → List ℕ
 lineUp ss = combined (map sentLine (map sentOf ss))

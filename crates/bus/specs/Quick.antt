@@ -7,6 +7,7 @@ use Prim.Native.Nat.{ℕ, _<_}
 use lib.Dec.{eqb}
 use lib.ListN.{length, getD}
 use Rattle.frame.specs.Down.{eIndex}
+use Rattle.frame.specs.declared.fields.Four.{Four}
 use Rattle.combining.specs.Hit.{keepLetter, struckBit}
 use Rattle.cells.specs.Cells.{infoIn}
 use Rattle.table_6_3.specs.Table63 as table63
@@ -72,4 +73,4 @@ shownBy state =
     (cond (eqb info 2) (record { pulse = true; framed = true; a = false }) (record { pulse = false; framed = false; a = true }))
 
 abbrev pub DownShown : Type 0
-DownShown = (state : ℕ) (es : List Bool) → shownDown (sentDown state es) ≡ shownBy state
+DownShown = (state : ℕ) (es : Four) → shownDown (sentDown state es) ≡ shownBy state

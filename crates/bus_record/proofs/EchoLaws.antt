@@ -21,12 +21,13 @@ use Rattle.hearing.specs.declared.heard.Downward.{Downward}
 use Rattle.hearing.specs.declared.heard.Upward.{Upward}
 use Rattle.hearing.specs.declared.sensing.SensedDown.{SensedDown}
 use Rattle.bus.specs.Quick.{shownBy, shownFrom}
-use Rattle.bus_record.specs.Echo.{lineFor, builtDown, sentEs, heardDown}
+use Rattle.bus.specs.Exchange.{sentDown}
+use Rattle.bus_record.specs.Echo.{builtDown, sentEs, heardDown}
 use Rattle.bus_record.specs.declared.record.BusRecord.{BusRecord}
 
 -- INFO 0, 2 and 4 are lines
-line-for : (state : ℕ) (es : Four) → isLine (lineFor state es) ≡ true
-unfolding tabulate
+line-for : (state : ℕ) (es : Four) → isLine (sentDown state es) ≡ true
+unfolding sentDown tabulate
 line-for state es =
     by-test (eqb (infoIn infoSent state) 4)
     (λ t. simp t (down-line (info4Fields es)))
@@ -53,7 +54,7 @@ pub heard-under : (bus : BusRecord) (ds : Four) (letters start built after : Lis
     → sensedDown after ≡ SensedDown.Line (heardDown bus ds letters)
 unfolding sensedDown heardDown builtDown
 heard-under bus ds letters start built after struck long b a =
-    let l : List ℕ = lineFor (bus .network .state) (sentEs bus ds) in
+    let l : List ℕ = sentDown (bus .network .state) (sentEs bus ds) in
     let is : built ≡ l = left-written l start long b in
     let e : after ≡ leaves (hitFits letters l) (hit letters l) l = rw is at a in
     rw e (simp (struck-line letters l (line-for (bus .network .state) (sentEs bus ds)), struck))

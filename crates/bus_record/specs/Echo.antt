@@ -3,18 +3,15 @@
 use mathlib.Core.Bool.{Bool, cond}
 use mathlib.Core.List.{List}
 use Prim.Native.Nat.{ℕ}
-use lib.Dec.{eqb}
 use lib.ListN.{getD}
 use Rattle.symbols.specs.Symbols.{leaves, hasLineLength}
 use Rattle.frame.specs.declared.fields.Four.{Four}
-use Rattle.info.specs.Info.{info0, info2, info4}
 use Rattle.combining.specs.Hit.{keepLetter, hit, hitFits}
-use Rattle.cells.specs.Cells.{infoIn}
-use Rattle.table_6_3.specs.Table63.{infoSent}
 use Rattle.hearing.specs.Sensing.{shownDown}
 use Rattle.hearing.specs.declared.heard.Downward.{Downward}
 use Rattle.terminal.specs.declared.Terminal.{Terminal}
 use Rattle.bus.specs.Bus.{Hit}
+use Rattle.bus.specs.Exchange.{sentDown}
 use Rattle.bus.specs.Quick.{shownBy}
 use Rattle.exchange.specs.Moment as exchange
 use Rattle.exchange.specs.Shown.{lettersOf}
@@ -32,12 +29,9 @@ hitIn pending letters = cond pending (Hit.given letters) Hit.none
 unfoldable pub firstMoment : BusRecord → List ℕ → Moment
 firstMoment r letters = exchange.firstMoment (r .network .state) (lettersOf (hitIn (r .hit) letters)) (r .heard)
 
--- the line that is sent in a state, with these E
-abbrev pub lineFor : ℕ → Four → List ℕ
-lineFor state es = cond (eqb (infoIn infoSent state) 4) (info4 es) (cond (eqb (infoIn infoSent state) 2) info2 info0)
-
+-- the line that is sent, into a line that is lent
 unfoldable pub builtDown : ℕ → Four → List ℕ → List ℕ
-builtDown state es line = leaves (hasLineLength line) (lineFor state es) line
+builtDown state es line = leaves (hasLineLength line) (sentDown state es) line
 
 -- the E that were sent: each the D heard before it
 abbrev pub sentEs : BusRecord → Four → Four
@@ -46,7 +40,7 @@ sentEs r ds = record { first = r .heard; second = ds .first; third = ds .second;
 -- what is heard of the line, with the four D of the exchange
 unfoldable pub heardDown : BusRecord → Four → List ℕ → Downward
 heardDown r ds letters =
-    let line = lineFor (r .network .state) (sentEs r ds) in
+    let line = sentDown (r .network .state) (sentEs r ds) in
     cond (r .hit) (shownDown (leaves (hitFits letters line) (hit letters line) line)) (shownBy (r .network .state))
 
 -- ---- A period's exchange over all terminals.

@@ -39,7 +39,7 @@ use Rattle.exchange.proofs.Shown.{exchange-shown}
 use Rattle.listening.specs.Hears.{heardOne, hasNote, notesAfter, toldAfter}
 use Rattle.listening.specs.Shown.{allInRange, terminalsOf, terminalNotes}
 use Rattle.listening.proofs.Shown.{seats-shown, notes-shown}
-use Rattle.bus_record.specs.Echo.{hitIn, firstMoment, lineFor, sentEs, heardDown, stepMoment, stepExchanged, stepLine}
+use Rattle.bus_record.specs.Echo.{hitIn, firstMoment, sentEs, heardDown, stepMoment, stepExchanged, stepLine}
 use Rattle.bus_record.specs.NetworkSide as side
 use Rattle.bus_record.specs.Reading.{readIn}
 use Rattle.bus_event.specs.Event.{areLetters}
@@ -53,7 +53,8 @@ use Rattle.call_rules.proofs.ReadFour.{read-in, octets-in}
 use Rattle.call_rules.proofs.InOrder.{InOrder, in-order, one-left, all-fit, bus-in-range}
 
 -- ---- What the terminals hear.
-line-sent : (state : ℕ) (es : Four) → isLine (lineFor state es) ≡ true
+line-sent : (state : ℕ) (es : Four) → isLine (sentDown state es) ≡ true
+unfolding sentDown
 line-sent state es =
     by-test (eqb (infoIn table63.infoSent state) 4)
     (λ t. rw t (line-info4 es))
@@ -61,11 +62,11 @@ line-sent state es =
 
 heard-down : (bus : BusRecord) (ds : Four) (es : List Bool) (letters : List ℕ) → areLetters letters ≡ true → sentEs bus ds ≡ padded es →
     heardDown bus ds letters ≡ shownDown (lineDown (bus .network .state) (hitIn (bus .hit) letters) es)
-unfolding heardDown lineDown hitIn sentDown
+unfolding heardDown lineDown hitIn
 heard-down bus ds es letters fit sent =
     by-test (bus .hit)
     (λ t. rw (t, sent, line-sent (bus .network .state) (padded es), fit))
-    (λ t. rw t (sym (down-shown (bus .network .state) es)))
+    (λ t. rw t (sym (down-shown (bus .network .state) (padded es))))
 
 -- the E that are sent: the D heard before each
 es-sent : (bus : BusRecord) (b : Bus) → bus .heard ≡ b .heardD → sentEs bus (padded (map dComes (opportunitiesOf b))) ≡ padded (exchanged b .es)

@@ -19,11 +19,11 @@ use Rattle.dchannel.specs.AtRest.{atRest}
 use Rattle.dchannel.proofs.AccessLaws.{rests}
 use Rattle.terminal.specs.declared.Terminal.{Terminal}
 use Rattle.walks.specs.Over.{mapFrom, foldFrom}
-use Rattle.bus.specs.Exchange.{turnOf, turned, dOf}
+use Rattle.bus.specs.Exchange.{anySends, turnOf, turned, dOf}
 use Rattle.exchange.specs.Moment.{firstMoment, begun, also, combinedD, ended}
 use Rattle.exchange.specs.Part.{seatIn, turnedIn, doneIn, goneThrough}
 use Rattle.exchange.specs.Opportunities.{momentAfter, terminalsAfter, momentAfterFour, terminalsAfterFour}
-use Rattle.exchange.specs.Rest.{partRests, allRest, anyCalling, anyFrames, noneGone, alsoRests, restOf, eSent, onesSent, isFirst, mayRest, restMoment, RestsThrough, RestFour}
+use Rattle.exchange.specs.Rest.{partRests, allRest, statesOf, noneGone, alsoRests, restOf, eSent, onesSent, isFirst, mayRest, restMoment, RestsThrough, RestFour}
 use Rattle.exchange.specs.declared.moment.Letters.{Letters}
 use Rattle.exchange.specs.declared.moment.Moment.{Moment}
 use Rattle.exchange.specs.declared.rest.Rest.{Rest}
@@ -56,8 +56,8 @@ quiet letters ds state place heardD e calling frames =
 
 module _ (images : List ℕ) (letters : Letters) (ds : Four) (state place : ℕ) (heardD e : Bool) where
   quiet-through : (i : ℕ) (c f : Bool) (ts : List Terminal) → allRest e ts ≡ true
-      → foldFrom (goneThrough images) i (quiet letters ds state place heardD e c f) ts ≡ quiet letters ds state place heardD e (c || anyCalling ts) (f || anyFrames ts)
-  unfolding foldFrom allRest anyCalling anyFrames goneThrough also shifted
+      → foldFrom (goneThrough images) i (quiet letters ds state place heardD e c f) ts ≡ quiet letters ds state place heardD e (c || anySends 1 (statesOf ts)) (f || anySends 3 (statesOf ts))
+  unfolding foldFrom allRest anySends goneThrough also shifted
   quiet-through i c f [] h = rw (or-false c, or-false f)
   quiet-through i c f (t ∷ ts) h =
       let p = and-both (partRests e t) (allRest e ts) h in
@@ -72,7 +72,7 @@ all-as-they-were images e i (t ∷ ts) h =
 
 -- ---- One opportunity.
 module _ (images : List ℕ) (letters : Letters) (ds : Four) (state place : ℕ) (heardD e₀ c₀ f₀ : Bool) (ts : List Terminal) (h : allRest (eSent state (letters .first) heardD) ts ≡ true) where
-  moment-after : momentAfter images (quiet letters ds state place heardD e₀ c₀ f₀) ts ≡ ended (quiet letters ds state place heardD (eSent state (letters .first) heardD) (anyCalling ts) (anyFrames ts))
+  moment-after : momentAfter images (quiet letters ds state place heardD e₀ c₀ f₀) ts ≡ ended (quiet letters ds state place heardD (eSent state (letters .first) heardD) (anySends 1 (statesOf ts)) (anySends 3 (statesOf ts)))
   unfolding momentAfter begun
   moment-after = rw (quiet-through images letters ds state place heardD (eSent state (letters .first) heardD) 0 false false ts h)
 
@@ -95,8 +95,8 @@ rest-four images state l1 heardD ts r =
     let l2 = shifted-letters l1 in
     let l3 = shifted-letters l2 in
     let l4 = shifted-letters l3 in
-    let c = anyCalling ts in
-    let f = anyFrames ts in
+    let c = anySends 1 (statesOf ts) in
+    let f = anySends 3 (statesOf ts) in
     let d3 : Four = record { first = true; second = true; third = true; fourth = not c } in
     let d4 : Four = record { first = true; second = true; third = not c; fourth = true } in
     let e1 = eSent state (l1 .first) heardD in
@@ -120,18 +120,18 @@ also-still true true true a b = rw and-false
 also-still true true false a b = refl
 
 gathered : (i : ℕ) (r : Rest) (ts : List Terminal)
-    → foldFrom alsoRests i r ts ≡ record { still = r .still && (allRest true ts && not (anyCalling ts)); frames = r .frames || anyFrames ts }
-unfolding foldFrom allRest anyCalling anyFrames
+    → foldFrom alsoRests i r ts ≡ record { still = r .still && (allRest true ts && not (anySends 1 (statesOf ts))); frames = r .frames || anySends 3 (statesOf ts) }
+unfolding foldFrom allRest anySends
 gathered i r [] = rw (and-true (r .still), or-false (r .frames))
 gathered i r (t ∷ ts) = gathered (suc i) (alsoRests i r t) ts ∙ rw (also-still, or-assoc)
 
-pub rest-is : (ts : List Terminal) → restOf ts ≡ record { still = allRest true ts && not (anyCalling ts); frames = anyFrames ts }
+pub rest-is : (ts : List Terminal) → restOf ts ≡ record { still = allRest true ts && not (anySends 1 (statesOf ts)); frames = anySends 3 (statesOf ts) }
 unfolding restOf
 rest-is ts = gathered 0 noneGone ts
 
 -- ---- An exchange whose E are all 1.
 pub ones-rest : (state : ℕ) (letters : Letters) (heardD : Bool) (ts : List Terminal)
-    → onesSent (firstMoment state letters heardD) ≡ true → allRest true ts ≡ true → anyCalling ts ≡ false → RestsThrough state letters heardD ts
+    → onesSent (firstMoment state letters heardD) ≡ true → allRest true ts ≡ true → anySends 1 (statesOf ts) ≡ false → RestsThrough state letters heardD ts
 unfolding onesSent
 ones-rest state letters heardD ts o h none =
     let p = and-both _ (eSent state (letters .fourth) true) o in
@@ -183,7 +183,7 @@ unfolding mayRest
 left-at-rest images m ts h s =
     let p = and-both (isFirst m) (onesSent m) h in
     let f = first-is m (p .0) in
-    let q = and-both (allRest true ts) (not (anyCalling ts)) (rw (rest-is ts) at s) in
-    let none = not-true (anyCalling ts) (q .1) in
+    let q = and-both (allRest true ts) (not (anySends 1 (statesOf ts))) (rw (rest-is ts) at s) in
+    let none = not-true (anySends 1 (statesOf ts)) (q .1) in
     let r = rest-four images (m .state) (m .letters) (m .heard) ts (ones-rest (m .state) (m .letters) (m .heard) ts (rw f at (p .1)) (q .0) none) in
-    (rw (rest-is ts) (ap (λ (c : Bool). restMoment (m .state) (m .letters) c (anyFrames ts)) (sym none) ∙ sym (r .0) ∙ ap (λ (x : Moment). momentAfterFour images x ts) (sym f)), sym (r .1) ∙ ap (λ (x : Moment). terminalsAfterFour images x ts) (sym f))
+    (rw (rest-is ts) (ap (λ (c : Bool). restMoment (m .state) (m .letters) c (anySends 3 (statesOf ts))) (sym none) ∙ sym (r .0) ∙ ap (λ (x : Moment). momentAfterFour images x ts) (sym f)), sym (r .1) ∙ ap (λ (x : Moment). terminalsAfterFour images x ts) (sym f))

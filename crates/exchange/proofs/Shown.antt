@@ -19,7 +19,7 @@ use Rattle.walks.specs.Over.{mapFrom, foldFrom}
 use Rattle.terminal.specs.declared.Terminal.{Terminal}
 use Rattle.bus.specs.Bus.{Seat, Hit, Bus}
 use Rattle.bus.specs.Bus.Hit.{none, given}
-use Rattle.bus.specs.Exchange.{Sender, seatsOf, anyInfo1, anyInfo3, inF7, turnOf, turned, doneOf, hearsE, eComes, sendersAfter, dComes, onward, seated, begins, opportunitiesOf, exchanged}
+use Rattle.bus.specs.Exchange.{Sender, seatsOf, anySends, anyInfo1, anyInfo3, inF7, turnOf, turned, doneOf, hearsE, eComes, sendersAfter, dComes, onward, seated, begins, opportunitiesOf, exchanged}
 use Rattle.bus.specs.Exchange.{Moment as Lines}
 use Rattle.bus.specs.Event.{among}
 use Rattle.bus.specs.Quick.{sentE, struckAt, allD, InStep}
@@ -64,7 +64,7 @@ through ss m =
     }
 
 gone-through : (images : List ℕ) (i : ℕ) (m : Moment) (ts : List Terminal) → foldFrom (goneThrough images) i m ts ≡ through (seatsFrom images i ts) m
-unfolding foldFrom mapFrom allD anyInfo1 anyInfo3 goneThrough also doneIn
+unfolding foldFrom mapFrom allD anySends goneThrough also doneIn
 gone-through images i m [] = rw (and-true (m .d), or-false (m .calling), or-false (m .frames))
 gone-through images i m (t ∷ ts) = gone-through images (suc i) (goneThrough images i m t) ts ∙ simp (and-assoc, or-assoc)
 

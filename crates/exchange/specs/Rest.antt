@@ -3,7 +3,7 @@
 -- The code goes this way where none sends INFO 1.
 use mathlib.Core.Path.{_≡_}
 use mathlib.Core.Bool.{Bool, true, false, cond, not, _&&_, _||_}
-use mathlib.Core.List.{List, [], _∷_}
+use mathlib.Core.List.{List, [], _∷_, map}
 use Prim.Native.Nat.{ℕ}
 use lib.Dec.{eqb}
 use Rattle.combining.specs.Hit.{struckBit}
@@ -13,6 +13,7 @@ use Rattle.dchannel.specs.Access.{normal2}
 use Rattle.dchannel.specs.AtRest.{atRest}
 use Rattle.terminal.specs.declared.Terminal.{Terminal}
 use Rattle.walks.specs.Over.{foldFrom}
+use Rattle.bus.specs.Exchange.{anySends}
 use Rattle.bus.specs.Quick.{sentE}
 use Rattle.exchange.specs.Moment.{noLetters, firstMoment}
 use Rattle.exchange.specs.Opportunities.{momentAfterFour, terminalsAfterFour}
@@ -28,15 +29,9 @@ unfoldable pub allRest : Bool → List Terminal → Bool
 allRest e [] = true
 allRest e (t ∷ ts) = partRests e t && allRest e ts
 
--- whether any of them sends INFO 1
-unfoldable pub anyCalling : List Terminal → Bool
-anyCalling [] = false
-anyCalling (t ∷ ts) = eqb (infoIn infoSent (t .state)) 1 || anyCalling ts
-
--- whether any of them sends INFO 3
-unfoldable pub anyFrames : List Terminal → Bool
-anyFrames [] = false
-anyFrames (t ∷ ts) = eqb (infoIn infoSent (t .state)) 3 || anyFrames ts
+-- the states of terminals, from which it is known whether any sends INFO 1, or INFO 3
+abbrev pub statesOf : List Terminal → List ℕ
+statesOf ts = map (λ (t : Terminal). t .state) ts
 
 -- ---- As the code gathers it, for an E of 1 and where none sends INFO 1.
 -- no terminal gone through
@@ -91,11 +86,11 @@ restMoment state letters calling frames =
 pub record RestsThrough (state : ℕ) (letters : Letters) (heardD : Bool) (ts : List Terminal) : Type 0 where
   pub first : allRest (eSent state (letters .first) heardD) ts ≡ true
   pub second : allRest (eSent state (letters .second) true) ts ≡ true
-  pub third : allRest (eSent state (letters .third) (not (anyCalling ts))) ts ≡ true
+  pub third : allRest (eSent state (letters .third) (not (anySends 1 (statesOf ts)))) ts ≡ true
   pub fourth : allRest (eSent state (letters .fourth) true) ts ≡ true
 
 abbrev pub RestFour : Type 0
 RestFour =
     (images : List ℕ) (state : ℕ) (letters : Letters) (heardD : Bool) (ts : List Terminal) → RestsThrough state letters heardD ts
-    → (momentAfterFour images (firstMoment state letters heardD) ts ≡ restMoment state letters (anyCalling ts) (anyFrames ts))
+    → (momentAfterFour images (firstMoment state letters heardD) ts ≡ restMoment state letters (anySends 1 (statesOf ts)) (anySends 3 (statesOf ts)))
     × (terminalsAfterFour images (firstMoment state letters heardD) ts ≡ ts)

@@ -16,7 +16,8 @@ use Rattle.timing.proofs.TimerLaws.{clear-most, clear-is, clear-later}
 use Rattle.hearing.specs.declared.heard.Downward.{Downward}
 use Rattle.terminal.specs.declared.Terminal.{Terminal}
 use Rattle.bus.specs.Quick.{shownBy, shownFrom}
-use Rattle.exchange.specs.Rest.{partRests, anyCalling, anyFrames}
+use Rattle.bus.specs.Exchange.{anySends}
+use Rattle.exchange.specs.Rest.{partRests, statesOf}
 use Rattle.listening.specs.Hears.{rests}
 use Rattle.bus_record.specs.NetworkSide.{networkRests}
 use Rattle.bus_record.specs.declared.record.BusRecord.{BusRecord}
@@ -50,15 +51,15 @@ module _ (j : ℕ) (some : 0 < j) where
       ((record { hears-alike = w .0; takes-no-part = w .1; t3-clear = clear-is (a .now .0) (a .over) (t .t3) j (w .2) }, rest .0), omega (arith, clear-most (a .now .0) (a .over) (t .t3), w .2))
 
 pub gathered-sent : (i : ℕ) (a : Ahead) (ts : List Terminal)
-    → (foldFrom alsoAhead i a ts .calling ≡ (a .calling || anyCalling ts)) × (foldFrom alsoAhead i a ts .frames ≡ (a .frames || anyFrames ts))
-unfolding foldFrom alsoAhead anyCalling anyFrames
+    → (foldFrom alsoAhead i a ts .calling ≡ (a .calling || anySends 1 (statesOf ts))) × (foldFrom alsoAhead i a ts .frames ≡ (a .frames || anySends 3 (statesOf ts)))
+unfolding foldFrom alsoAhead anySends
 gathered-sent i a [] = (rw or-false, rw or-false)
 gathered-sent i a (t ∷ ts) = let g = gathered-sent (suc i) (alsoAhead i a t) ts in (g .0 ∙ rw or-assoc, g .1 ∙ rw or-assoc)
 
 -- ---- All units.
 pub record Still (j : ℕ) (b : BusRecord) (ts : List Terminal) : Type 0 where
   pub quiet-is : quiet b ≡ true
-  pub network-rests : networkRests (shownFrom (anyCalling ts) (anyFrames ts)) (b .network) ≡ true
+  pub network-rests : networkRests (shownFrom (anySends 1 (statesOf ts)) (anySends 3 (statesOf ts))) (b .network) ≡ true
   pub terminals-stay : AllStay (shownBy (b .network .state)) (b .periods .0) j ts
   pub t1-clear : Clear (b .periods .0) j (b .network .t1)
   pub t2-clear : Clear (b .periods .0) j (b .network .t2)

@@ -22,7 +22,8 @@ use Rattle.hearing.specs.declared.heard.Downward.{Downward}
 use Rattle.network.specs.declared.Network.{Network}
 use Rattle.terminal.specs.declared.Terminal.{Terminal}
 use Rattle.bus.specs.Quick.{sentE, shownBy, shownFrom}
-use Rattle.exchange.specs.Rest.{partRests, allRest, anyCalling, anyFrames, restMoment, RestsThrough}
+use Rattle.bus.specs.Exchange.{anySends}
+use Rattle.exchange.specs.Rest.{partRests, allRest, statesOf, restMoment, RestsThrough}
 use Rattle.exchange.specs.Shown.{lettersOf}
 use Rattle.exchange.proofs.Resting.{rest-four}
 use Rattle.listening.specs.Hears.{rests}
@@ -112,10 +113,10 @@ module _ (images octets letters : List ℕ) (j : ℕ) (b : BusRecord) (ts : List
   unfolding hitIn lettersOf
   rest =
       let all = take-no-part state (b .periods) j run ts (s .terminals-stay) in
-      let third : allRest (sentE state (not (anyCalling ts))) ts ≡ true = rw (third-e (anyCalling ts) (anyFrames ts) (b .network) (s .network-rests)) all in
+      let third : allRest (sentE state (not (anySends 1 (statesOf ts)))) ts ≡ true = rw (third-e (anySends 1 (statesOf ts)) (anySends 3 (statesOf ts)) (b .network) (s .network-rests)) all in
       record { first = all; second = all; third = third; fourth = all }
 
-  moment-is : stepMoment b ts images letters ≡ restMoment state (lettersOf (hitIn false letters)) (anyCalling ts) (anyFrames ts)
+  moment-is : stepMoment b ts images letters ≡ restMoment state (lettersOf (hitIn false letters)) (anySends 1 (statesOf ts)) (anySends 3 (statesOf ts))
   unfolding stepMoment firstMoment
   moment-is = rw (parts .0, parts .1) (rest-four images state (lettersOf (hitIn false letters)) true ts rest .0)
 
@@ -145,10 +146,10 @@ module _ (images octets letters : List ℕ) (j : ℕ) (b : BusRecord) (ts : List
 
   -- the four D heard; in G3 all are 1
   abbrev ds : Four
-  ds = record { first = true; second = not (anyCalling ts); third = true; fourth = true }
+  ds = record { first = true; second = not (anySends 1 (statesOf ts)); third = true; fourth = true }
 
   ones : eqb state G3 ≡ true → ds ≡ allFour true
-  ones t = rw (none-calls (anyCalling ts) (anyFrames ts) (b .network) (s .network-rests) t)
+  ones t = rw (none-calls (anySends 1 (statesOf ts)) (anySends 3 (statesOf ts)) (b .network) (s .network-rests) t)
 
   read-is : readIn state ds octets (b .reader) ≡ quietReading (b .reader)
   unfolding readIn
@@ -175,4 +176,4 @@ module _ (images octets letters : List ℕ) (j : ℕ) (b : BusRecord) (ts : List
       let l : leb (b .periods .0 + 1) mostPeriods ≡ true = le-leb (b .periods .0 + 1) mostPeriods (omega (arith, s .one-left)) in
       let d1 = clear-due (b .periods) j (b .network .t1) run (s .t1-clear) in
       let d2 = clear-due (b .periods) j (b .network .t2) run (s .t2-clear) in
-      rw (moment-is, told-is, read-is, listens-rests (shownFrom (anyCalling ts) (anyFrames ts)) (b .periods) (b .network) (s .network-rests) d1 d2, next-is (b .periods) run, counted-is, l, parts .0, parts .1)
+      rw (moment-is, told-is, read-is, listens-rests (shownFrom (anySends 1 (statesOf ts)) (anySends 3 (statesOf ts))) (b .periods) (b .network) (s .network-rests) d1 d2, next-is (b .periods) run, counted-is, l, parts .0, parts .1)
