@@ -11,9 +11,8 @@ use Rattle.contention.specs.Stretch.{station}
 use Rattle.contention.specs.Invariant.{Sound, Invariant}
 use Rattle.contention.proofs.Crossing.{station-map}
 use Rattle.contention.proofs.InvariantKept.{invariant-run}
-use Rattle.bus.specs.Bus.{Bus, terminals, freshSeat, freshBus}
+use Rattle.bus.specs.Bus.{Bus, terminals, freshSeat, freshBus, seatAt}
 use Rattle.bus.specs.Calls.{Call, ran}
-use Rattle.bus.specs.Stretch.{seatAt}
 use Rattle.bus.proofs.Mapping.{stationOf, channelOf, AllImaged}
 use Rattle.bus.proofs.Simulation.{imaged-ran, allActions, calls-channel}
 
@@ -37,7 +36,7 @@ always-invariant calls =
     (invariant-run normal1 normal2 (omega arith) (omega arith) terminals (allActions freshBus calls))
 
 seat-station : (i : ℕ) (b : Bus) → station i (channelOf b) ≡ stationOf (seatAt i b)
-unfolding seatAt channelOf
+unfolding channelOf
 seat-station i b = station-map stationOf freshSeat refl (channelOf b) (b .seats) refl i
 
 pub always-sound : (calls : List Call) (i : ℕ) → Sound normal2 (stationOf (seatAt i (ran freshBus calls)))
@@ -48,5 +47,4 @@ pub always-held : (calls : List Call) (i : ℕ) → 1 ≤ seatAt i (ran freshBus
     IsBody (seatAt i (ran freshBus calls) .body)
     × (seatAt i (ran freshBus calls) .image ≡ image (seatAt i (ran freshBus calls) .body))
     × (seatAt i (ran freshBus calls) .terminal .access .length ≡ length (image (seatAt i (ran freshBus calls) .body)))
-unfolding seatAt
 always-held calls i h = (always-sound calls i .frame-held h .0, always-imaged calls i, always-sound calls i .frame-held h .1)

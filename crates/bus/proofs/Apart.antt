@@ -26,14 +26,14 @@ use Rattle.terminal.specs.Terminal as terminal
 use Rattle.terminal.specs.declared.Terminal.{Terminal}
 use Rattle.terminal.proofs.Laws.{happens-state, happens-alignment, hears-state, hears-alignment}
 use Rattle.terminal.proofs.RangesKept.{terminal-fits}
-use Rattle.bus.specs.Bus.{Seat, Bus, terminals, freshSeat, freshBus}
+use Rattle.bus.specs.Bus.{Seat, Bus, terminals, freshSeat, freshBus, seatAt}
 use Rattle.bus.specs.Exchange.{anySends, anyInfo1, anyInfo3, inF7, turned, exchanged, wholeDown}
 use Rattle.bus.specs.Period.{terminalHears, stepped, heardBy, timed, periodRun}
 use Rattle.bus.specs.Event as events
 use Rattle.bus.specs.Event.{classOf, seatOf, terminalDoes, withFrame, seatAfter, refusal, eventDone}
 use Rattle.bus.specs.Calls.{Call, reply, does, after, ran}
 use Rattle.bus.specs.Calls.Call.{event, period}
-use Rattle.bus.specs.Stretch.{seatAt, seatThen}
+use Rattle.bus.specs.Stretch.{seatThen}
 use Rattle.bus.specs.Ranges.{InRange}
 use Rattle.bus.specs.Apart as apart
 use Rattle.bus.proofs.Seats.{Each, seat-heard, seat-timed, each-event, each-exchanged}
@@ -193,7 +193,7 @@ unfolding turned
 turned-hears a e s w = by-test (inF7 s) (λ t. rw t (with-same a (s .terminal) _ refl refl w)) (λ t. rw t w)
 
 heard-all : (b : Bus) (a : Alignment) → InRange b → Each (Hears a) (b .seats) → Each (Hears (heardAs (shownDown (wholeDown (exchanged b))) a)) (heardBy (exchanged b) b .seats)
-unfolding seatAt seatThen terminalHears stepped
+unfolding seatThen terminalHears stepped
 heard-all b a r w i =
     let t = seatThen i (exchanged b) .terminal in
     let f = terminal-fits t (exchanged-in b r i) in
@@ -201,7 +201,7 @@ heard-all b a r w i =
     (with-heard (shownDown (wholeDown (exchanged b))) (b .periods) a t (f .from-F1) (f .to-F8) (each-exchanged (Hears a) (turned-hears a) b w i))
 
 timed-all : (b : Bus) (a : Alignment) → InRange b → Each (Hears a) (b .seats) → Each (Hears a) (timed b .seats)
-unfolding seatAt stepped
+unfolding stepped
 timed-all b a r w i =
     let f = terminal-fits (seatAt i b .terminal) (r .terminals-fit i) in
     rw (seat-timed i b) (with-timer (b .periods) a (seatAt i b .terminal) (f .from-F1) (f .to-F8) (w i))
@@ -255,7 +255,6 @@ with-own a t on (level own e) = own
 with-own a t on (behind r two e h) = rw (two, e)
 
 pub always-together : apart.AlwaysTogether
-unfolding seatAt
 always-together calls i on = with-own (agreed calls .line) _ on (agreed calls .all i)
 
 -- who sends INFO 1 hears what all hear, and is not aligned; who sends INFO 3 hears it too, and is aligned

@@ -24,11 +24,11 @@ use Rattle.contention.proofs.Demand3.{demand3-from}
 use Rattle.contention.proofs.Trace.{invariant-at}
 use Rattle.contention.proofs.HeardSteps.{completes-whole}
 use Rattle.contention.proofs.OpeningFlag as flag
-use Rattle.bus.specs.Bus.{Seat, Bus, terminals, freshSeat, freshBus}
+use Rattle.bus.specs.Bus.{Seat, Bus, terminals, freshSeat, freshBus, seatAt}
 use Rattle.bus.specs.Exchange.{Moment, inF7, seatsOf, turnOf, turned, eComes, saidTo, onward, begins}
 use Rattle.bus.specs.Calls.{Call, reply, after, notes, ran, allNotes}
 use Rattle.bus.specs.Calls.Call.{event, period}
-use Rattle.bus.specs.Stretch.{seatAt, Stretch, momentsOf, moments, seatThen, Waits, Completes, Begins, bodyIn, bodyHeard, firstDone, bodyCompleted, buses, powered, poweredFrom, poweredIn, longestOf, longestIn}
+use Rattle.bus.specs.Stretch.{Stretch, momentsOf, moments, seatThen, Waits, Completes, Begins, bodyIn, bodyHeard, firstDone, bodyCompleted, buses, powered, poweredFrom, poweredIn, longestOf, longestIn}
 use Rattle.bus.specs.Claims.{nowhere, at, opps, NoRivalTwice, WaitEnds, NoStopInFlag, BegunSince, HeardWhole, HeardInOrder, BegunHeard, heardFrom, completedFrom, HeardAsCompleted, PartOfList, Demand3}
 use Rattle.bus.proofs.Seats.{Each, each-begins, each-onward, length-ran}
 use Rattle.bus.proofs.Mapping.{stationOf, stationsOf, channelOf, channelAt, turn-is}
@@ -109,7 +109,7 @@ active-at-most (s ∷ ss) k bs h =
 
 active-powered : (b : Bus) (calls : List Call) → length (b .seats) ≡ terminals →
     channel.activeCount (stationsOf (ran b calls .seats)) ≤ poweredIn (buses b calls)
-unfolding poweredIn seatAt
+unfolding poweredIn
 active-powered b calls h =
     rw (length-ran b calls ∙ h) at (active-at-most (ran b calls .seats) 0 (buses b calls) (λ i e. rw (zero-add i) (powered-last i b calls e)))
 

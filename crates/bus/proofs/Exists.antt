@@ -23,13 +23,13 @@ use Rattle.hearing.specs.Sensing.{shownUp, shownDown}
 use Rattle.network.specs.Network as network
 use Rattle.network.specs.declared.Network.{Network}
 use Rattle.terminal.specs.Terminal as terminal
-use Rattle.bus.specs.Bus.{Seat, Hit, Bus, freshSeat, freshBus}
+use Rattle.bus.specs.Bus.{Seat, Hit, Bus, freshSeat, freshBus, seatAt}
 use Rattle.bus.specs.Bus.Hit.{none, given}
 use Rattle.bus.specs.Exchange.{Moment, turnOf, eComes, saidTo, seatsOf, anySends, anyInfo1, anyInfo3, turned, onward, begins, opportunitiesOf, exchanged, wholeDown, wholeUp, lineDown, inF7}
 use Rattle.bus.specs.Period.{networkHears, terminalHears, stepped, heardBy, timed, periodRun}
 use Rattle.bus.specs.Calls.{Call, reply, does, after, ran}
 use Rattle.bus.specs.Calls.Call.{event, period}
-use Rattle.bus.specs.Stretch.{seatAt, seatThen, Undisturbed, Stretch, momentsOf, moments, Calm, Stays, Waits, Completes, Begins, bodyHeard, firstDone, bodyCompleted}
+use Rattle.bus.specs.Stretch.{seatThen, Undisturbed, Stretch, momentsOf, moments, Calm, Stays, Waits, Completes, Begins, bodyHeard, firstDone, bodyCompleted}
 use Rattle.bus.specs.Claims.{at, opps, waitBound}
 use Rattle.bus.specs.Quick.{shownBy, shownFrom}
 use Rattle.bus.specs.Scenes as scenes
@@ -150,7 +150,6 @@ unfolding periodRun timed heardBy
 hit-run b = refl
 
 steady-on : (b : Bus) → Steady b → Steady (periodRun b)
-unfolding seatAt
 steady-on b s =
     record {
       in-G3 = net-run b s .0;
@@ -242,7 +241,6 @@ calm-is b period h = λ r.
     (not-true (anyInfo1 (b .seats)) (and-right (noHit (b .hit)) (not (anyInfo1 (b .seats))) h))
 
 stays-is : (b b′ : Bus) → stays b b′ ≡ true → Stays b b′
-unfolding seatAt
 stays-is b b′ h =
     let first = eqb (b .network .state) G3 in
     let second = eqb (b′ .network .state) G3 in

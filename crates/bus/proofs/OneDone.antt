@@ -13,11 +13,10 @@ use Rattle.cases.proofs.ByCases.{by-test}
 use Rattle.cells.specs.Notes.{DONE1, DONE2}
 use Rattle.dchannel.specs.Access.{normal1, normal2}
 use Rattle.dchannel.proofs.AccessLaws.{completion-only, complete, held-kept}
-use Rattle.bus.specs.Bus.{Seat, Bus, freshSeat}
+use Rattle.bus.specs.Bus.{Seat, Bus, freshSeat, seatAt}
 use Rattle.bus.specs.Exchange.{Sender, Moment, inF7, turnOf, turned, doneOf, hearsE, eComes, sendersAfter, onward, seated, begins, exchanged}
 use Rattle.bus.specs.Period.{doneCodes}
 use Rattle.bus.specs.Event.{among}
-use Rattle.bus.specs.Stretch.{seatAt}
 
 -- ---- the exchange of one terminal: the four E that come, and what they leave of it
 unfoldable pub hearsFour : Bool → Bool → Bool → Bool → Seat → Sender
@@ -49,7 +48,6 @@ senders-exchanged b =
 
 -- the one at an index
 pub sender-exchanged : (b : Bus) (i : ℕ) → getD (exchanged b .senders) i (exchangedAt b freshSeat) ≡ exchangedAt b (seatAt i b)
-unfolding seatAt
 sender-exchanged b i = rw (senders-exchanged b) (List·getD-map (exchangedAt b) (b .seats) i freshSeat)
 
 -- ---- nothing is completed, or one frame of class k

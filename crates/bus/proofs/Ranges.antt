@@ -33,13 +33,13 @@ use Rattle.terminal.specs.Terminal as terminal
 use Rattle.terminal.specs.declared.Terminal.{Terminal}
 use Rattle.terminal.proofs.Laws as terminal-laws
 use Rattle.terminal.proofs.RangesKept as terminal-kept
-use Rattle.bus.specs.Bus.{Seat, Bus, terminals, freshSeat, freshBus}
+use Rattle.bus.specs.Bus.{Seat, Bus, terminals, freshSeat, freshBus, seatAt}
 use Rattle.bus.specs.Exchange.{inF7, turnOf, turned, exchanged, wholeDown, wholeUp}
 use Rattle.bus.specs.Period.{networkHears, terminalHears, stepped, doneCodes, heardBy, timed, periodRun}
 use Rattle.bus.specs.Event.{ON, OFF, AR, D1, D2, HIT, among, seatOf, classOf, refusal, networkDoes, networkDone, hitGiven, terminalDoes, withFrame, seatAfter, seatDone, eventDone}
 use Rattle.bus.specs.Calls.{Call, reply, does, after, ran}
 use Rattle.bus.specs.Calls.Call.{event, period}
-use Rattle.bus.specs.Stretch.{seatAt, seatThen}
+use Rattle.bus.specs.Stretch.{seatThen}
 use Rattle.bus.specs.Ranges.{InRange, runs, runsInG3, periodsRun, periodsInG3}
 use Rattle.bus.proofs.Seats.{Each, seat-heard, seat-timed, length-heard, length-timed, each-change, each-exchanged}
 use Rattle.bus.proofs.Simulation.{Takes, accepted, accepted-frame}
@@ -155,7 +155,6 @@ module _ (b : Bus) (r : InRange b) where
 
   -- So what is completed in the period is told by a bit for each class.
   pub held-in : (i : ℕ) → seatAt i b .terminal .access .held ≤ 2
-  unfolding seatAt
   held-in i = access-fits normal2 _ (terminal-kept.terminal-fits _ (r .terminals-fit i) .access-fits) .held-fits
 
   pub done-bits-in : (i : ℕ) →
@@ -164,11 +163,9 @@ module _ (b : Bus) (r : InRange b) where
   done-bits-in i = done-bits b (seatAt i b) (held-in i)
 
 terminals-heard : (b : Bus) → b .periods ≤ mostPeriods → InRange b → Each Fit (heardBy (exchanged b) b .seats)
-unfolding seatAt
 terminals-heard b l r i = rw (seat-heard i (exchanged b) b) (hears-in (b .periods) l (seatThen i (exchanged b)) (exchanged-in b r i) (wholeDown (exchanged b)))
 
 terminals-timed : (b : Bus) → InRange b → Each Fit (timed b .seats)
-unfolding seatAt
 terminals-timed b r i = rw (seat-timed i b) (timer-in (b .periods) (r .periods-fit) (seatAt i b) (r .terminals-fit i))
 
 pub heard-in : (b : Bus) → b .periods < mostPeriods → InRange b → InRange (heardBy (exchanged b) b)
@@ -312,7 +309,6 @@ pub record PeriodCalled (b : Bus) : Type 0 where
       ≡ terminal.timer (heard b .periods) (seatAt i (heard b) .terminal)
 
 pub period-called : (b : Bus) → b .periods < mostPeriods → InRange b → PeriodCalled b
-unfolding seatAt
 period-called b l r =
     let now : b .periods ≤ mostPeriods = omega arith in
     let h = heard-in b l r in

@@ -10,13 +10,13 @@ use Rattle.timing.specs.Timers.{due}
 use Rattle.contention.specs.Change.{change}
 use Rattle.contention.proofs.Change.{length-change}
 use Rattle.terminal.specs.Terminal as terminal
-use Rattle.bus.specs.Bus.{Seat, Bus, freshSeat}
+use Rattle.bus.specs.Bus.{Seat, Bus, freshSeat, seatAt}
 use Rattle.bus.specs.Exchange.{Sender, Moment, seatsOf, turned, hearsE, eComes, sendersAfter, onward, seated, begins, exchanged, wholeDown}
 use Rattle.bus.specs.Period.{terminalHears, stepped, heardBy, timed, periodRun}
 use Rattle.bus.specs.Event.{HIT, seatOf, networkDone, hitGiven, seatAfter, seatDone, eventDone}
 use Rattle.bus.specs.Calls.{Call, reply, does, after, ran}
 use Rattle.bus.specs.Calls.Call.{event, period}
-use Rattle.bus.specs.Stretch.{seatAt, seatThen}
+use Rattle.bus.specs.Stretch.{seatThen}
 
 -- ---- the exchange: the terminals as it begins, and after an E
 pub seats-seated : (ss : List Seat) → seatsOf (map seated ss) ≡ ss
@@ -30,7 +30,7 @@ seats-hear e [] = refl
 seats-hear e (s ∷ ss) = rw (seats-hear e ss)
 
 pub seat-begins : (i : ℕ) (b : Bus) → seatThen i (begins b) ≡ seatAt i b
-unfolding seatThen seatAt begins
+unfolding seatThen begins
 seat-begins i b = rw (seats-seated (b .seats))
 
 -- past the list all are fresh, and a fresh one stays as it is
@@ -40,11 +40,11 @@ seat-onward i m = rw (seats-hear (eComes m) (m .senders)) (List·getD-map (turne
 
 -- ---- a period: hearing, then timers
 pub seat-heard : (i : ℕ) (m : Moment) (b : Bus) → seatAt i (heardBy m b) ≡ stepped (terminalHears (wholeDown m) (b .periods)) (seatThen i m)
-unfolding seatAt seatThen heardBy stepped terminalHears terminal.hears
+unfolding seatThen heardBy stepped terminalHears terminal.hears
 seat-heard i m b = List·getD-map (stepped (terminalHears (wholeDown m) (b .periods))) (seatsOf (m .senders)) i freshSeat
 
 pub seat-timed : (i : ℕ) (b : Bus) → seatAt i (timed b) ≡ stepped (terminal.timer (b .periods)) (seatAt i b)
-unfolding seatAt timed stepped terminal.timer due
+unfolding timed stepped terminal.timer due
 seat-timed i b = List·getD-map (stepped (terminal.timer (b .periods))) (b .seats) i freshSeat
 
 -- ---- no call changes how many there are
@@ -105,7 +105,7 @@ module _ (P : Seat → Type 0) where
   -- what a turn keeps, the exchange keeps
   module _ (keeps : (e : Bool) (s : Seat) → P s → P (turned e s)) where
     pub each-begins : (b : Bus) → Each P (b .seats) → Each P (seatsOf (begins b .senders))
-    unfolding seatThen seatAt
+    unfolding seatThen
     each-begins b h i = rw (seat-begins i b) (h i)
 
     pub each-onward : (m : Moment) → Each P (seatsOf (m .senders)) → Each P (seatsOf (onward m .senders))
@@ -119,6 +119,6 @@ module _ (P : Seat → Type 0) where
     -- .. and a period keeps what hearing and timers keep too
     pub each-period : (b : Bus) → ((down : List ℕ) (s : Seat) → P s → P (stepped (terminalHears down (b .periods)) s)) →
         ((s : Seat) → P s → P (stepped (terminal.timer (b .periods + 1)) s)) → Each P (b .seats) → Each P (periodRun b .seats)
-    unfolding periodRun seatAt seatThen heardBy
+    unfolding periodRun seatThen heardBy
     each-period b hears timer h i =
         rw (seat-timed i (heardBy (exchanged b) b), seat-heard i (exchanged b) b) (timer _ (hears (wholeDown (exchanged b)) _ (each-exchanged b h i)))

@@ -19,13 +19,13 @@ use Rattle.contention.proofs.WholeList.{opportunities-append, stretch-append}
 use Rattle.network.specs.Network as network
 use Rattle.network.proofs.Laws.{timers-keep-G3}
 use Rattle.terminal.proofs.Laws.{timer-keeps-F7}
-use Rattle.bus.specs.Bus.{Seat, Hit, Bus, freshSeat}
+use Rattle.bus.specs.Bus.{Seat, Hit, Bus, freshSeat, seatAt}
 use Rattle.bus.specs.Exchange.{Moment, inF7, inG3, seatsOf, anyInfo1, eComes, dComes, sendersAfter, onward, begins, opportunitiesOf, exchanged, wholeDown, wholeUp}
 use Rattle.bus.specs.Period.{networkHears, terminalHears, stepped, heardBy, timed, periodRun}
 use Rattle.bus.specs.Event.{HIT, seatOf, classOf, refusal, networkDoes, networkDone, terminalDoes, seatAfter, seatDone, eventDone}
 use Rattle.bus.specs.Calls.{Call, reply, does, after}
 use Rattle.bus.specs.Calls.Call.{event, period}
-use Rattle.bus.specs.Stretch.{seatAt, seatThen, Undisturbed, Stays, Calm, Stretch, momentsOf, moments}
+use Rattle.bus.specs.Stretch.{seatThen, Undisturbed, Stays, Calm, Stretch, momentsOf, moments}
 use Rattle.bus.specs.Quick.{InStep}
 use Rattle.bus.proofs.Quick.{state-turned, info1-hears, one-more, in-step-seated, in-step-hears}
 use Rattle.bus.proofs.Seats.{seats-seated, seat-begins, seat-onward, seat-heard, seat-timed}
@@ -155,7 +155,7 @@ within-F7 (s ∷ ss) (suc i) h = omega (arith, within-F7 ss i h)
 
 terminal-stays : (b : Bus) (unit number : ℕ) (value : List ℕ) → eqb unit 0 ≡ false → eqb (classOf number) 0 ≡ true → Stays b (eventDone unit number value b) →
     inF7 (seatOf b unit) ≡ true → inF7 (stepped (terminalDoes number (b .periods)) (seatOf b unit)) ≡ true
-unfolding seatAt eventDone seatDone seatAfter
+unfolding eventDone seatDone seatAfter
 terminal-stays b unit number value t u s h =
     let f = seatAfter number value (b .periods) in
     let e : seatAt (unit - 1) (eventDone unit number value b) .terminal .state ≡ F7 = s .still-F7 (unit - 1) (eqb-true (seatOf b unit .terminal .state) F7 h) in

@@ -7,9 +7,8 @@ use Prim.Native.Nat.{ℕ}
 use lib.Dec.{eqb}
 use Rattle.table_6_2.specs.Table62.{F1}
 use Rattle.table_6_2.specs.States.{inF6OrF7}
-use Rattle.bus.specs.Bus.{freshBus}
+use Rattle.bus.specs.Bus.{freshBus, seatAt}
 use Rattle.bus.specs.Calls.{Call, ran}
-use Rattle.bus.specs.Stretch.{seatAt}
 use Rattle.bus.specs.Exchange.{anyInfo1, anyInfo3}
 
 -- A powered terminal is aligned exactly in F6 and F7.

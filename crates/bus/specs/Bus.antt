@@ -2,7 +2,7 @@
 use mathlib.Core.Bool.{Bool, true}
 use mathlib.Core.List.{List, [], _∷_}
 use Prim.Native.Nat.{ℕ}
-use lib.ListN.{replicate}
+use lib.ListN.{getD, replicate}
 use Rattle.hdlc.specs.Image.{image}
 use Rattle.hdlc.specs.Reading.{Reading, cleared}
 use Rattle.network.specs.Network as network
@@ -43,6 +43,10 @@ terminals = 8
 -- no frame is held: nothing looks at image and body
 abbrev pub freshSeat : Seat
 freshSeat = record { terminal = terminal.fresh; image = image []; body = [] }
+
+-- the terminal at an index, its unit less 1
+abbrev pub seatAt : ℕ → Bus → Seat
+seatAt i b = getD (b .seats) i freshSeat
 
 -- "A fresh bus is in G1 and F1, unaligned, with no timer running and all levels normal." The last D heard is 1 (docs/DECISIONS.md,
 -- reading 4).

@@ -4,7 +4,7 @@ use mathlib.Core.Bool.{Bool, false, cond, not, _&&_, _||_}
 use mathlib.Core.List.{List, [], _∷_}
 use Prim.Native.Nat.{ℕ, suc, _-_}
 use lib.Dec.{eqb, ltb}
-use lib.ListN.{length, getD}
+use lib.ListN.{length}
 use Rattle.symbols.specs.Symbols.{lineLength, fits}
 use Rattle.combining.specs.Hit.{noneLetter}
 use Rattle.cells.specs.Notes.{noted}
@@ -20,7 +20,7 @@ use Rattle.network.specs.declared.Network.{Network}
 use Rattle.network.specs.declared.NetworkStep.{NetworkStep}
 use Rattle.terminal.specs.declared.Terminal.{Terminal}
 use Rattle.terminal.specs.declared.TerminalStep.{TerminalStep}
-use Rattle.bus.specs.Bus.{Seat, Hit, Bus, Note, terminals, freshSeat, notesOf}
+use Rattle.bus.specs.Bus.{Seat, Hit, Bus, Note, terminals, seatAt, notesOf}
 use Rattle.bus.specs.Period.{readingAfter, stepped}
 
 -- The events, in the order in which document 01 names them.
@@ -52,7 +52,7 @@ among n (x ∷ xs) = eqb n x || among n xs
 
 -- the terminal of a unit
 abbrev pub seatOf : Bus → ℕ → Seat
-seatOf b unit = getD (b .seats) (unit - 1) freshSeat
+seatOf b unit = seatAt (unit - 1) b
 
 -- the class of the frame that an event gives, 0 where it gives none
 unfoldable pub classOf : ℕ → ℕ

@@ -10,11 +10,11 @@ use Rattle.timing.specs.Counts.{mostPeriods}
 use Rattle.table_6_2.specs.Table62.{F7}
 use Rattle.table_6_3.specs.Table63.{G3}
 use Rattle.dchannel.specs.Access.{lowOf}
-use Rattle.bus.specs.Bus.{Hit, Bus, freshBus}
+use Rattle.bus.specs.Bus.{Hit, Bus, freshBus, seatAt}
 use Rattle.bus.specs.Exchange.{Moment, anyInfo1, turnOf, eComes, saidTo}
 use Rattle.bus.specs.Calls.{Call, reply, after, ran}
 use Rattle.bus.specs.Calls.Call.{event, period}
-use Rattle.bus.specs.Stretch.{seatAt, Stretch, moments, seatThen, Waits, Completes, Begins, bodyHeard, bodyCompleted}
+use Rattle.bus.specs.Stretch.{Stretch, moments, seatThen, Waits, Completes, Begins, bodyHeard, bodyCompleted}
 use Rattle.bus.specs.Claims.{at, opps, CompletedWithin, waitBound, heardFrom, completedFrom}
 use Rattle.bus.specs.Scenes.{activating, activated, beforeWait, duringWait, duringBusy}
 

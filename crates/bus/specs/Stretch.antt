@@ -11,14 +11,10 @@ use Rattle.table_6_3.specs.Table63.{G3}
 use Rattle.dchannel.specs.Access.{lowOf}
 use Rattle.hdlc.specs.Reading.{Said}
 use Rattle.hdlc.specs.Reading.Said.{nothing, torn, heard}
-use Rattle.bus.specs.Bus.{Seat, Hit, Bus, terminals, freshSeat}
+use Rattle.bus.specs.Bus.{Seat, Hit, Bus, terminals, freshSeat, seatAt}
 use Rattle.bus.specs.Exchange.{Moment, inF7, seatsOf, anyInfo1, turnOf, eComes, saidTo, opportunitiesOf}
 use Rattle.bus.specs.Calls.{Call, reply, after}
 use Rattle.bus.specs.Calls.Call.{event, period}
-
--- the terminal at an index (unit less 1) of a bus
-unfoldable pub seatAt : ℕ → Bus → Seat
-seatAt i b = getD (b .seats) i freshSeat
 
 -- What a stretch allows of a period run in it: "No period run in it has a hit or a terminal sending INFO 1"
 pub record Undisturbed (b : Bus) : Type 0 where

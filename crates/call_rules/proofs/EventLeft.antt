@@ -31,10 +31,9 @@ use Rattle.network.specs.Network as network
 use Rattle.terminal.specs.Terminal as terminal
 use Rattle.terminal.specs.declared.Terminal.{Terminal}
 use Rattle.terminal.proofs.Laws.{AccessByState, switches-on-access, switches-off-access, requests-access}
-use Rattle.bus.specs.Bus.{Seat, Bus, terminals, freshSeat}
+use Rattle.bus.specs.Bus.{Seat, Bus, terminals, freshSeat, seatAt}
 use Rattle.bus.specs.Period.{readingAfter, stepped}
 use Rattle.bus.specs.Event.{ON, OFF, AR, DR, D1, D2, seatOf, classOf, eventFor, networkDoes, networkDone, hitGiven, terminalDoes, withFrame, seatAfter, seatDone}
-use Rattle.bus.specs.Stretch.{seatAt}
 use Rattle.bus.proofs.Barred as barred
 use Rattle.bus.proofs.Simulation.{Takes}
 use Rattle.bus.proofs.Ranges.{network-does-called, terminal-does-called, hand-over-called, classGiven, class-given}
@@ -92,7 +91,7 @@ module _ (k : Kept) (b : Bus) (c : Carries k b) where
 
   pub hit-carried : (value : List ℕ) → areLetters value ≡ true →
       Carries (kept (withHit (k .bus)) (k .terminals) (k .images) (k .octets) (takenOver value (k .letters)) (k .notes)) (hitGiven value b)
-  unfolding withHit hitGiven hitIn seatAt
+  unfolding withHit hitGiven hitIn
   hit-carried value h =
       record {
         periods-is = c .periods-is;
@@ -120,7 +119,7 @@ module _ (k : Kept) (b : Bus) (c : Carries k b) where
         ∙ network-does-called (b .periods) (f .in-range .periods-fit) number (b .network) (f .in-range .network-fits))
 
     pub asked-carried : Carries (kept (networkAsked number (k .bus) .bus) (k .terminals) (k .images) (k .octets) (k .letters) (k .notes)) (networkDone number b)
-    unfolding networkAsked networkDone parts.told seatAt
+    unfolding networkAsked networkDone parts.told
     asked-carried =
         record {
           periods-is = c .periods-is;
@@ -186,7 +185,7 @@ module _ (k : Kept) (b : Bus) (c : Carries k b) (unit : ℕ) where
     pub power-carried : Carries
         (kept (k .bus) (set (k .terminals) (unit - 1) (terminalDoes number (b .periods) (seatOf b unit .terminal) .terminal)) (k .images) (k .octets) (k .letters) (k .notes))
         (seatDone unit number value b)
-    unfolding seatDone stepped seatAt
+    unfolding seatDone stepped
     power-carried =
         record {
           periods-is = c .periods-is;
@@ -266,7 +265,7 @@ module _ (k : Kept) (b : Bus) (c : Carries k b) (f : Fit b) (unit number : ℕ) 
   is-there = is-body value (takes .good)
 
   frame-bits : (i : ℕ) → SameBits (seatAt i (seatDone unit number value b) .terminal .access) (imageOf (imagePut (unit - 1) value (k .images)) i) (seatAt i (seatDone unit number value b) .image)
-  unfolding seatAt seatDone
+  unfolding seatDone
   frame-bits i =
       by-test (eqb i (unit - 1))
       (λ t.

@@ -10,9 +10,8 @@ use lib.ListN.{getD, length-map}
 use Rattle.walks.specs.Over.{mapFrom}
 use Rattle.hdlc.proofs.ImageLaws.{length-image}
 use Rattle.timing.specs.Counts.{mostPeriods}
-use Rattle.bus.specs.Bus.{Seat, Bus, freshSeat, freshBus}
+use Rattle.bus.specs.Bus.{Seat, Bus, freshSeat, freshBus, seatAt}
 use Rattle.bus.specs.Calls.{Call, ran}
-use Rattle.bus.specs.Stretch.{seatAt}
 use Rattle.bus.specs.Ranges.{InRange}
 use Rattle.bus.proofs.Always.{always-sound}
 use Rattle.bus.proofs.Ranges.{always-in-range}
@@ -77,7 +76,7 @@ seats-shown images i (s ∷ ss) h =
     (seats-shown images (suc i) ss (λ j. let n : i + suc j ≡ suc i + j = omega arith in rw n at (h (suc j))))
 
 pub bus-shown : (k : Kept) (b : Bus) → Carries k b → Fit b → SameBus (busIn k) b
-unfolding busIn seatAt
+unfolding busIn
 bus-shown k b c f =
     record {
       periods-is = c .periods-is;

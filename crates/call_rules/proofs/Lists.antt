@@ -12,12 +12,11 @@ use Rattle.hdlc.specs.Image.{longestBody}
 use Rattle.reader.proofs.ReadingKept.{stands-fresh}
 use Rattle.reader.proofs.RangesKept as reader-kept
 use Rattle.terminal.specs.declared.Terminal.{Terminal}
-use Rattle.bus.specs.Bus.{Bus, terminals, freshSeat, freshBus}
+use Rattle.bus.specs.Bus.{Bus, terminals, freshSeat, freshBus, seatAt}
 use Rattle.bus.specs.Event.{HIT}
 use Rattle.bus.specs.Calls as bus
 use Rattle.bus.specs.Calls.{Call, ran}
 use Rattle.bus.specs.Calls.Call.{event, period}
-use Rattle.bus.specs.Stretch.{seatAt}
 use Rattle.listening.specs.declared.hears.UnitNotes.{UnitNotes}
 use Rattle.bus_record.specs.Record.{recordInRange}
 use Rattle.bus_record.specs.NetworkSide.{noNotes, refusedRun}
@@ -185,7 +184,6 @@ fresh-at (suc n) zero = refl
 fresh-at (suc n) (suc i) = fresh-at n i
 
 fresh-held : (i : ℕ) → seatAt i freshBus .terminal .access .held ≡ 0
-unfolding seatAt
 fresh-held i = rw (fresh-at terminals i)
 
 pub fresh-carries : (images octets letters : List ℕ) → length images ≡ imagesRoom → longestBody ≤ length octets → areLetters letters ≡ true

@@ -19,10 +19,9 @@ use Rattle.terminal.specs.Terminal as terminal
 use Rattle.terminal.specs.declared.Terminal.{Terminal}
 use Rattle.terminal.specs.declared.TerminalStep.{TerminalStep}
 use Rattle.terminal.proofs.Laws.{AccessByState, hears-access, timer-access}
-use Rattle.bus.specs.Bus.{Seat, Bus}
+use Rattle.bus.specs.Bus.{Seat, Bus, seatAt}
 use Rattle.bus.specs.Exchange.{Sender, Moment, inF7, turnOf, turned, dOf, doneOf, hearsE, sentOf, lineUp, eComes, sendersAfter, dComes, onward, seated, begins, opportunitiesOf, exchanged, wholeDown, wholeUp}
 use Rattle.bus.specs.Period.{networkHears, terminalHears, stepped, heardBy, timed, periodRun}
-use Rattle.bus.specs.Stretch.{seatAt}
 use Rattle.bus.proofs.Seats.{seat-begins, seat-onward, seat-heard, seat-timed}
 use Rattle.call_rules.proofs.Pairs.{Both, both-map, both-equal}
 

@@ -7,12 +7,11 @@ use native.Mathlib.Omega.{arith}
 use lib.ListN.{getD, List·getD-map}
 use Rattle.hdlc.specs.Bits.{numberLowFirst, bitOf}
 use Rattle.hdlc.proofs.OctetLaws.{number-bit}
-use Rattle.bus.specs.Bus.{Bus, freshSeat}
+use Rattle.bus.specs.Bus.{Bus, freshSeat, seatAt}
 use Rattle.bus.specs.Exchange.{Sender, seatsOf, turned, doneOf, hearsE, seated, exchanged, wholeDown}
 use Rattle.hearing.specs.Sensing.{shownDown}
 use Rattle.bus.specs.Period.{terminalHears, stepped, doneCodes, hearingNotes, timerNotes}
 use Rattle.bus.specs.Event.{among}
-use Rattle.bus.specs.Stretch.{seatAt}
 use Rattle.bus.specs.Ranges.{InRange}
 use Rattle.bus.proofs.OneDone.{hearsFour, exchangedAt, sender-exchanged}
 use Rattle.bus.proofs.Ranges.{done-bits-in}

@@ -17,10 +17,9 @@ use Rattle.terminal.specs.Terminal as terminal
 use Rattle.terminal.specs.declared.Terminal.{Terminal}
 use Rattle.reader.specs.ReaderRange.{readerInRange}
 use Rattle.reader.specs.StandsFor.{StandsFor}
-use Rattle.bus.specs.Bus.{Seat, Bus, Note, terminals, freshBus, notesOf}
+use Rattle.bus.specs.Bus.{Seat, Bus, Note, terminals, freshBus, notesOf, seatAt}
 use Rattle.bus.specs.Calls.{Call, reply, notes, after, allNotes}
 use Rattle.bus.specs.Calls.Call.{event, period}
-use Rattle.bus.specs.Stretch.{seatAt}
 use Rattle.exchange.specs.Part.{imageOf}
 use Rattle.listening.specs.declared.hears.UnitNotes.{UnitNotes}
 use Rattle.bus_record.specs.Record.{freshRecord}
