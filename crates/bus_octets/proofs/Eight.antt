@@ -8,11 +8,12 @@ use lib.ListN.{length}
 use Rattle.walks.proofs.Over.{acc, acc-all}
 use Rattle.terminal.specs.declared.Terminal.{Terminal}
 use Rattle.bus.specs.Bus.{terminals}
-use Rattle.call_rules.specs.Ready.{alsoInRange, eightInRange}
+use Rattle.call_rules.specs.Ready.{eightInRange}
+use Rattle.call_rules.proofs.InOrder.{alsoInRange, from-first}
 
 pub all-read : (ts : List Terminal) (i : ℕ) → length ts ≡ terminals → i ≤ terminals → terminals ≤ i
     → acc alsoInRange true i 0 ts ≡ eightInRange ts
 unfolding eightInRange
 all-read ts i long h k =
     let e : i ≡ length ts = omega arith in
-    rw (e, acc-all alsoInRange true 0 ts, long)
+    rw (e, acc-all alsoInRange true 0 ts, long) (from-first 0 true ts)

@@ -8,7 +8,6 @@ use lib.Dec.{eqb, ltb}
 use lib.ListN.{length, getD, take, replicate}
 use Rattle.cells.specs.Notes.{HEARD, DONE1, DONE2, noted}
 use Rattle.symbols.specs.Symbols.{fits, within}
-use Rattle.walks.specs.Over.{foldFrom}
 use Rattle.dchannel.specs.Ranges.{accessInRange}
 use Rattle.hdlc.specs.Bits.{bitOf}
 use Rattle.hdlc.specs.Image.{longestBody}
@@ -21,6 +20,7 @@ use Rattle.bus.specs.Bus.{Seat, Bus, Note, terminals, freshBus, notesOf, seatAt
 use Rattle.bus.specs.Calls.{Call, reply, notes, after, allNotes}
 use Rattle.bus.specs.Calls.Call.{event, period}
 use Rattle.exchange.specs.Part.{imageOf}
+use Rattle.listening.specs.Shown.{allInRange}
 use Rattle.listening.specs.declared.hears.UnitNotes.{UnitNotes}
 use Rattle.bus_record.specs.Record.{freshRecord}
 use Rattle.bus_record.specs.NetworkSide.{noNotes}
@@ -251,7 +251,7 @@ pub terminals-amiss :
     × Refused 1 (amiss period (fresh 7) (zeros 2576) (zeros 266) (zeros 48) (places 8))
     × Refused 1 (amiss period (astray ∷ fresh 7) (zeros 2576) (zeros 266) (zeros 48) (places 8))
     × Refused 1 (amiss period [] [] [] [] [])
-unfolding wouldFit lentFits eightInRange foldFrom terminal.terminalInRange accessInRange fits within
+unfolding wouldFit lentFits eightInRange allInRange terminal.terminalInRange accessInRange fits within
 terminals-amiss = ((refl, refl), (refl, refl), (refl, refl), (refl, refl), (refl, refl), (refl, refl))
 
 -- with eight terminals, of an event the images, or the letters in number or in code: 2
@@ -260,7 +260,7 @@ pub event-slices-amiss :
     × Refused 2 (amiss on (fresh 8) (zeros 2577) [] (zeros 48) [])
     × Refused 2 (amiss on (fresh 8) (zeros 2576) [] (zeros 47) [])
     × Refused 2 (amiss on (fresh 8) (zeros 2576) [] (4 ∷ zeros 47) [])
-unfolding wouldFit eightInRange foldFrom terminal.terminalInRange accessInRange fits within
+unfolding wouldFit eightInRange allInRange terminal.terminalInRange accessInRange fits within
 event-slices-amiss = ((refl, refl), (refl, refl), (refl, refl), (refl, refl))
 
 -- .. and of a period also the octets or the places
@@ -272,7 +272,7 @@ pub period-slices-amiss :
     × Refused 2 (amiss period (fresh 8) (zeros 2576) (zeros 266) (4 ∷ zeros 47) (places 8))
     × Refused 2 (amiss period (fresh 8) (zeros 2576) (zeros 266) (zeros 48) (places 7))
     × Refused 2 (amiss period (fresh 8) (zeros 2576) (zeros 266) (zeros 48) (places 9))
-unfolding wouldFit lentFits eightInRange foldFrom terminal.terminalInRange accessInRange fits within
+unfolding wouldFit lentFits eightInRange allInRange terminal.terminalInRange accessInRange fits within
 period-slices-amiss = ((refl, refl), (refl, refl), (refl, refl), (refl, refl), (refl, refl), (refl, refl), (refl, refl))
 
 -- what has its length would fit, the octets also where they are more

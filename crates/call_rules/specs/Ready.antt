@@ -4,25 +4,20 @@ use mathlib.Core.List.{List}
 use Prim.Native.Nat.{ℕ}
 use lib.Dec.{eqb, ltb, leb}
 use lib.ListN.{length}
-use Rattle.walks.specs.Over.{foldFrom}
 use Rattle.hdlc.specs.Image.{longestBody}
 use Rattle.timing.specs.Counts.{allRun}
-use Rattle.terminal.specs.Terminal.{terminalInRange}
 use Rattle.terminal.specs.declared.Terminal.{Terminal}
 use Rattle.bus.specs.Bus.{terminals}
+use Rattle.listening.specs.Shown.{allInRange}
 use Rattle.bus_record.specs.Record.{recordInRange}
 use Rattle.bus_event.specs.Event.{imagesRoom, areLetters}
 use Rattle.bus_record.specs.declared.record.BusRecord.{BusRecord}
 use Rattle.bus_record.specs.declared.side.Ran.{Ran}
 use Rattle.call_rules.specs.Kept.{Kept}
 
--- the terminals so far, and one more
-abbrev pub alsoInRange : ℕ → Bool → Terminal → Bool
-alsoInRange i ok t = ok && terminalInRange t
-
 -- 1: "or the slice of terminal records is not eight long"; each in its range
 unfoldable pub eightInRange : List Terminal → Bool
-eightInRange ts = foldFrom alsoInRange 0 (eqb (length ts) terminals) ts
+eightInRange ts = eqb (length ts) terminals && allInRange ts
 
 -- 2: what is lent has its length, and the letters are letters
 unfoldable pub lentFits : ℕ → ℕ → List ℕ → ℕ → Bool

@@ -4,7 +4,8 @@ use Rattle.bus_calls.proofs.Structs.{terminals}
 use Rattle.terminal.specs.declared.Terminal.{Terminal}
 use Rattle.terminal.proofs.Terminal as T
 use Rattle.terminal.specs.Terminal.{terminalInRange}
-use Rattle.call_rules.specs.Ready.{alsoInRange, eightInRange}
+use Rattle.call_rules.specs.Ready.{eightInRange}
+use Rattle.call_rules.proofs.InOrder.{alsoInRange, from-first}
 use Rattle.terminal.proofs.Terminal.in_range as step
 use Rattle.terminal.proofs.Terminal.in_range.Symbol as step-def
 use Rattle.terminal.proofs.Terminal.in_range.Symbol.{name as #step}
@@ -39,7 +40,7 @@ module _ {M : Type 1} (𝓤 : URA M) (H : Heap 𝓤) (A : Atoms 𝓤) (W : Given
 
   whole : ok n ≡ eightInRange ys
   unfolding eightInRange
-  whole = acc-all alsoInRange (eqb n 8) 0 ys
+  whole = acc-all alsoInRange (eqb n 8) 0 ys ∙ from-first 0 (eqb n 8) ys
 
   exits : ent 𝓤 (⋆ 𝓤 H A (itemsOf W params)) (Post (vbool (ok n)))
   exits = returns-with W params all.ended (stays-of all.ended ways) (all.clauses 𝓤 H A mem run) bound bool-kind (ok n) (tt, tt) (tt, tt) refl (id⊢ 𝓤 _) (factI 𝓤 _ (emp 𝓤) whole)
