@@ -9,7 +9,8 @@ use Rattle.cells.specs.Names.{ascii}
 use Rattle.text.specs.Text.{split, onto, upto, all, onward}
 use Rattle.text.specs.Fields.{fieldStart}
 use Rattle.text.specs.declared.field.Ends.{Ends}
-use Rattle.book_line.specs.Line.{ON, AR, DR, D1, D2, HIT, END, eventNamed, isNumber, isAbsent, isBody, isHit, valueFits, formed}
+use Rattle.book_line.specs.Line.{eventNamed, isNumber, isAbsent, isBody, isHit, valueFits, formed}
+use Rattle.cells.specs.Events.{ON, AR, DR, D1, D2, HIT, END}
 use Rattle.book_line.specs.Judging.{judged}
 use Rattle.book_line.specs.Value.{hexDigit, pairs, bodyOf, letterCode, valueOctets}
 use Rattle.book_line.specs.declared.line.Judged.{Judged}

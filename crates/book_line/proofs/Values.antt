@@ -13,7 +13,8 @@ use Rattle.symbols.specs.Symbols.{lineLength, within, fits}
 use Rattle.cells.specs.Names.{ascii}
 use Rattle.text.specs.Text.{space, all, isLetter}
 use Rattle.text.proofs.Pieces.{piece-le, same-length}
-use Rattle.book_line.specs.Line.{D1, D2, HIT, longestLine, isAbsent, isHit, valueFits, eventOf, valueOf, formed}
+use Rattle.book_line.specs.Line.{longestLine, isAbsent, isHit, valueFits, eventOf, valueOf, formed}
+use Rattle.cells.specs.Events.{D1, D2, HIT}
 use Rattle.book_line.specs.Value.{hexDigit, pairs, bodyOf, letterCode, valueOctets, valueRoom}
 use Rattle.book_line.proofs.Judging.{formed-parts}
 

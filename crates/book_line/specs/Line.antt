@@ -6,36 +6,12 @@ use Prim.Native.Nat.{ℕ, _%_}
 use lib.Dec.{eqb, ltb, leb}
 use lib.ListN.{length}
 use Rattle.symbols.specs.Symbols.{lineLength}
+use Rattle.cells.specs.Events.{ON, OFF, AR, DR, D1, D2, HIT, END}
 use Rattle.cells.specs.Names.{ascii}
 use Rattle.timing.specs.Counts.{mostPeriods}
 use Rattle.text.specs.Text.{fields, field, same, all, isDigit, isHex, isLetter, number}
 
 -- ---- Events.
-
--- The events' numbers, in the order in which document 01 names them; 0 is none.
-abbrev pub ON : ℕ
-ON = 1
-
-abbrev pub OFF : ℕ
-OFF = 2
-
-abbrev pub AR : ℕ
-AR = 3
-
-abbrev pub DR : ℕ
-DR = 4
-
-abbrev pub D1 : ℕ
-D1 = 5
-
-abbrev pub D2 : ℕ
-D2 = 6
-
-abbrev pub HIT : ℕ
-HIT = 7
-
-abbrev pub END : ℕ
-END = 8
 
 -- The number of the event that a name names.
 unfoldable pub eventNamed : List ℕ → ℕ

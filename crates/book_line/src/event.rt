@@ -1,26 +1,17 @@
 // The events of a book by number and by name.
+use cells::events::AR;
+use cells::events::D1;
+use cells::events::D2;
+use cells::events::DR;
+use cells::events::END;
+use cells::events::HIT;
+use cells::events::OFF;
+use cells::events::ON;
 use text::same::same;
 ghost use mathlib.Core.Bool.{cond};
 ghost use mathlib.Core.Path.{_≡_};
 ghost use Rattle.text.specs.Text as text;
 ghost use Rattle.book_line.specs.Line as spec;
-
-// The events, in the order in which document 01 names them.
-pub const ON: u8 = 1;
-
-pub const OFF: u8 = 2;
-
-pub const AR: u8 = 3;
-
-pub const DR: u8 = 4;
-
-pub const D1: u8 = 5;
-
-pub const D2: u8 = 6;
-
-pub const HIT: u8 = 7;
-
-pub const END: u8 = 8;
 
 // An event where a name is the one that it has, else another.
 fn if_named(name: &[u8], wanted: &[u8], event: u8, other: u8) -> u8

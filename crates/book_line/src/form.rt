@@ -1,7 +1,7 @@
 // The forms of a line's value.
-use crate::event::D1;
-use crate::event::D2;
-use crate::event::HIT;
+use cells::events::D1;
+use cells::events::D2;
+use cells::events::HIT;
 use symbols::LINE_LENGTH;
 use text::octets::all_hex;
 use text::octets::all_letters;

@@ -29,7 +29,7 @@ use Rattle.terminal.proofs.RangesKept.{terminal-fits}
 use Rattle.bus.specs.Bus.{Seat, Bus, terminals, freshSeat, freshBus, seatAt}
 use Rattle.bus.specs.Exchange.{anySends, anyInfo1, anyInfo3, inF7, turned, exchanged, wholeDown}
 use Rattle.bus.specs.Period.{terminalHears, stepped, heardBy, timed, periodRun}
-use Rattle.bus.specs.Event as events
+use Rattle.cells.specs.Events as events
 use Rattle.bus.specs.Event.{classOf, seatOf, terminalDoes, withFrame, seatAfter, refusal, eventDone}
 use Rattle.bus.specs.Calls.{Call, reply, does, after, ran}
 use Rattle.bus.specs.Calls.Call.{event, period}

@@ -32,7 +32,8 @@ use Rattle.terminal.specs.declared.Terminal.{Terminal}
 use Rattle.terminal.proofs.Laws.{handed-over-called}
 use Rattle.terminal.proofs.RangesKept.{terminal-fits}
 use Rattle.bus.specs.Bus.{Bus, terminals}
-use Rattle.bus.specs.Event.{ON, OFF, AR, DR, D1, D2, HIT, among, seatOf, classOf, eventFor, barsNetwork, barsTerminal, bars, givesFrame, reasons, firstOf, refusal, networkDoes, terminalDoes}
+use Rattle.bus.specs.Event.{among, seatOf, classOf, eventFor, barsNetwork, barsTerminal, bars, givesFrame, reasons, firstOf, refusal, networkDoes, terminalDoes}
+use Rattle.cells.specs.Events.{ON, OFF, AR, DR, D1, D2, HIT}
 use Rattle.bus.specs.Ranges.{InRange}
 use Rattle.bus.proofs.Ranges.{either-zero}
 

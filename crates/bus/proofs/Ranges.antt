@@ -36,7 +36,8 @@ use Rattle.terminal.proofs.RangesKept as terminal-kept
 use Rattle.bus.specs.Bus.{Seat, Bus, terminals, freshSeat, freshBus, seatAt}
 use Rattle.bus.specs.Exchange.{inF7, turnOf, turned, exchanged, wholeDown, wholeUp}
 use Rattle.bus.specs.Period.{networkHears, terminalHears, stepped, doneCodes, heardBy, timed, periodRun}
-use Rattle.bus.specs.Event.{ON, OFF, AR, D1, D2, HIT, among, seatOf, classOf, refusal, networkDoes, networkDone, hitGiven, terminalDoes, withFrame, seatAfter, seatDone, eventDone}
+use Rattle.bus.specs.Event.{among, seatOf, classOf, refusal, networkDoes, networkDone, hitGiven, terminalDoes, withFrame, seatAfter, seatDone, eventDone}
+use Rattle.cells.specs.Events.{ON, OFF, AR, D1, D2, HIT}
 use Rattle.bus.specs.Calls.{Call, reply, does, after, ran}
 use Rattle.bus.specs.Calls.Call.{event, period}
 use Rattle.bus.specs.Stretch.{seatThen}

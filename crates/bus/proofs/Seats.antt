@@ -13,7 +13,8 @@ use Rattle.terminal.specs.Terminal as terminal
 use Rattle.bus.specs.Bus.{Seat, Bus, freshSeat, seatAt}
 use Rattle.bus.specs.Exchange.{Sender, Moment, seatsOf, turned, hearsE, eComes, sendersAfter, onward, seated, begins, exchanged, wholeDown}
 use Rattle.bus.specs.Period.{terminalHears, stepped, heardBy, timed, periodRun}
-use Rattle.bus.specs.Event.{HIT, seatOf, networkDone, hitGiven, seatAfter, seatDone, eventDone}
+use Rattle.bus.specs.Event.{seatOf, networkDone, hitGiven, seatAfter, seatDone, eventDone}
+use Rattle.cells.specs.Events.{HIT}
 use Rattle.bus.specs.Calls.{Call, reply, does, after, ran}
 use Rattle.bus.specs.Calls.Call.{event, period}
 use Rattle.bus.specs.Stretch.{seatThen}

@@ -29,7 +29,8 @@ use Rattle.terminal.proofs.Laws.{AccessByState, switches-on-access, switches-of
 use Rattle.bus.specs.Bus.{Seat, Bus, terminals, freshSeat}
 use Rattle.bus.specs.Exchange.{Moment, inF7, seatsOf, onward, begins, opportunitiesOf, exchanged, wholeDown, wholeUp}
 use Rattle.bus.specs.Period.{readingAfter, networkHears, terminalHears, stepped, heardBy, timed, periodRun}
-use Rattle.bus.specs.Event.{ON, OFF, D1, D2, HIT, seatOf, classOf, eventFor, bars, givesFrame, reasons, refusal, networkDoes, networkDone, hitGiven, terminalDoes, withFrame, seatAfter, seatDone, eventDone}
+use Rattle.bus.specs.Event.{seatOf, classOf, eventFor, bars, givesFrame, reasons, refusal, networkDoes, networkDone, hitGiven, terminalDoes, withFrame, seatAfter, seatDone, eventDone}
+use Rattle.cells.specs.Events.{ON, OFF, D1, D2, HIT}
 use Rattle.bus.specs.Calls.{Call, reply, does, after, ran}
 use Rattle.bus.specs.Calls.Call.{event, period}
 use Rattle.bus.proofs.Refusals.{not-refused-only}

@@ -22,7 +22,8 @@ use Rattle.terminal.proofs.Laws.{timer-keeps-F7}
 use Rattle.bus.specs.Bus.{Seat, Hit, Bus, freshSeat, seatAt}
 use Rattle.bus.specs.Exchange.{Moment, inF7, inG3, seatsOf, anyInfo1, eComes, dComes, sendersAfter, onward, begins, opportunitiesOf, exchanged, wholeDown, wholeUp}
 use Rattle.bus.specs.Period.{networkHears, terminalHears, stepped, heardBy, timed, periodRun}
-use Rattle.bus.specs.Event.{HIT, seatOf, classOf, refusal, networkDoes, networkDone, terminalDoes, seatAfter, seatDone, eventDone}
+use Rattle.bus.specs.Event.{seatOf, classOf, refusal, networkDoes, networkDone, terminalDoes, seatAfter, seatDone, eventDone}
+use Rattle.cells.specs.Events.{HIT}
 use Rattle.bus.specs.Calls.{Call, reply, does, after}
 use Rattle.bus.specs.Calls.Call.{event, period}
 use Rattle.bus.specs.Stretch.{seatThen, Undisturbed, Stays, Calm, Stretch, momentsOf, moments}

@@ -24,7 +24,8 @@ use Rattle.terminal.proofs.Laws.{isTerminalNote}
 use Rattle.bus.specs.Bus.{Seat, Bus, Note, freshSeat, notesOf}
 use Rattle.bus.specs.Exchange.{Sender, Moment, seatsOf, doneOf, hearsE, eComes, sendersAfter, onward, seated, begins, opportunitiesOf, exchanged, wholeDown, wholeUp}
 use Rattle.bus.specs.Period.{networkHears, terminalHears, saidNotes, doneCodes, hearingNotes, timerNotes, heardBy, notesHeard, notesTimed, periodNotes}
-use Rattle.bus.specs.Event.{ON, OFF, AR, HIT, seatOf, classOf, networkDoes, terminalDoes, eventNotes}
+use Rattle.bus.specs.Event.{seatOf, classOf, networkDoes, terminalDoes, eventNotes}
+use Rattle.cells.specs.Events.{ON, OFF, AR, HIT}
 use Rattle.bus.specs.Calls.{Call, reply, tells, after, notes}
 use Rattle.bus.specs.Calls.Call.{event, period}
 use Rattle.bus.specs.Stretch.{seatThen, momentsOf}

@@ -7,6 +7,7 @@ use lib.Dec.{eqb, ltb}
 use lib.ListN.{length}
 use Rattle.symbols.specs.Symbols.{lineLength, fits}
 use Rattle.combining.specs.Hit.{noneLetter}
+use Rattle.cells.specs.Events.{ON, OFF, AR, DR, D1, D2, HIT}
 use Rattle.cells.specs.Notes.{noted}
 use Rattle.table_6_2.specs.Table62.{F1, F2, F4, F5, F7}
 use Rattle.table_6_3.specs.Table63.{G1, G2, G3, G4}
@@ -22,28 +23,6 @@ use Rattle.terminal.specs.declared.Terminal.{Terminal}
 use Rattle.terminal.specs.declared.TerminalStep.{TerminalStep}
 use Rattle.bus.specs.Bus.{Seat, Hit, Bus, Note, terminals, seatAt, notesOf}
 use Rattle.bus.specs.Period.{readingAfter, stepped}
-
--- The events, in the order in which document 01 names them.
-abbrev pub ON : ℕ
-ON = 1
-
-abbrev pub OFF : ℕ
-OFF = 2
-
-abbrev pub AR : ℕ
-AR = 3
-
-abbrev pub DR : ℕ
-DR = 4
-
-abbrev pub D1 : ℕ
-D1 = 5
-
-abbrev pub D2 : ℕ
-D2 = 6
-
-abbrev pub HIT : ℕ
-HIT = 7
 
 -- whether a number is one of some
 abbrev pub among : ℕ → List ℕ → Bool

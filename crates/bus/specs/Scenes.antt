@@ -39,7 +39,8 @@ use Rattle.terminal.specs.Terminal as terminal
 use Rattle.bus.specs.Bus.{Seat, Hit, Bus, Note, freshSeat, freshBus, notesOf, seatAt}
 use Rattle.bus.specs.Exchange.{Moment, sentDown, sentUp, turnOf, turned, dOf, doneOf, hearsE, sentOf, lineDown, lineUp, eComes, sendersAfter, dComes, saidTo, onward, seated, begins, opportunitiesOf, exchanged, wholeDown, wholeUp}
 use Rattle.bus.specs.Period.{readingAfter, networkHears, terminalHears, stepped, saidNotes, doneCodes, hearingNotes, timerNotes, heardBy, notesHeard, timed, notesTimed, periodRun, periodNotes}
-use Rattle.bus.specs.Event.{ON, OFF, AR, DR, D1, D2, HIT, classOf, eventFor, barsNetwork, barsTerminal, bars, reasons, firstOf, refusal, networkDoes, networkDone, hitGiven, terminalDoes, withFrame, seatAfter, seatDone, eventDone, eventNotes}
+use Rattle.bus.specs.Event.{classOf, eventFor, barsNetwork, barsTerminal, bars, reasons, firstOf, refusal, networkDoes, networkDone, hitGiven, terminalDoes, withFrame, seatAfter, seatDone, eventDone, eventNotes}
+use Rattle.cells.specs.Events.{ON, OFF, AR, DR, D1, D2, HIT}
 use Rattle.bus.specs.Calls.{Call, reply, does, tells, after, notes, ran}
 use Rattle.bus.specs.Calls.Call.{event, period}
 use Rattle.bus.specs.Stretch.{momentsOf, moments, seatThen, buses, powered, poweredFrom, poweredIn, longestOf, longestIn}

@@ -1,13 +1,13 @@
 // An event of unit 0, where the call has looked at it (event): no other crate gives one.
 ghost use mathlib.Core.Path.{_≡_};
 ghost use Rattle.bus_event.specs.Event as spec;
-use bus_event::event::AR;
-use bus_event::event::HIT;
 use bus_event::event::Told;
 use bus_event::event::replied;
 use bus_record::record::BusRecord;
 use bus_record::side::reader_after;
 use cells::cell::NO_NOTES;
+use cells::events::AR;
+use cells::events::HIT;
 use table_6_3::G3;
 
 // The letters of a hit are taken over, where they are as many as the letters lent.

@@ -23,7 +23,7 @@ use Rattle.dchannel.specs.declared.access.Class.the-variants.{One, Two}
 use Rattle.dchannel.specs.declared.access.Class.{Class}
 use Rattle.terminal.specs.declared.Terminal.{Terminal}
 use Rattle.bus.specs.Bus.{terminals}
-use Rattle.bus.specs.Event.{ON, OFF, AR, D1, D2, HIT}
+use Rattle.cells.specs.Events.{ON, OFF, AR, D1, D2, HIT}
 use Rattle.exchange.specs.Part.{imageBits, bitsFrom, imageOf}
 use Rattle.bus_record.specs.Record.{recordInRange}
 use Rattle.bus_record.specs.NetworkSide.{readerAfter}

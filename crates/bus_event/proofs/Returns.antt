@@ -17,7 +17,8 @@ use Rattle.table_6_2.specs.Table62.{F7}
 use Rattle.terminal.specs.Terminal as terminal
 use Rattle.terminal.specs.declared.Terminal.{Terminal}
 use Rattle.bus.specs.Bus.{terminals}
-use Rattle.bus.specs.Event.{HIT, eventFor}
+use Rattle.bus.specs.Event.{eventFor}
+use Rattle.cells.specs.Events.{HIT}
 use Rattle.bus_record.specs.Record.{recordInRange}
 use Rattle.bus_record.specs.declared.record.BusRecord.{BusRecord}
 use Rattle.bus_event.specs.Event.{imagesRoom, areLetters, firstReason, imagePut, frameReason, turnedDown, frameGiven, imagesWith}

@@ -22,7 +22,8 @@ use Rattle.terminal.specs.Terminal as terminal
 use Rattle.terminal.specs.declared.Terminal.{Terminal}
 use Rattle.terminal.specs.declared.TerminalStep.{TerminalStep}
 use Rattle.bus.specs.Bus.{terminals}
-use Rattle.bus.specs.Event.{ON, OFF, AR, D1, D2, HIT, eventFor}
+use Rattle.bus.specs.Event.{eventFor}
+use Rattle.cells.specs.Events.{ON, OFF, AR, D1, D2, HIT}
 use Rattle.bus_record.specs.Record.{recordInRange}
 use Rattle.bus_record.specs.NetworkSide.{leavesG3, readerAfter}
 use Rattle.bus_record.specs.declared.record.BusRecord.{BusRecord}

@@ -10,6 +10,13 @@ ghost use Rattle.bus.specs.Event.{eventFor};
 ghost use Rattle.bus_event.specs.Event as spec;
 use bus_record::record::BusRecord;
 use cells::cell::NO_NOTES;
+use cells::events::AR;
+use cells::events::D1;
+use cells::events::D2;
+use cells::events::DR;
+use cells::events::HIT;
+use cells::events::OFF;
+use cells::events::ON;
 use cells::notes::Notes;
 use combining::combine::TERMINALS;
 use combining::hit::NONE_LETTER;
@@ -24,21 +31,6 @@ use table_6_2::F7;
 use terminal::Terminal;
 use terminal::TerminalStep;
 use timing::counts::Periods;
-
-// The events, in the order in which document 01 names them.
-pub const ON: u8 = 1;
-
-pub const OFF: u8 = 2;
-
-pub const AR: u8 = 3;
-
-pub const DR: u8 = 4;
-
-pub const D1: u8 = 5;
-
-pub const D2: u8 = 6;
-
-pub const HIT: u8 = 7;
 
 // The highest unit number: a terminal's.
 const LAST_UNIT: u32 = TERMINALS as u32;

@@ -16,11 +16,11 @@
 use bench::Bench;
 use bench::given;
 use bench::until;
-use bus_event::event::AR;
-use bus_event::event::D1;
 use bus_event::event::IMAGES_ROOM;
-use bus_event::event::ON;
 use bus_record::record::BusRecord;
+use cells::events::AR;
+use cells::events::D1;
+use cells::events::ON;
 use packing::image::LONGEST_BODY;
 use print::say;
 use print::two;

@@ -25,7 +25,7 @@ use Rattle.terminal.proofs.Laws as terminal-laws
 use Rattle.terminal.proofs.Laws.{isTerminalNote, timer-told}
 use Rattle.bus.specs.Bus.{Note, notesOf}
 use Rattle.bus.specs.Calls.Call.{event, period}
-use Rattle.bus.specs.Event.{ON, OFF, AR, D1, D2, HIT}
+use Rattle.cells.specs.Events.{ON, OFF, AR, D1, D2, HIT}
 use Rattle.bus.specs.Exchange.{Sender, exchanged, wholeDown}
 use Rattle.bus.specs.Period.{terminalHears}
 use Rattle.bus.proofs.Telling.{network-hears-plain, network-timers-plain, terminal-hears-plain}

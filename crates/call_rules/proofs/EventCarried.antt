@@ -16,7 +16,8 @@ use Rattle.terminal.specs.declared.Terminal.{Terminal}
 use Rattle.terminal.specs.declared.TerminalStep.{TerminalStep}
 use Rattle.terminal.proofs.Laws.{handed-over-called, hands-over-notes}
 use Rattle.bus.specs.Bus.{Bus, terminals, notesOf}
-use Rattle.bus.specs.Event.{HIT, seatOf, classOf, eventFor, reasons, firstOf, refusal, networkDoes, terminalDoes, eventDone, eventNotes}
+use Rattle.bus.specs.Event.{seatOf, classOf, eventFor, reasons, firstOf, refusal, networkDoes, terminalDoes, eventDone, eventNotes}
+use Rattle.cells.specs.Events.{HIT}
 use Rattle.bus.specs.Calls as bus
 use Rattle.bus.specs.Calls.{Call}
 use Rattle.bus.specs.Calls.Call.{event}

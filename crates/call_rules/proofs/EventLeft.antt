@@ -33,7 +33,8 @@ use Rattle.terminal.specs.declared.Terminal.{Terminal}
 use Rattle.terminal.proofs.Laws.{AccessByState, switches-on-access, switches-off-access, requests-access}
 use Rattle.bus.specs.Bus.{Seat, Bus, terminals, freshSeat, seatAt}
 use Rattle.bus.specs.Period.{readingAfter, stepped}
-use Rattle.bus.specs.Event.{ON, OFF, AR, DR, D1, D2, seatOf, classOf, eventFor, networkDoes, networkDone, hitGiven, terminalDoes, withFrame, seatAfter, seatDone}
+use Rattle.bus.specs.Event.{seatOf, classOf, eventFor, networkDoes, networkDone, hitGiven, terminalDoes, withFrame, seatAfter, seatDone}
+use Rattle.cells.specs.Events.{ON, OFF, AR, DR, D1, D2}
 use Rattle.bus.proofs.Barred as barred
 use Rattle.bus.proofs.Simulation.{Takes}
 use Rattle.bus.proofs.Ranges.{network-does-called, terminal-does-called, hand-over-called, classGiven, class-given}

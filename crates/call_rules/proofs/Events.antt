@@ -14,7 +14,8 @@ use Rattle.terminal.specs.Terminal.{fresh}
 use Rattle.terminal.specs.declared.Terminal.{Terminal}
 use Rattle.terminal.specs.declared.TerminalStep.{TerminalStep}
 use Rattle.bus.specs.Bus.{terminals}
-use Rattle.bus.specs.Event.{HIT, eventFor}
+use Rattle.bus.specs.Event.{eventFor}
+use Rattle.cells.specs.Events.{HIT}
 use Rattle.listening.specs.Shown.{allInRange}
 use Rattle.bus_record.specs.Record.{recordInRange}
 use Rattle.bus_record.specs.declared.record.BusRecord.{BusRecord}

@@ -13,7 +13,7 @@ use Rattle.reader.proofs.ReadingKept.{stands-fresh}
 use Rattle.reader.proofs.RangesKept as reader-kept
 use Rattle.terminal.specs.declared.Terminal.{Terminal}
 use Rattle.bus.specs.Bus.{Bus, terminals, freshSeat, freshBus, seatAt}
-use Rattle.bus.specs.Event.{HIT}
+use Rattle.cells.specs.Events.{HIT}
 use Rattle.bus.specs.Calls as bus
 use Rattle.bus.specs.Calls.{Call, ran}
 use Rattle.bus.specs.Calls.Call.{event, period}

@@ -28,7 +28,8 @@ use Rattle.terminal.specs.Terminal as terminal
 use Rattle.terminal.specs.declared.Terminal.{Terminal}
 use Rattle.terminal.specs.declared.TerminalStep.{TerminalStep}
 use Rattle.bus.specs.Bus.{terminals}
-use Rattle.bus.specs.Event.{ON, OFF, AR, D1, D2, HIT, classOf, eventFor}
+use Rattle.bus.specs.Event.{classOf, eventFor}
+use Rattle.cells.specs.Events.{ON, OFF, AR, D1, D2, HIT}
 use Rattle.bus.specs.Calls.{Call}
 use Rattle.bus.specs.Calls.Call.{event, period}
 use Rattle.bus.proofs.Ranges.{classGiven}

@@ -15,7 +15,7 @@ use Rattle.book_reader.specs.Step.{AT-LINES, AFTER-END}
 use Rattle.book_reader.specs.Book.{Answer}
 use Rattle.book_reader.specs.Book.Answer.{entry, fault}
 use Rattle.book_reader.specs.Parts.{Place, past, toCome}
-use Rattle.bus.specs.Event.{HIT}
+use Rattle.cells.specs.Events.{HIT}
 use Rattle.bus.specs.Calls.{Call}
 use Rattle.bus.specs.Calls.Call.{event, period}
 use Rattle.bus_event.specs.Event as parts

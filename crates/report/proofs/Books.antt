@@ -14,14 +14,13 @@ use Rattle.combining.specs.Hit.{keepLetter, plusLetter, minusLetter, noneLetter
 use Rattle.timing.specs.Counts.{mostPeriods}
 use Rattle.cells.specs.Names.{ascii}
 use Rattle.text.specs.Text.{LF, split, same}
-use Rattle.book_line.specs.Line as line
+use Rattle.cells.specs.Events.{HIT}
 use Rattle.book_line.specs.Line.{formed, inOrder, isEnd, valueFits, periodOf, unitOf, eventOf}
 use Rattle.book_line.specs.Value.{letterCode, valueOctets}
 use Rattle.book_line.proofs.Judging.{formed-parts}
 use Rattle.book_line.proofs.Values.{value-octets, hit-fits}
 use Rattle.book_reader.specs.Book.{Answer, firstLine, nothing, closing, lines, answersFrom, answers}
 use Rattle.book_reader.specs.Book.Answer.{entry, fault}
-use Rattle.bus.specs.Event as bus
 use Rattle.bus.specs.Event.{reasons, firstOf, refusal}
 use Rattle.bus.specs.Bus.{Bus, freshBus}
 use Rattle.bus.specs.Calls.{Call, reply, after, ran}
@@ -34,13 +33,7 @@ use Rattle.call_rules.specs.Lists.{OctetValues}
 use Rattle.report.specs.Report.{callAt, callsOf, bookCalls}
 use Rattle.report.specs.Laws.{RunsToLine, InBook, AllInBook, BooksRefused, NoneLate, BooksInTime, BooksOctets, BookCalls}
 
--- the events have the same numbers on a line and on the bus, in the order in which document 01 names them; `end` is none of the bus's
-pub same-events : _≡_ {A = List ℕ}
-    (line.ON ∷ line.OFF ∷ line.AR ∷ line.DR ∷ line.D1 ∷ line.D2 ∷ line.HIT ∷ [])
-    (bus.ON ∷ bus.OFF ∷ bus.AR ∷ bus.DR ∷ bus.D1 ∷ bus.D2 ∷ bus.HIT ∷ [])
-same-events = refl
-
--- and so have the letters of a hit
+-- the letters of a hit have the same codes on a line and on the bus
 pub same-letters : map letterCode (ascii "kpmn") ≡ keepLetter ∷ plusLetter ∷ minusLetter ∷ noneLetter ∷ []
 unfolding letterCode
 same-letters = refl
@@ -111,10 +104,10 @@ runs-to b at h k = omega (arith, run-counts (at - b .periods) b (omega arith))
 
 -- ---- The numbers that come back: of a hit that is of right form the letters are letters, so that no reason before 3 holds.
 no-wrong-letters : (number : ℕ) (value : List ℕ) → valueFits number value ≡ true
-    → (eqb number bus.HIT && not (fits lineLength noneLetter (valueOctets number value))) ≡ false
+    → (eqb number HIT && not (fits lineLength noneLetter (valueOctets number value))) ≡ false
 no-wrong-letters number value h =
-    by-test (eqb number bus.HIT)
-    (λ t. let hit = eqb-true number bus.HIT t in rw hit (rw (hit-fits value (rw hit at h))))
+    by-test (eqb number HIT)
+    (λ t. let hit = eqb-true number HIT t in rw hit (rw (hit-fits value (rw hit at h))))
     (λ t. rw t)
 
 first-from : (k : ℕ) (holding : List Bool) → (firstOf k holding ≡ 0 → ⊥) → (k ≤ firstOf k holding) × (firstOf k holding < k + length holding)

@@ -18,7 +18,8 @@ use Rattle.terminal.specs.Terminal.{fresh, terminalInRange}
 use Rattle.terminal.specs.declared.Terminal.{Terminal}
 use Rattle.terminal.proofs.RangesKept.{fresh-in-range}
 use Rattle.bus.specs.Bus.{terminals}
-use Rattle.bus.specs.Event.{D1, D2, HIT, eventFor}
+use Rattle.bus.specs.Event.{eventFor}
+use Rattle.cells.specs.Events.{D1, D2, HIT}
 use Rattle.bus.specs.Calls.{Call}
 use Rattle.bus.specs.Calls.Call.{event, period}
 use Rattle.listening.specs.Shown.{allInRange}

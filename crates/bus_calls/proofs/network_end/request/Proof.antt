@@ -5,7 +5,7 @@ use mathlib.Core.Bool.{cond}
 use lib.Dec.{eqb}
 use borrow.Author.Tests.{eq-eqb, ne-eqb}
 use Rattle.table_6_3.specs.Table63 as table63
-use Rattle.bus.specs.Event.{AR}
+use Rattle.cells.specs.Events.{AR}
 use Rattle.bus_event.specs.Event.{networkAsked, asked}
 use borrow.Author.Needs.{needs}
 use Rattle.bus_calls.proofs.network_end.request.Statement.{statement}
