@@ -153,27 +153,29 @@ module _ (now : ℕ) (a : Alignment) (t : Terminal) (low : F1 ≤ t .state) (hig
   unfolding terminal.timer terminal.noTimer
   with-timer =
       by-test (due (t .t3) now)
-      (λ u. rw u (with-event T3-DUE t3-keeps a t _ low high (happens-state 0 now _ T3-DUE) (happens-alignment 0 now _ T3-DUE) w)) (λ u. rw u w)
+      (λ u. rw u (with-event T3-DUE t3-keeps a t _ low high (happens-state now _ T3-DUE) (happens-alignment now _ T3-DUE) w)) (λ u. rw u w)
 
   with-request : With a (terminal.requests now t .terminal)
   unfolding terminal.requests
-  with-request = with-event AR request-keeps a t _ low high (happens-state 5 now t AR) (happens-alignment 5 now t AR) w
+  with-request =
+      by-test (terminal.bars AR (t .state))
+      (λ o. rw o w) (λ o. rw o (with-event AR request-keeps a t _ low high (happens-state now t AR) (happens-alignment now t AR) w))
 
   on-leads : eqb (t .state) F1 ≡ true → nextState ON (t .state) ≡ F2
   unfolding cellIn
   on-leads o = rw (eqb-true (t .state) F1 o)
 
   with-on : With a (terminal.switchesOn now t .terminal)
-  unfolding terminal.switchesOn terminal.aligned
+  unfolding terminal.switchesOn terminal.aligned terminal.bars
   with-on =
       by-test (eqb (t .state) F1)
-      (λ o. rw o (behind 0 (happens-state 0 now _ ON ∙ on-leads o) (happens-alignment 0 now _ ON) (any-reaches a))) (λ o. rw o w)
+      (λ o. rw o (behind 0 (happens-state now _ ON ∙ on-leads o) (happens-alignment now _ ON) (any-reaches a))) (λ o. rw o w)
 
   with-off : With a (terminal.switchesOff now t .terminal)
-  unfolding terminal.switchesOff terminal.noTimer
+  unfolding terminal.switchesOff terminal.noTimer terminal.bars
   with-off =
       by-test (eqb (t .state) F1) (λ o. rw o w)
-      (λ o. rw o (off (happens-state 0 now _ OFF ∙ eqb-true (nextState OFF (t .state)) F1 (in-F1-after OFF (t .state) low high))))
+      (λ o. rw o (off (happens-state now _ OFF ∙ eqb-true (nextState OFF (t .state)) F1 (in-F1-after OFF (t .state) low high))))
 
   with-does : (number : ℕ) → With a (terminalDoes number now t .terminal)
   unfolding terminalDoes

@@ -1,8 +1,8 @@
--- Refusals 5 to 8 of an event are the replies of the calls of `network` and `terminal`, which go by the tables' cells and by the access record.
-use mathlib.Core.Path.{_≡_, refl, sym, _∙_}
+-- Refusals 5 to 8 of an event are the replies of `network` and `terminal`: 5 where their rules bar it, 6 to 8 by the access record.
+use mathlib.Core.Path.{_≡_, refl, sym}
 use mathlib.Core.Bool.{true, false, cond, not, _&&_, _||_}
 use mathlib.Core.List.{List, [], _∷_}
-use Prim.Native.Nat.{ℕ, _-_, _≤_}
+use Prim.Native.Nat.{ℕ, _-_}
 use lib.Dec.{eqb, ltb}
 use lib.ListN.{length}
 use borrow.Author.Tests.{eqb-true}
@@ -10,96 +10,76 @@ use Rattle.cases.proofs.ByCases.{by-test, clash}
 use Rattle.cases.proofs.Operators.{cond-not}
 use Rattle.symbols.specs.Symbols.{lineLength, fits}
 use Rattle.combining.specs.Hit.{noneLetter}
-use Rattle.cells.specs.Cells.{rowOf, cellOf, barsRequest}
+use Rattle.cells.specs.Cells.{cellOf}
 use Rattle.cells.specs.declared.cell.Cell.{Cell}
 use Rattle.cells.specs.declared.cell.Cell.the-variants.{To, Stay, Impossible, Absent}
-use Rattle.cells.proofs.Everywhere.{at-state}
-use Rattle.cells.proofs.NextState.{alike, alike-is}
 use Rattle.hdlc.specs.Image.{image, isBody}
 use Rattle.hdlc.proofs.ImageLaws.{is-body}
 use Rattle.dchannel.specs.Handing.{handed}
 use Rattle.dchannel.specs.declared.access.Class.{Class}
 use Rattle.dchannel.proofs.AccessLaws.{image-fits}
-use Rattle.table_6_2.specs.Table62.{table62, F1, F2, F4, F5, F7, F8}
+use Rattle.table_6_2.specs.Table62.{table62, F7}
 use Rattle.table_6_2.specs.Table62 as table62
-use Rattle.table_6_3.specs.Table63.{table63, G1, G2, G3, G4}
+use Rattle.table_6_3.specs.Table63.{table63}
 use Rattle.table_6_3.specs.Table63 as table63
 use Rattle.network.specs.Network as network
 use Rattle.network.specs.declared.Network.{Network}
-use Rattle.network.proofs.RangesKept.{network-fits}
 use Rattle.terminal.specs.Terminal as terminal
+use Rattle.terminal.specs.Calls as terminalCalls
 use Rattle.terminal.specs.declared.Terminal.{Terminal}
 use Rattle.terminal.proofs.Laws.{handed-over-called}
-use Rattle.terminal.proofs.RangesKept.{terminal-fits}
 use Rattle.bus.specs.Bus.{Bus, terminals}
-use Rattle.bus.specs.Event.{among, seatOf, classOf, eventFor, barsNetwork, barsTerminal, bars, givesFrame, reasons, firstOf, refusal, networkDoes, terminalDoes}
 use Rattle.cells.specs.Events.{ON, OFF, AR, DR, D1, D2, HIT}
-use Rattle.bus.specs.Ranges.{InRange}
-use Rattle.bus.proofs.Ranges.{either-zero}
+use Rattle.bus.specs.Event.{among, seatOf, classOf, eventFor, barsNetwork, barsTerminal, bars, givesFrame, reasons, firstOf, refusal, networkDoes, terminalDoes}
 
--- ---- requests: the reply is 5 at an impossible or an empty cell
-network-reply : (k : ℕ) (c : Cell) (now : ℕ) (n : Network) → network.acts k c now n .reply ≡ cond (barsRequest c) k 0
+-- ---- power and requests: the reply is 5 where the rules bar the event, and 0 at every cell
+network-reply : (c : Cell) (now : ℕ) (n : Network) → network.acts c now n .reply ≡ 0
 unfolding network.acts
-network-reply k (To next action notes) now n = refl
-network-reply k (Stay notes) now n = refl
-network-reply k Impossible now n = refl
-network-reply k Absent now n = refl
+network-reply (To next action notes) now n = refl
+network-reply (Stay notes) now n = refl
+network-reply Impossible now n = refl
+network-reply Absent now n = refl
 
-terminal-reply : (k : ℕ) (c : Cell) (now : ℕ) (t : Terminal) → terminal.acts k c now t .reply ≡ cond (barsRequest c) k 0
+network-happens : (e now : ℕ) (n : Network) → network.happens e now n .reply ≡ 0
+unfolding network.happens
+network-happens e now n = network-reply (cellOf table63 e (n .state)) now n
+
+terminal-reply : (c : Cell) (now : ℕ) (t : Terminal) → terminal.acts c now t .reply ≡ 0
 unfolding terminal.acts
-terminal-reply k (To next action notes) now t = refl
-terminal-reply k (Stay notes) now t = refl
-terminal-reply k Impossible now t = refl
-terminal-reply k Absent now t = refl
+terminal-reply (To next action notes) now t = refl
+terminal-reply (Stay notes) now t = refl
+terminal-reply Impossible now t = refl
+terminal-reply Absent now t = refl
 
--- which cells those are, state by state
-terminal-ar : (s : ℕ) → F1 ≤ s → s ≤ F8 → barsRequest (cellOf table62 table62.AR s) ≡ among s (F1 ∷ F2 ∷ F4 ∷ F5 ∷ F7 ∷ [])
-terminal-ar s low high =
-    alike-is _ _ (at-state (λ s c. alike (barsRequest c) (among s (F1 ∷ F2 ∷ F4 ∷ F5 ∷ F7 ∷ []))) (rowOf table62 table62.AR) refl s low high)
+terminal-happens : (e now : ℕ) (t : Terminal) → terminal.happens e now t .reply ≡ 0
+unfolding terminal.happens
+terminal-happens e now t = terminal-reply (cellOf table62 e (t .state)) now t
 
-network-ar : (s : ℕ) → G1 ≤ s → s ≤ G4 → barsRequest (cellOf table63 table63.AR s) ≡ among s (G2 ∷ G3 ∷ [])
-network-ar s low high = alike-is _ _ (at-state (λ s c. alike (barsRequest c) (among s (G2 ∷ G3 ∷ []))) (rowOf table63 table63.AR) refl s low high)
-
-network-dr : (s : ℕ) → G1 ≤ s → s ≤ G4 → barsRequest (cellOf table63 table63.DR s) ≡ among s (G1 ∷ G4 ∷ [])
-network-dr s low high = alike-is _ _ (at-state (λ s c. alike (barsRequest c) (among s (G1 ∷ G4 ∷ []))) (rowOf table63 table63.DR) refl s low high)
-
-pub network-bars : (number now : ℕ) (n : Network) → network.networkInRange n ≡ true → (eqb number AR || eqb number DR) ≡ true →
-    networkDoes number now n .reply ≡ cond (barsNetwork number (n .state)) 5 0
-unfolding networkDoes network.requests network.happens barsNetwork
-network-bars number now n h k =
-    let f = network-fits n h in
+pub network-bars : (number now : ℕ) (n : Network) → (eqb number AR || eqb number DR) ≡ true → networkDoes number now n .reply ≡ cond (barsNetwork number (n .state)) 5 0
+unfolding networkDoes network.requests barsNetwork
+network-bars number now n k =
     by-test (eqb number AR)
-    (λ t. rw (t, network-reply 5 (cellOf table63 table63.AR (n .state)) now n, network-ar (n .state) (f .from-G1) (f .to-G4)))
+    (λ t. rw t (by-test (network.bars table63.AR (n .state)) (λ u. rw u) (λ u. rw u (network-happens table63.AR now n))))
     (λ t.
     let d : eqb number DR ≡ true = rw t at k in
-    rw (t, d, network-reply 5 (cellOf table63 table63.DR (n .state)) now n, network-dr (n .state) (f .from-G1) (f .to-G4)))
+    rw (t, d) (by-test (network.bars table63.DR (n .state)) (λ u. rw u) (λ u. rw u (network-happens table63.DR now n))))
 
--- power: the reply is 0 at every cell
-terminal-happens : (e now : ℕ) (t : Terminal) → terminal.happens 0 e now t .reply ≡ 0
-unfolding terminal.happens
-terminal-happens e now t = terminal-reply 0 (cellOf table62 e (t .state)) now t ∙ either-zero (barsRequest (cellOf table62 e (t .state)))
-
-pub terminal-bars : (number now : ℕ) (t : Terminal) → terminal.terminalInRange t ≡ true → (eqb number ON || eqb number OFF || eqb number AR) ≡ true →
+pub terminal-bars : (number now : ℕ) (t : Terminal) → (eqb number ON || eqb number OFF || eqb number AR) ≡ true →
     terminalDoes number now t .reply ≡ cond (barsTerminal number (t .state)) 5 0
 unfolding terminalDoes terminal.switchesOn terminal.switchesOff terminal.requests barsTerminal
-terminal-bars number now t h k =
+terminal-bars number now t k =
     by-test (eqb number ON)
-    (λ u. rw u (by-test (eqb (t .state) F1) (λ s. rw s (terminal-happens table62.ON now _)) (λ s. rw s)))
+    (λ u. rw u (by-test (terminal.bars table62.ON (t .state)) (λ s. rw s) (λ s. rw s (terminal-happens table62.ON now _))))
     (λ u.
     by-test (eqb number OFF)
-    (λ v. rw (u, v) (by-test (eqb (t .state) F1) (λ s. rw s) (λ s. rw s (terminal-happens table62.OFF now _))))
-    (λ v. let a : eqb number AR ≡ true = rw (u, v) at k in rw (u, v, a) (requests-bars now t h)))
-  where
-    requests-bars : (now : ℕ) (t : Terminal) → terminal.terminalInRange t ≡ true →
-        terminal.happens 5 table62.AR now t .reply ≡ cond (among (t .state) (F1 ∷ F2 ∷ F4 ∷ F5 ∷ F7 ∷ [])) 5 0
-    requests-bars now t h =
-        let f = terminal-fits t h in
-        unfold terminal.happens in
-        rw (terminal-reply 5 (cellOf table62 table62.AR (t .state)) now t, terminal-ar (t .state) (f .from-F1) (f .to-F8))
+    (λ v. rw (u, v) (by-test (terminal.bars table62.OFF (t .state)) (λ s. rw s) (λ s. rw s (terminal-happens table62.OFF now _))))
+    (λ v.
+    let a : eqb number AR ≡ true = rw (u, v) at k in
+    rw (u, v, a) (by-test (terminal.bars table62.AR (t .state)) (λ s. rw s) (λ s. rw s (terminal-happens table62.AR now t)))))
 
 -- ---- a frame with a body: 6 outside F7, 8 where one is held
-pub frame-reply : (class : Class) (body : List ℕ) (t : Terminal) → terminal.terminalInRange t ≡ true → isBody body ≡ true →
-    terminal.handedOver class (length (image body)) t .reply ≡ cond (eqb (t .state) F7) (cond (eqb (t .access .held) 0) 0 8) 6
+pub frame-reply : (class : Class) (body : List ℕ) (t : Terminal) → terminalCalls.terminalInRange t ≡ true → isBody body ≡ true →
+    terminalCalls.handedOver class (length (image body)) t .reply ≡ cond (eqb (t .state) F7) (cond (eqb (t .access .held) 0) 0 8) 6
 unfolding terminal.handsOver terminal.holding handed
 frame-reply class body t h k =
     rw (handed-over-called class (length (image body)) t h)
@@ -132,7 +112,7 @@ frame-reasons : (value : List ℕ) (t : Terminal) →
 unfolding frameReply
 frame-reasons value t = simp cond-not
 
-module _ (b : Bus) (r : InRange b) (unit : ℕ) (value : List ℕ) where
+module _ (b : Bus) (unit : ℕ) (value : List ℕ) where
   -- the reasons from 5 on
   abbrev from5 : ℕ → ℕ
   from5 number =
@@ -147,13 +127,13 @@ module _ (b : Bus) (r : InRange b) (unit : ℕ) (value : List ℕ) where
   unfolding firstOf bars replied classOf barsNetwork
   network-replies t number k =
       at-among (λ number. from5 number ≡ replied b unit number value) number (AR ∷ DR ∷ HIT ∷ []) k (
-        rw t (sym (network-bars AR (b .periods) (b .network) (r .network-fits) refl)),
-        (rw t (sym (network-bars DR (b .periods) (b .network) (r .network-fits) refl)), (rw t, tt)),
+        rw t (sym (network-bars AR (b .periods) (b .network) refl)),
+        (rw t (sym (network-bars DR (b .periods) (b .network) refl)), (rw t, tt)),
       )
 
   does-replies : (number : ℕ) → (eqb number ON || eqb number OFF || eqb number AR) ≡ true →
       cond (barsTerminal number (seatOf b unit .terminal .state)) 5 0 ≡ terminalDoes number (b .periods) (seatOf b unit .terminal) .reply
-  does-replies number k = sym (terminal-bars number (b .periods) (seatOf b unit .terminal) (r .terminals-fit (unit - 1)) k)
+  does-replies number k = sym (terminal-bars number (b .periods) (seatOf b unit .terminal) k)
 
   terminal-replies : eqb unit 0 ≡ false → (number : ℕ) → among number (ON ∷ OFF ∷ AR ∷ D1 ∷ D2 ∷ []) ≡ true → from5 number ≡ replied b unit number value
   unfolding firstOf bars replied classOf barsTerminal

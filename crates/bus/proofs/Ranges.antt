@@ -26,10 +26,12 @@ use Rattle.timing.specs.Counts.{mostPeriods, atPeriod}
 use Rattle.contention.proofs.Change.{length-change}
 use Rattle.hearing.specs.Sensing.{shownUp, shownDown}
 use Rattle.network.specs.Network as network
+use Rattle.network.specs.Calls as networkCalls
 use Rattle.network.specs.declared.Network.{Network}
 use Rattle.network.proofs.Laws as network-laws
 use Rattle.network.proofs.RangesKept as network-kept
 use Rattle.terminal.specs.Terminal as terminal
+use Rattle.terminal.specs.Calls as terminalCalls
 use Rattle.terminal.specs.declared.Terminal.{Terminal}
 use Rattle.terminal.proofs.Laws as terminal-laws
 use Rattle.terminal.proofs.RangesKept as terminal-kept
@@ -48,36 +50,36 @@ use Rattle.bus.proofs.OneDone.{exchangedAt, done-bits}
 
 -- ---- the calls of `network` and `terminal`
 module _ (now : ℕ) (l : now ≤ mostPeriods) where
-  pub network-hears-called : (up : List ℕ) (n : Network) → network.networkInRange n ≡ true → network.heard (shownUp up) (atPeriod now) n ≡ networkHears up now n
+  pub network-hears-called : (up : List ℕ) (n : Network) → networkCalls.networkInRange n ≡ true → networkCalls.heard (shownUp up) (atPeriod now) n ≡ networkHears up now n
   unfolding networkHears
   network-hears-called up n h = network-laws.heard-called now n l h (shownUp up)
 
-  pub network-timers-called : (n : Network) → network.networkInRange n ≡ true → network.timerDue (atPeriod now) n ≡ network.timers now n
+  pub network-timers-called : (n : Network) → networkCalls.networkInRange n ≡ true → networkCalls.timerDue (atPeriod now) n ≡ network.timers now n
   network-timers-called n h = network-laws.timer-due-called now n l h
 
-  pub network-does-called : (number : ℕ) (n : Network) → network.networkInRange n ≡ true →
-      network.requested (cond (eqb number AR) table63.AR table63.DR) (atPeriod now) n ≡ networkDoes number now n
+  pub network-does-called : (number : ℕ) (n : Network) → networkCalls.networkInRange n ≡ true →
+      networkCalls.requested (cond (eqb number AR) table63.AR table63.DR) (atPeriod now) n ≡ networkDoes number now n
   unfolding networkDoes
   network-does-called number n h = network-laws.requested-called now n l h (cond (eqb number AR) table63.AR table63.DR)
 
-  pub terminal-hears-called : (down : List ℕ) (t : Terminal) → terminal.terminalInRange t ≡ true → terminal.heard (shownDown down) (atPeriod now) t ≡ terminalHears down now t
+  pub terminal-hears-called : (down : List ℕ) (t : Terminal) → terminalCalls.terminalInRange t ≡ true → terminalCalls.heard (shownDown down) (atPeriod now) t ≡ terminalHears down now t
   unfolding terminalHears
   terminal-hears-called down t h = terminal-laws.heard-called now t l h (shownDown down)
 
-  pub terminal-timer-called : (t : Terminal) → terminal.terminalInRange t ≡ true → terminal.timerDue (atPeriod now) t ≡ terminal.timer now t
+  pub terminal-timer-called : (t : Terminal) → terminalCalls.terminalInRange t ≡ true → terminalCalls.timerDue (atPeriod now) t ≡ terminal.timer now t
   terminal-timer-called t h = terminal-laws.timer-due-called now t l h
 
   -- power and requests
-  pub terminal-does-called : (number : ℕ) (t : Terminal) → terminal.terminalInRange t ≡ true →
-      cond (eqb number ON) (terminal.switchedOn (atPeriod now) t) (cond (eqb number OFF) (terminal.switchedOff (atPeriod now) t) (terminal.requested (atPeriod now) t))
+  pub terminal-does-called : (number : ℕ) (t : Terminal) → terminalCalls.terminalInRange t ≡ true →
+      cond (eqb number ON) (terminalCalls.switchedOn (atPeriod now) t) (cond (eqb number OFF) (terminalCalls.switchedOff (atPeriod now) t) (terminalCalls.requested (atPeriod now) t))
       ≡ terminalDoes number now t
   unfolding terminalDoes
   terminal-does-called number t h =
       rw (terminal-laws.switched-on-called now t l h, terminal-laws.switched-off-called now t l h, terminal-laws.requested-called now t l h)
 
 -- a frame that a terminal takes
-pub hand-over-called : (class : Class) (body : List ℕ) (s : Seat) → terminal.terminalInRange (s .terminal) ≡ true → Takes s body →
-    terminal.handedOver class (length (image body)) (s .terminal) .terminal ≡ withFrame (classNumber class) body s .terminal
+pub hand-over-called : (class : Class) (body : List ℕ) (s : Seat) → terminalCalls.terminalInRange (s .terminal) ≡ true → Takes s body →
+    terminalCalls.handedOver class (length (image body)) (s .terminal) .terminal ≡ withFrame (classNumber class) body s .terminal
 unfolding terminal.handsOver terminal.holding withFrame
 hand-over-called class body s r k =
     rw (
@@ -88,7 +90,7 @@ hand-over-called class body s r k =
 
 -- ---- the steps keep a terminal in range
 abbrev Fit : Seat → Type 0
-Fit s = terminal.terminalInRange (s .terminal) ≡ true
+Fit s = terminalCalls.terminalInRange (s .terminal) ≡ true
 
 turned-in : (e : Bool) (s : Seat) → Fit s → Fit (turned e s)
 unfolding turned turnOf
@@ -150,7 +152,7 @@ four-at-most false o p h = omega arith
 
 module _ (b : Bus) (r : InRange b) where
   -- after the exchange
-  pub exchanged-in : (i : ℕ) → terminal.terminalInRange (seatThen i (exchanged b) .terminal) ≡ true
+  pub exchanged-in : (i : ℕ) → terminalCalls.terminalInRange (seatThen i (exchanged b) .terminal) ≡ true
   unfolding seatThen
   exchanged-in = each-exchanged Fit turned-in b (r .terminals-fit)
 
@@ -301,12 +303,12 @@ abbrev heard : Bus → Bus
 heard b = heardBy (exchanged b) b
 
 pub record PeriodCalled (b : Bus) : Type 0 where
-  pub network-hears : network.heard (shownUp (wholeUp (exchanged b))) (atPeriod (b .periods)) (b .network)
+  pub network-hears : networkCalls.heard (shownUp (wholeUp (exchanged b))) (atPeriod (b .periods)) (b .network)
       ≡ networkHears (wholeUp (exchanged b)) (b .periods) (b .network)
-  pub terminal-hears : (i : ℕ) → terminal.heard (shownDown (wholeDown (exchanged b))) (atPeriod (b .periods)) (seatThen i (exchanged b) .terminal)
+  pub terminal-hears : (i : ℕ) → terminalCalls.heard (shownDown (wholeDown (exchanged b))) (atPeriod (b .periods)) (seatThen i (exchanged b) .terminal)
       ≡ terminalHears (wholeDown (exchanged b)) (b .periods) (seatThen i (exchanged b) .terminal)
-  pub network-timers : network.timerDue (atPeriod (heard b .periods)) (heard b .network) ≡ network.timers (heard b .periods) (heard b .network)
-  pub terminal-timer : (i : ℕ) → terminal.timerDue (atPeriod (heard b .periods)) (seatAt i (heard b) .terminal)
+  pub network-timers : networkCalls.timerDue (atPeriod (heard b .periods)) (heard b .network) ≡ network.timers (heard b .periods) (heard b .network)
+  pub terminal-timer : (i : ℕ) → terminalCalls.timerDue (atPeriod (heard b .periods)) (seatAt i (heard b) .terminal)
       ≡ terminal.timer (heard b .periods) (seatAt i (heard b) .terminal)
 
 pub period-called : (b : Bus) → b .periods < mostPeriods → InRange b → PeriodCalled b
@@ -322,13 +324,13 @@ period-called b l r =
 
 -- An event that is not refused: a request of the network end, power or a request of a terminal, a frame.
 pub record EventCalled (b : Bus) (unit number : ℕ) (value : List ℕ) : Type 0 where
-  pub network-does : network.requested (cond (eqb number AR) table63.AR table63.DR) (atPeriod (b .periods)) (b .network) ≡ networkDoes number (b .periods) (b .network)
+  pub network-does : networkCalls.requested (cond (eqb number AR) table63.AR table63.DR) (atPeriod (b .periods)) (b .network) ≡ networkDoes number (b .periods) (b .network)
   pub terminal-does :
-      cond (eqb number ON) (terminal.switchedOn (atPeriod (b .periods)) (seatOf b unit .terminal))
-      (cond (eqb number OFF) (terminal.switchedOff (atPeriod (b .periods)) (seatOf b unit .terminal)) (terminal.requested (atPeriod (b .periods)) (seatOf b unit .terminal)))
+      cond (eqb number ON) (terminalCalls.switchedOn (atPeriod (b .periods)) (seatOf b unit .terminal))
+      (cond (eqb number OFF) (terminalCalls.switchedOff (atPeriod (b .periods)) (seatOf b unit .terminal)) (terminalCalls.requested (atPeriod (b .periods)) (seatOf b unit .terminal)))
       ≡ terminalDoes number (b .periods) (seatOf b unit .terminal)
   pub takes-frame : eqb (classOf number) 0 ≡ false →
-      terminal.handedOver (classGiven number) (length (image value)) (seatOf b unit .terminal) .terminal ≡ withFrame (classOf number) value (seatOf b unit) .terminal
+      terminalCalls.handedOver (classGiven number) (length (image value)) (seatOf b unit .terminal) .terminal ≡ withFrame (classOf number) value (seatOf b unit) .terminal
 
 pub event-called : (b : Bus) (unit number : ℕ) (value : List ℕ) → refusal b unit number value ≡ 0 → InRange b → EventCalled b unit number value
 event-called b unit number value h r =

@@ -9,8 +9,8 @@ use Rattle.symbols.specs.Symbols.{lineLength, fits}
 use Rattle.combining.specs.Hit.{noneLetter}
 use Rattle.cells.specs.Events.{ON, OFF, AR, DR, D1, D2, HIT}
 use Rattle.cells.specs.Notes.{noted}
-use Rattle.table_6_2.specs.Table62.{F1, F2, F4, F5, F7}
-use Rattle.table_6_3.specs.Table63.{G1, G2, G3, G4}
+use Rattle.table_6_2.specs.Table62.{F7}
+use Rattle.table_6_2.specs.Table62 as table62
 use Rattle.table_6_3.specs.Table63 as table63
 use Rattle.hdlc.specs.Image.{image, isBody}
 use Rattle.dchannel.specs.Handing.{takenUp}
@@ -41,14 +41,15 @@ classOf event = cond (eqb event D1) 1 (cond (eqb event D2) 2 0)
 unfoldable pub eventFor : ℕ → ℕ → Bool
 eventFor unit event = cond (eqb unit 0) (among event (AR ∷ DR ∷ HIT ∷ [])) (among event (ON ∷ OFF ∷ AR ∷ D1 ∷ D2 ∷ []))
 
--- 5: "`on` outside F1, `off` in F1, `ar` in F1, F2, F4, F5, F7, G2 or G3, `dr` in G1 or G4"
+-- 5: what the rules of the network end and of a terminal bar, by their tables' numbers of the events
 unfoldable pub barsNetwork : ℕ → ℕ → Bool
-barsNetwork event state = cond (eqb event AR) (among state (G2 ∷ G3 ∷ [])) (cond (eqb event DR) (among state (G1 ∷ G4 ∷ [])) false)
+barsNetwork event state =
+    cond (eqb event AR) (network.bars table63.AR state) (cond (eqb event DR) (network.bars table63.DR state) false)
 
 unfoldable pub barsTerminal : ℕ → ℕ → Bool
 barsTerminal event state =
-    cond (eqb event ON) (not (eqb state F1))
-    (cond (eqb event OFF) (eqb state F1) (cond (eqb event AR) (among state (F1 ∷ F2 ∷ F4 ∷ F5 ∷ F7 ∷ [])) false))
+    cond (eqb event ON) (terminal.bars table62.ON state)
+    (cond (eqb event OFF) (terminal.bars table62.OFF state) (cond (eqb event AR) (terminal.bars table62.AR state) false))
 
 unfoldable pub bars : Bus → ℕ → ℕ → Bool
 bars b unit event = cond (eqb unit 0) (barsNetwork event (b .network .state)) (barsTerminal event (seatOf b unit .terminal .state))

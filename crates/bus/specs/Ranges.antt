@@ -10,8 +10,8 @@ use Rattle.symbols.specs.Symbols.{lineLength, fits}
 use Rattle.combining.specs.Hit.{noneLetter}
 use Rattle.table_6_3.specs.Table63.{G3}
 use Rattle.timing.specs.Counts.{mostPeriods}
-use Rattle.network.specs.Network.{networkInRange}
-use Rattle.terminal.specs.Terminal.{terminalInRange}
+use Rattle.network.specs.Calls.{networkInRange}
+use Rattle.terminal.specs.Calls.{terminalInRange}
 use Rattle.bus.specs.Bus.{Hit, Bus, terminals, freshSeat}
 use Rattle.bus.specs.Bus.Hit.{none, given}
 use Rattle.bus.specs.Calls.{Call, reply, after}

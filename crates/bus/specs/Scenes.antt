@@ -68,7 +68,7 @@ reportFrom b (c ∷ more) = reported b c ++ reportFrom (after b c) more
 
 -- what a list of calls hands back; whatever says `unfolding report` computes a bus
 unfoldable pub report : Bus → List Call → List Note
-unfolding within fits tabulate sameSymbols bits.octetBits bits.zeros polarity.alternate polarity.symbols down.downBody down.downBits down.downLine up.upBits up.upLine four.pick four.padded framing.firstPulse framing.framedIn framing.hasPulse combine.isSent combine.combined hits.hit octets.lowBits octets.bodyBits octets.numberLowFirst octets.octets images.stuff images.image images.allOctets images.isBody reader.startsWith reader.unstuff reader.reversed reader.rest reader.contents reader.between reader.aborted reader.says reader.said reader.next access.entered access.countAfter access.lowAfter access.afterE access.lowOf access.threshold access.mayStart access.sendsNext access.stops access.completes access.idles access.turn handing.takenUp handing.left change noted cellIn infoIn timers.due timers.startedBy timers.timerAfter alignment.framedPeriod alignment.unframedPeriod alignment.followed heard.downwardEvent heard.upwardEvent heard.lossUp sensing.shownDown sensing.shownUp network.moved network.acts network.happens network.andThen network.aligned network.requests network.t1Due network.t2Due network.timers network.heardAs network.hears terminal.accessAfter terminal.droppedNote terminal.moved terminal.acts terminal.happens terminal.aligned terminal.noTimer terminal.switchesOn terminal.switchesOff terminal.requests terminal.timer terminal.heardAs terminal.hears notesOf sentDown sentUp turnOf turned dOf doneOf hearsE sentOf lineDown lineUp eComes sendersAfter dComes saidTo onward seated begins opportunitiesOf exchanged wholeDown wholeUp readingAfter networkHears terminalHears stepped saidNotes doneCodes hearingNotes timerNotes heardBy notesHeard timed notesTimed periodRun periodNotes classOf eventFor barsNetwork barsTerminal bars reasons firstOf refusal networkDoes networkDone hitGiven terminalDoes withFrame seatAfter seatDone eventDone eventNotes reply does tells after notes ran momentsOf moments seatThen buses powered poweredFrom poweredIn longestOf longestIn
+unfolding within fits tabulate sameSymbols bits.octetBits bits.zeros polarity.alternate polarity.symbols down.downBody down.downBits down.downLine up.upBits up.upLine four.pick four.padded framing.firstPulse framing.framedIn framing.hasPulse combine.isSent combine.combined hits.hit octets.lowBits octets.bodyBits octets.numberLowFirst octets.octets images.stuff images.image images.allOctets images.isBody reader.startsWith reader.unstuff reader.reversed reader.rest reader.contents reader.between reader.aborted reader.says reader.said reader.next access.entered access.countAfter access.lowAfter access.afterE access.lowOf access.threshold access.mayStart access.sendsNext access.stops access.completes access.idles access.turn handing.takenUp handing.left change noted cellIn infoIn timers.due timers.startedBy timers.timerAfter alignment.framedPeriod alignment.unframedPeriod alignment.followed heard.downwardEvent heard.upwardEvent heard.lossUp sensing.shownDown sensing.shownUp network.moved network.acts network.happens network.andThen network.aligned network.requests network.t1Due network.t2Due network.timers network.heardAs network.hears terminal.accessAfter terminal.droppedNote terminal.moved terminal.acts terminal.happens terminal.aligned terminal.noTimer terminal.switchesOn terminal.switchesOff terminal.requests terminal.timer terminal.heardAs terminal.hears notesOf sentDown sentUp turnOf turned dOf doneOf hearsE sentOf lineDown lineUp eComes sendersAfter dComes saidTo onward seated begins opportunitiesOf exchanged wholeDown wholeUp readingAfter networkHears terminalHears stepped saidNotes doneCodes hearingNotes timerNotes heardBy notesHeard timed notesTimed periodRun periodNotes classOf eventFor barsNetwork barsTerminal bars reasons firstOf refusal networkDoes networkDone hitGiven terminalDoes withFrame seatAfter seatDone eventDone eventNotes reply does tells after notes ran momentsOf moments seatThen buses powered poweredFrom poweredIn longestOf longestIn network.bars terminal.bars
 report b calls = reportFrom b calls
 
 -- ---- Lists of calls from the fresh bus.

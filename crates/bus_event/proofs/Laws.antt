@@ -12,12 +12,12 @@ use Rattle.cases.proofs.ByCases.{by-test, and-left, and-right}
 use Rattle.hdlc.specs.Image.{image}
 use Rattle.hdlc.proofs.ImageLaws.{image-most}
 use Rattle.timing.specs.Counts.{periodsInRange, opportunitiesInRange}
-use Rattle.network.specs.Network.{networkInRange}
+use Rattle.network.specs.Calls.{networkInRange}
 use Rattle.network.proofs.RangesKept as network
 use Rattle.reader.specs.ReaderRange.{readerInRange}
 use Rattle.reader.proofs.RangesKept as reader
 use Rattle.table_6_3.specs.Table63 as table63
-use Rattle.terminal.specs.Terminal.{terminalInRange}
+use Rattle.terminal.specs.Calls.{terminalInRange}
 use Rattle.terminal.proofs.RangesKept as terminal
 use Rattle.dchannel.specs.declared.access.Class.the-variants.{One, Two}
 use Rattle.dchannel.specs.declared.access.Class.{Class}

@@ -14,7 +14,7 @@ use Rattle.packing.specs.declared.image.Imaged.{Imaged}
 use Rattle.packing.specs.declared.image.Imaged.the-variants.{Bits, Refused}
 use Rattle.dchannel.specs.declared.access.Class.{Class}
 use Rattle.table_6_2.specs.Table62.{F7}
-use Rattle.terminal.specs.Terminal as terminal
+use Rattle.terminal.specs.Calls as terminalCalls
 use Rattle.terminal.specs.declared.Terminal.{Terminal}
 use Rattle.bus.specs.Bus.{terminals}
 use Rattle.bus.specs.Event.{eventFor}
@@ -84,7 +84,7 @@ module _ (i : ℕ) (value images : List ℕ) (l : i < terminals) (e : length ima
     never-refused n q = let both : Refused n ≡ Bits (length (image value)) = sym q ∙ bits-are in let z : _≡_ {A = ℕ} 0 1 = cc in omega arith
 
 -- ---- The reasons for which terminal i is not given a frame.
-module _ (images i octets : ℕ) (t : Terminal) (fit : Bool) (is : fit ≡ terminal.terminalInRange t) where
+module _ (images i octets : ℕ) (t : Terminal) (fit : Bool) (is : fit ≡ terminalCalls.terminalInRange t) where
   abbrev lent : Bool
   lent = eqb images imagesRoom && ltb i terminals
 
@@ -126,7 +126,7 @@ module _ (images : List ℕ) (i : ℕ) (value : List ℕ) (t : Terminal) where
       → (i < terminals) × (length images ≡ imagesRoom) × (1 ≤ length value) × (length value ≤ longestBody)
   unfolding frameReason isBodyLength
   no-reason h =
-      by-test (terminal.terminalInRange t)
+      by-test (terminalCalls.terminalInRange t)
       (λ a. by-test (eqb (length images) imagesRoom && ltb i terminals)
       (λ b. by-test (eqb (t .state) F7)
       (λ c. by-test (isBodyLength (length value))
@@ -151,6 +151,6 @@ module _ (images : List ℕ) (i : ℕ) (value : List ℕ) (t : Terminal) where
     not-given d = let z : eqb reason 0 ≡ false = ne-eqb reason 0 d in (rw (← e, z), rw (← e, z))
 
     pub given : reason ≡ 0
-        → (terminal.handedOver class (length (image value)) t ≡ frameGiven class images i value t) × (imagePut i value images ≡ imagesWith t i value images)
+        → (terminalCalls.handedOver class (length (image value)) t ≡ frameGiven class images i value t) × (imagePut i value images ≡ imagesWith t i value images)
     unfolding frameGiven imagesWith
     given d = let z : eqb reason 0 ≡ true = eq-eqb reason 0 d in (rw (← e, z), rw (← e, z))

@@ -16,9 +16,9 @@ use Rattle.dchannel.specs.declared.access.Class.the-variants.{One, Two}
 use Rattle.table_6_2.specs.Table62.{F7}
 use Rattle.table_6_3.specs.Table63 as table63
 use Rattle.timing.specs.declared.counts.Periods.{Periods}
-use Rattle.network.specs.Network as network
+use Rattle.network.specs.Calls as networkCalls
 use Rattle.network.specs.declared.NetworkStep.{NetworkStep}
-use Rattle.terminal.specs.Terminal as terminal
+use Rattle.terminal.specs.Calls as terminalCalls
 use Rattle.terminal.specs.declared.Terminal.{Terminal}
 use Rattle.terminal.specs.declared.TerminalStep.{TerminalStep}
 use Rattle.bus.specs.Bus.{terminals}
@@ -60,7 +60,7 @@ withHit r =
     record { network = r .network; periods = r .periods; opportunities = r .opportunities; reader = r .reader; heard = r .heard; hit = true }
 
 unfoldable pub asked : ℕ → BusRecord → NetworkStep
-asked event r = network.requested (cond (eqb event AR) table63.AR table63.DR) (r .periods) (r .network)
+asked event r = networkCalls.requested (cond (eqb event AR) table63.AR table63.DR) (r .periods) (r .network)
 
 -- `ar` or `dr`
 unfoldable pub networkAsked : ℕ → BusRecord → Told
@@ -94,7 +94,7 @@ imagePut i body images =
 -- the first reason for which terminal i is not given a frame of so many octets: 1 and 2 by what is lent, 6, 7, 8
 unfoldable pub frameReason : ℕ → ℕ → ℕ → Terminal → ℕ
 frameReason images i octets t =
-    cond (terminal.terminalInRange t)
+    cond (terminalCalls.terminalInRange t)
     (cond (eqb images imagesRoom && ltb i terminals)
     (cond (eqb (t .state) F7) (cond (isBodyLength octets) (cond (eqb (t .access .held) 0) 0 8) 7) 6)
     2)
@@ -107,16 +107,16 @@ turnedDown k t = record { terminal = t; notes = packedNotes []; reply = k }
 unfoldable pub frameGiven : Class → List ℕ → ℕ → List ℕ → Terminal → TerminalStep
 frameGiven class images i body t =
     let reason = frameReason (length images) i (length body) t in
-    cond (eqb reason 0) (terminal.handedOver class (length (image body)) t) (turnedDown reason t)
+    cond (eqb reason 0) (terminalCalls.handedOver class (length (image body)) t) (turnedDown reason t)
 
 unfoldable pub imagesWith : Terminal → ℕ → List ℕ → List ℕ → List ℕ
 imagesWith t i body images = cond (eqb (frameReason (length images) i (length body) t) 0) (imagePut i body images) images
 
 unfoldable pub terminalTold : ℕ → List ℕ → ℕ → List ℕ → Periods → Terminal → TerminalStep
 terminalTold event images i value period t =
-    cond (eqb event ON) (terminal.switchedOn period t)
-    (cond (eqb event OFF) (terminal.switchedOff period t)
-    (cond (eqb event AR) (terminal.requested period t)
+    cond (eqb event ON) (terminalCalls.switchedOn period t)
+    (cond (eqb event OFF) (terminalCalls.switchedOff period t)
+    (cond (eqb event AR) (terminalCalls.requested period t)
     (cond (eqb event D1) (frameGiven One images i value t)
     (cond (eqb event D2) (frameGiven Two images i value t) (turnedDown 4 t)))))
 

@@ -6,7 +6,7 @@ use Prim.Native.Nat.{ℕ, _<_}
 use lib.ListN.{length, take}
 use Rattle.hdlc.specs.Image.{image, IsBody}
 use Rattle.timing.specs.declared.counts.Periods.{Periods}
-use Rattle.terminal.specs.Terminal.{terminalInRange}
+use Rattle.terminal.specs.Calls.{terminalInRange}
 use Rattle.terminal.specs.declared.Terminal.{Terminal}
 use Rattle.bus.specs.Bus.{terminals}
 use Rattle.exchange.specs.Part.{imageOf}

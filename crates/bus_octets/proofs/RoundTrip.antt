@@ -19,7 +19,7 @@ use Rattle.dchannel.specs.Ranges.{accessInRange}
 use Rattle.dchannel.specs.declared.access.Access.{Access}
 use Rattle.reader.proofs.RangesKept.{bits-most}
 use Rattle.network.proofs.RangesKept.{network-fits}
-use Rattle.terminal.specs.Terminal.{terminalInRange}
+use Rattle.terminal.specs.Calls.{terminalInRange}
 use Rattle.terminal.specs.declared.Terminal.{Terminal}
 use Rattle.terminal.proofs.RangesKept.{terminal-fits}
 use Rattle.listening.specs.Shown.{allInRange}

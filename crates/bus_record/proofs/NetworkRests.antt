@@ -16,7 +16,8 @@ use Rattle.timing.specs.declared.counts.Periods.{Periods}
 use Rattle.alignment.specs.Alignment.{framedPeriod, unframedPeriod, followed}
 use Rattle.hearing.specs.Heard.{upwardEvent, lossUp}
 use Rattle.hearing.specs.declared.heard.Upward.{Upward}
-use Rattle.network.specs.Network.{unchanged, acts, happens, andThen, aligned, t1Due, t2Due, checked, ready}
+use Rattle.network.specs.Network.{unchanged, acts, happens, andThen, aligned, t1Due, t2Due}
+use Rattle.network.specs.Calls.{checked, ready}
 use Rattle.network.specs.Network as network
 use Rattle.network.specs.declared.Network.{Network}
 use Rattle.network.specs.declared.NetworkStep.{NetworkStep}

@@ -12,7 +12,7 @@ use Rattle.timing.specs.declared.counts.Periods.{Periods}
 use Rattle.timing.specs.declared.counts.Opportunities.{Opportunities}
 use Rattle.timing.proofs.RangesKept.{next-in-range, four-more-in-range, none-more-in-range}
 use Rattle.hearing.specs.declared.heard.Upward.{Upward}
-use Rattle.network.specs.Network.{networkInRange, heard}
+use Rattle.network.specs.Calls.{networkInRange, heard}
 use Rattle.network.specs.declared.Network.{Network}
 use Rattle.network.proofs.RangesKept.{timer-due-in-range, heard-in-range}
 use Rattle.reader.specs.Counters.{readBit}

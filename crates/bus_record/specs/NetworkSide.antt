@@ -9,7 +9,7 @@ use Rattle.timing.specs.Counts.{nextPeriod, fourMore}
 use Rattle.timing.specs.declared.counts.Periods.{Periods}
 use Rattle.timing.specs.declared.counts.Opportunities.{Opportunities}
 use Rattle.hearing.specs.declared.heard.Upward.{Upward}
-use Rattle.network.specs.Network as network
+use Rattle.network.specs.Calls as networkCalls
 use Rattle.network.specs.declared.Network.{Network}
 use Rattle.network.specs.declared.NetworkStep.{NetworkStep}
 use Rattle.reader.specs.Counters.{freshReader}
@@ -34,10 +34,10 @@ readerAfter left r = cond left freshReader r
 
 -- hearing, and then the timers
 unfoldable pub hears : Upward → Periods → Network → NetworkStep
-hears line period n = network.heard line period n
+hears line period n = networkCalls.heard line period n
 
 unfoldable pub timers : Upward → Periods → Network → NetworkStep
-timers line period n = network.timerDue (nextPeriod period) (hears line period n .network)
+timers line period n = networkCalls.timerDue (nextPeriod period) (hears line period n .network)
 
 unfoldable pub networkListens : Upward → Periods → Network → NetworkHeard
 networkListens line period n =

@@ -1,7 +1,7 @@
 -- The bus record (document 01, "Order inside a period" and "D access (6.1)").
 use mathlib.Core.Bool.{Bool, true, false, _&&_}
 use Rattle.timing.specs.Counts.{atPeriod, periodsInRange, opportunitiesInRange}
-use Rattle.network.specs.Network.{networkInRange}
+use Rattle.network.specs.Calls.{networkInRange}
 use Rattle.network.specs.Network as network
 use Rattle.reader.specs.Counters.{freshReader}
 use Rattle.reader.specs.ReaderRange.{readerInRange}

@@ -16,9 +16,10 @@ use Rattle.dchannel.specs.declared.access.Class.{Class}
 use Rattle.dchannel.specs.declared.access.Class.the-variants.{One, Two}
 use Rattle.hdlc.specs.Image.{image}
 use Rattle.hearing.specs.Sensing.{shownDown}
-use Rattle.network.specs.Network as network
+use Rattle.network.specs.Calls as networkCalls
 use Rattle.network.proofs.Laws as network-laws
 use Rattle.terminal.specs.Terminal as terminal
+use Rattle.terminal.specs.Calls as terminalCalls
 use Rattle.terminal.specs.declared.Terminal.{Terminal}
 use Rattle.terminal.specs.declared.TerminalStep.{TerminalStep}
 use Rattle.terminal.proofs.Laws as terminal-laws
@@ -160,16 +161,16 @@ no-codes = refl
 
 module _ (now : Periods) (t : Terminal) where
   of-step : (step : ℕ → Terminal → TerminalStep) → ((p : ℕ) → everyNote isTerminalNote (noted (step p t .notes)) ≡ true)
-      → Codes (noted (terminal.checked step now t .notes))
-  unfolding terminal.checked
-  of-step step h = by-test (terminal.ready now t) (λ e. rw e (of-tables _ (h (now .0)))) (λ e. rw e no-codes)
+      → Codes (noted (terminalCalls.checked step now t .notes))
+  unfolding terminalCalls.checked
+  of-step step h = by-test (terminalCalls.ready now t) (λ e. rw e (of-tables _ (h (now .0)))) (λ e. rw e no-codes)
 
   of-frame : (class : Class) (images : List ℕ) (i : ℕ) (body : List ℕ) → Codes (noted (parts.frameGiven class images i body t .notes))
-  unfolding parts.frameGiven parts.turnedDown terminal.handedOver
+  unfolding parts.frameGiven parts.turnedDown terminalCalls.handedOver
   of-frame class images i body =
       by-test (eqb (parts.frameReason (length images) i (length body) t) 0)
       (λ e. rw e
-      (by-test (terminal.terminalInRange t)
+      (by-test (terminalCalls.terminalInRange t)
       (λ f. rw (f, terminal-laws.hands-over-notes class (length (image body)) t) no-codes)
       (λ f. rw f no-codes)))
       (λ e. rw e no-codes)
@@ -185,12 +186,12 @@ module _ (now : Periods) (t : Terminal) where
       (λ d. rw d (by-test (eqb number D2) (λ e. rw e (of-frame Two images i value)) (λ e. rw e no-codes)))))))))
 
 of-network : (number : ℕ) (bus : BusRecord) → Codes (noted (parts.networkTold number bus .notes))
-unfolding parts.networkTold parts.networkAsked parts.asked parts.told network.checked
+unfolding parts.networkTold parts.networkAsked parts.asked parts.told networkCalls.checked
 of-network number bus =
     let request = cond (eqb number AR) table63.AR table63.DR in
     by-test (eqb number HIT) (λ h. rw h no-codes)
     (λ h. rw h
-    (by-test (network.ready (bus .periods) (bus .network))
+    (by-test (networkCalls.ready (bus .periods) (bus .network))
     (λ r. rw r
     (of-tables _
     (every-of isIndication isTerminalNote (λ code i. rw i) _ (network-laws.requests-told request (bus .periods .0) (bus .network)))))

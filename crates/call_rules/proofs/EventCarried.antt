@@ -11,7 +11,7 @@ use borrow.Author.Tests.{eqb-true, eqb-false, eq-eqb, ltb-false}
 use Rattle.cases.proofs.ByCases.{by-test, clash}
 use Rattle.cells.specs.Notes.{packedNotes, noted}
 use Rattle.hdlc.specs.Image.{image}
-use Rattle.terminal.specs.Terminal as terminal
+use Rattle.terminal.specs.Calls as terminalCalls
 use Rattle.terminal.specs.declared.Terminal.{Terminal}
 use Rattle.terminal.specs.declared.TerminalStep.{TerminalStep}
 use Rattle.terminal.proofs.Laws.{handed-over-called, hands-over-notes}
@@ -153,7 +153,7 @@ module _ (k : Kept) (b : Bus) (c : Carries k b) (unit number : ℕ) (value : Lis
         by-test (eqb (bus.reply b call) 0)
         (λ q.
         let takes : Takes (seatOf b unit) value = accepted-frame b unit number value (unfold bus.reply in eqb-true (bus.reply b call) 0 q) some in
-        let now : here ≡ terminal.handedOver (classGiven number) (length (image value)) t = given .0 ∙ rw (there-is, why-not, q) in
+        let now : here ≡ terminalCalls.handedOver (classGiven number) (length (image value)) t = given .0 ∙ rw (there-is, why-not, q) in
         let images-now : parts.imagesAfter number there i value (k .images) ≡ imagePut i value (k .images) = given .1 ∙ rw (there-is, why-not, q) in
         finish (ap (λ (x : Told). x .reply) (at-terminal z .0) ∙ (rw now (handed-reply takes) ∙ sym (eqb-true (bus.reply b call) 0 q)))
         (λ p. (rw (at-terminal z .0, now, handed-notes, z, some), rw (at-terminal z .1, now, images-now, z) (frame-carried k b c f unit number value some l takes))))
@@ -161,10 +161,10 @@ module _ (k : Kept) (b : Bus) (c : Carries k b) (unit number : ℕ) (value : Lis
         let now : here ≡ turnedDown (bus.reply b call) there = given .0 ∙ rw (there-is, why-not, q) in
         finish (rw (at-terminal z .0, now)) (λ p. clash (eqb (bus.reply b call) 0) p q))
       where
-        handed-reply : Takes (seatOf b unit) value → terminal.handedOver (classGiven number) (length (image value)) (seatOf b unit .terminal) .reply ≡ 0
+        handed-reply : Takes (seatOf b unit) value → terminalCalls.handedOver (classGiven number) (length (image value)) (seatOf b unit .terminal) .reply ≡ 0
         handed-reply takes = barred.frame-reply (classGiven number) value (seatOf b unit .terminal) (f .in-range .terminals-fit (unit - 1)) (takes .good) ∙ rw (takes .in-F7, takes .free)
 
-        handed-notes : terminal.handedOver (classGiven number) (length (image value)) (seatOf b unit .terminal) .notes ≡ packedNotes []
+        handed-notes : terminalCalls.handedOver (classGiven number) (length (image value)) (seatOf b unit .terminal) .notes ≡ packedNotes []
         handed-notes =
             ap (λ (x : TerminalStep). x .notes) (handed-over-called (classGiven number) (length (image value)) (seatOf b unit .terminal) (f .in-range .terminals-fit (unit - 1)))
             ∙ hands-over-notes (classGiven number) (length (image value)) (seatOf b unit .terminal)
@@ -196,7 +196,7 @@ module _ (k : Kept) (b : Bus) (c : Carries k b) (f : Fit b) (unit number : ℕ) 
       by-test (eventFor unit number)
       (λ e.
       let why-0 : why k b c unit number value ≡ 0 = why-is ∙ rw (either-way (eqb number HIT) (areLetters value), l, u, e) in
-      let r = barred.refusal-replied b (f .in-range) unit value number l u e in
+      let r = barred.refusal-replied b unit value number l u e in
       by-test (eqb unit 0)
       (λ z. network-event k b c unit number value why-0 f r l z)
       (λ z.

@@ -27,8 +27,9 @@ use Rattle.hdlc.specs.Image.{image, IsBody, isBody, longestBody}
 use Rattle.hdlc.proofs.ImageLaws.{is-body, body-is}
 use Rattle.packing.specs.Packing.{isBodyLength}
 use Rattle.timing.specs.declared.counts.Periods.{Periods}
-use Rattle.network.specs.Network as network
+use Rattle.network.specs.Calls as networkCalls
 use Rattle.terminal.specs.Terminal as terminal
+use Rattle.terminal.specs.Calls as terminalCalls
 use Rattle.terminal.specs.declared.Terminal.{Terminal}
 use Rattle.terminal.proofs.Laws.{AccessByState, switches-on-access, switches-off-access, requests-access}
 use Rattle.bus.specs.Bus.{Seat, Bus, terminals, freshSeat, seatAt}
@@ -50,8 +51,8 @@ use Rattle.call_rules.proofs.SameExchange.{SameBits, HasBits, has-stepp
 use Rattle.bus_event.proofs.ImagePlaces.{put-length, put-there, put-elsewhere}
 use Rattle.call_rules.proofs.Fitting.{Fit}
 
--- ---- a step with no number to refuse it has reply 0
-pub no-refusal : (c : Cell) (now : ℕ) (t : Terminal) → terminal.acts 0 c now t .reply ≡ 0
+-- ---- an event of table 6-2 has reply 0 where it happens
+pub no-refusal : (c : Cell) (now : ℕ) (t : Terminal) → terminal.acts c now t .reply ≡ 0
 unfolding terminal.acts
 no-refusal (To next action notes) now t = refl
 no-refusal (Stay notes) now t = refl
@@ -116,7 +117,7 @@ module _ (k : Kept) (b : Bus) (c : Carries k b) where
     unfolding asked
     asked-is =
         rw (c .network-is)
-        (ap (λ (n : ℕ). network.requested (cond (eqb number AR) table63.AR table63.DR) (atPeriod n) (b .network)) (c .periods-is)
+        (ap (λ (n : ℕ). networkCalls.requested (cond (eqb number AR) table63.AR table63.DR) (atPeriod n) (b .network)) (c .periods-is)
         ∙ network-does-called (b .periods) (f .in-range .periods-fit) number (b .network) (f .in-range .network-fits))
 
     pub asked-carried : Carries (kept (networkAsked number (k .bus) .bus) (k .terminals) (k .images) (k .octets) (k .letters) (k .notes)) (networkDone number b)
@@ -229,7 +230,7 @@ body-length value h =
     not-body value d = by-test (isBody value) (λ t. absurd (d (is-body value t))) (λ t. t)
 
 -- the reasons 6, 7 and 8
-pub frame-reason : (images i : ℕ) (value : List ℕ) (t : Terminal) → terminal.terminalInRange t ≡ true → images ≡ imagesRoom → i < terminals →
+pub frame-reason : (images i : ℕ) (value : List ℕ) (t : Terminal) → terminalCalls.terminalInRange t ≡ true → images ≡ imagesRoom → i < terminals →
     ((j : ℕ) → getD value j 0 < 256) → frameReason images i (length value) t ≡ barred.frameReply value t
 unfolding frameReason barred.frameReply
 frame-reason images i value t r e l h = rw (r, eq-eqb images imagesRoom e, lt-ltb i terminals l, body-length value h)
@@ -257,7 +258,7 @@ module _ (k : Kept) (b : Bus) (c : Carries k b) (f : Fit b) (unit number : ℕ) 
   unfolding seatAfter
   seat-framed s = rw some
 
-  frame-terminal : terminal.handedOver (classGiven number) (length (image value)) (seatOf b unit .terminal) .terminal ≡ withFrame (classOf number) value (seatOf b unit) .terminal
+  frame-terminal : terminalCalls.handedOver (classGiven number) (length (image value)) (seatOf b unit .terminal) .terminal ≡ withFrame (classOf number) value (seatOf b unit) .terminal
   frame-terminal =
       hand-over-called (classGiven number) value (seatOf b unit) (f .in-range .terminals-fit (unit - 1)) takes
       ∙ rw (class-given number some)
@@ -281,7 +282,7 @@ module _ (k : Kept) (b : Bus) (c : Carries k b) (f : Fit b) (unit number : ℕ) 
       (λ j h l. put-elsewhere (unit - 1) value (k .images) is-there here (c .images-fit) i (eqb-false i (unit - 1) t) j ∙ c .images-are i j h l))
 
   pub frame-carried : Carries
-      (kept (k .bus) (set (k .terminals) (unit - 1) (terminal.handedOver (classGiven number) (length (image value)) (seatOf b unit .terminal) .terminal))
+      (kept (k .bus) (set (k .terminals) (unit - 1) (terminalCalls.handedOver (classGiven number) (length (image value)) (seatOf b unit .terminal) .terminal))
       (imagePut (unit - 1) value (k .images)) (k .octets) (k .letters) (k .notes))
       (seatDone unit number value b)
   unfolding seatDone

@@ -13,9 +13,9 @@ use Rattle.walks.proofs.Over.{length-mapped}
 use Rattle.walks.specs.Over.{mapFrom, foldFrom}
 use Rattle.hdlc.specs.Image.{longestBody}
 use Rattle.timing.specs.Counts.{mostPeriods, periodsInRange, opportunitiesInRange, allRun}
-use Rattle.network.specs.Network.{networkInRange}
+use Rattle.network.specs.Calls.{networkInRange}
 use Rattle.reader.specs.ReaderRange.{readerInRange}
-use Rattle.terminal.specs.Terminal.{terminalInRange}
+use Rattle.terminal.specs.Calls.{terminalInRange}
 use Rattle.terminal.specs.declared.Terminal.{Terminal}
 use Rattle.terminal.proofs.RangesKept.{fresh-in-range}
 use Rattle.bus.specs.Bus.{Seat, terminals, freshSeat}

@@ -18,13 +18,16 @@ use Rattle.hdlc.proofs.ImageLaws.{length-image, length-stuff-least, length-stuf
 use Rattle.packing.specs.Packing.{isBodyLength}
 use Rattle.dchannel.specs.Handing.{isImageLength, handed}
 use Rattle.dchannel.specs.declared.access.Class.{Class}
-use Rattle.table_6_2.specs.Table62.{F1, F7}
+use Rattle.table_6_2.specs.Table62.{F7}
+use Rattle.table_6_2.specs.Table62 as table62
 use Rattle.timing.specs.Counts.{allRun}
 use Rattle.timing.specs.declared.counts.Periods.{Periods}
 use Rattle.network.specs.Network as network
+use Rattle.network.specs.Calls as networkCalls
 use Rattle.network.specs.declared.Network.{Network}
 use Rattle.network.specs.declared.NetworkStep.{NetworkStep}
 use Rattle.terminal.specs.Terminal as terminal
+use Rattle.terminal.specs.Calls as terminalCalls
 use Rattle.terminal.specs.declared.Terminal.{Terminal}
 use Rattle.terminal.specs.declared.TerminalStep.{TerminalStep}
 use Rattle.bus.specs.Bus.{terminals}
@@ -58,22 +61,24 @@ record NetworkAnswer (n : Network) (s : NetworkStep) : Type 0 where
 network-down : (k : ℕ) → k ≤ 9 → (n : Network) → NetworkAnswer n (network.unchanged k n)
 network-down k l n = record { keeps = λ h. refl; silent = λ h. refl; listed = l }
 
-network-acts : (k : ℕ) → k ≤ 9 → (c : Cell) (now : ℕ) (n : Network) → NetworkAnswer n (network.acts k c now n)
+network-acts : (c : Cell) (now : ℕ) (n : Network) → NetworkAnswer n (network.acts c now n)
 unfolding network.acts
-network-acts k l (To next action notes) now n = record { keeps = λ h. absurd (h refl); silent = λ h. absurd (h refl); listed = omega arith }
-network-acts k l (Stay notes) now n = record { keeps = λ h. absurd (h refl); silent = λ h. absurd (h refl); listed = omega arith }
-network-acts k l Impossible now n = network-down k l n
-network-acts k l Absent now n = network-down k l n
+network-acts (To next action notes) now n = record { keeps = λ h. absurd (h refl); silent = λ h. absurd (h refl); listed = omega arith }
+network-acts (Stay notes) now n = record { keeps = λ h. absurd (h refl); silent = λ h. absurd (h refl); listed = omega arith }
+network-acts Impossible now n = network-down 0 (omega arith) n
+network-acts Absent now n = network-down 0 (omega arith) n
 
 network-requests : (number now : ℕ) (n : Network) → NetworkAnswer n (network.requests number now n)
 unfolding network.requests network.happens
 network-requests number now n =
-    by-test (network.isRequest number) (λ t. rw t (network-acts 5 (omega arith) _ now n)) (λ t. rw t (network-down 4 (omega arith) n))
+    by-test (network.isRequest number)
+    (λ t. rw t (by-test (network.bars number (n .state)) (λ u. rw u (network-down 5 (omega arith) n)) (λ u. rw u (network-acts _ now n))))
+    (λ t. rw t (network-down 4 (omega arith) n))
 
 network-asked : (number : ℕ) (r : BusRecord) → NetworkAnswer (r .network) (asked number r)
-unfolding asked network.checked
+unfolding asked networkCalls.checked
 network-asked number r =
-    by-test (network.ready (r .periods) (r .network))
+    by-test (networkCalls.ready (r .periods) (r .network))
     (λ t. rw t (network-requests _ (r .periods .0) (r .network)))
     (λ t. rw t (network-down 1 (omega arith) (r .network)))
 
@@ -105,29 +110,25 @@ terminal-down k l t = record { keeps = λ h. refl; silent = λ h. refl; listed =
 accepted : (t : Terminal) (s : TerminalStep) → s .reply ≡ 0 → TerminalAnswer t s
 accepted t s e = record { keeps = λ h. absurd (h e); silent = λ h. absurd (h e); listed = omega (arith, e) }
 
-terminal-acts : (k : ℕ) → k ≤ 9 → (c : Cell) (now : ℕ) (t : Terminal) → TerminalAnswer t (terminal.acts k c now t)
-unfolding terminal.acts
-terminal-acts k l (To next action notes) now t = accepted t _ refl
-terminal-acts k l (Stay notes) now t = accepted t _ refl
-terminal-acts k l Impossible now t = terminal-down k l t
-terminal-acts k l Absent now t = terminal-down k l t
-
 module _ (now : ℕ) (t : Terminal) where
+  unless-barred : (e : ℕ) (s : TerminalStep) → s .reply ≡ 0 → TerminalAnswer t (cond (terminal.bars e (t .state)) (terminal.unchanged 5 t) s)
+  unless-barred e s r = by-test (terminal.bars e (t .state)) (λ v. rw v (terminal-down 5 (omega arith) t)) (λ v. rw v (accepted t s r))
+
   switches-on : TerminalAnswer t (terminal.switchesOn now t)
   unfolding terminal.switchesOn terminal.happens
-  switches-on = by-test (eqb (t .state) F1) (λ v. rw v (accepted t _ (no-refusal _ now _))) (λ v. rw v (terminal-down 5 (omega arith) t))
+  switches-on = unless-barred table62.ON _ (no-refusal _ now _)
 
   switches-off : TerminalAnswer t (terminal.switchesOff now t)
   unfolding terminal.switchesOff terminal.happens
-  switches-off = by-test (eqb (t .state) F1) (λ v. rw v (terminal-down 5 (omega arith) t)) (λ v. rw v (accepted t _ (no-refusal _ now _)))
+  switches-off = unless-barred table62.OFF _ (no-refusal _ now _)
 
   requests : TerminalAnswer t (terminal.requests now t)
   unfolding terminal.requests terminal.happens
-  requests = terminal-acts 5 (omega arith) _ now t
+  requests = unless-barred table62.AR _ (no-refusal _ now _)
 
-when-ready : (step : ℕ → Terminal → TerminalStep) (now : Periods) (t : Terminal) → TerminalAnswer t (step (now .0) t) → TerminalAnswer t (terminal.checked step now t)
-unfolding terminal.checked
-when-ready step now t a = by-test (terminal.ready now t) (λ v. rw v a) (λ v. rw v (terminal-down 1 (omega arith) t))
+when-ready : (step : ℕ → Terminal → TerminalStep) (now : Periods) (t : Terminal) → TerminalAnswer t (step (now .0) t) → TerminalAnswer t (terminalCalls.checked step now t)
+unfolding terminalCalls.checked
+when-ready step now t a = by-test (terminalCalls.ready now t) (λ v. rw v a) (λ v. rw v (terminal-down 1 (omega arith) t))
 
 -- ---- A frame: where no reason holds, the access takes it.
 image-length : (body : List ℕ) → isBodyLength (length body) ≡ true → isImageLength (length (image body)) ≡ true
@@ -161,16 +162,16 @@ module _ (class : Class) (images : List ℕ) (i : ℕ) (body : List ℕ) (t : Te
   abbrev why-not : ℕ
   why-not = frameReason (length images) i (length body) t
 
-  taken : eqb why-not 0 ≡ true → terminal.handedOver class (length (image body)) t .reply ≡ 0
-  unfolding frameReason terminal.handedOver terminal.handsOver terminal.holding handed
+  taken : eqb why-not 0 ≡ true → terminalCalls.handedOver class (length (image body)) t .reply ≡ 0
+  unfolding frameReason terminalCalls.handedOver terminal.handsOver terminal.holding handed
   taken z =
-      let n = frame-none (terminal.terminalInRange t) (eqb (length images) imagesRoom && ltb i terminals) (eqb (t .state) F7) (isBodyLength (length body)) (eqb (t .access .held) 0) (eqb-true why-not 0 z) in
+      let n = frame-none (terminalCalls.terminalInRange t) (eqb (length images) imagesRoom && ltb i terminals) (eqb (t .state) F7) (isBodyLength (length body)) (eqb (t .access .held) 0) (eqb-true why-not 0 z) in
       rw (n .0, n .1, image-length body (n .2), n .3)
 
   why-listed : why-not ≤ 9
   unfolding frameReason
   why-listed =
-      frame-listed (terminal.terminalInRange t) (eqb (length images) imagesRoom && ltb i terminals) (eqb (t .state) F7) (isBodyLength (length body)) (eqb (t .access .held) 0)
+      frame-listed (terminalCalls.terminalInRange t) (eqb (length images) imagesRoom && ltb i terminals) (eqb (t .state) F7) (isBodyLength (length body)) (eqb (t .access .held) 0)
 
   frame-given : TerminalAnswer t (frameGiven class images i body t)
   unfolding frameGiven turnedDown

@@ -13,6 +13,7 @@ use Rattle.hdlc.specs.Bits.{bitOf}
 use Rattle.hdlc.specs.Image.{longestBody}
 use Rattle.timing.specs.Counts.{mostPeriods}
 use Rattle.terminal.specs.Terminal as terminal
+use Rattle.terminal.specs.Calls as terminalCalls
 use Rattle.terminal.specs.declared.Terminal.{Terminal}
 use Rattle.reader.specs.ReaderRange.{readerInRange}
 use Rattle.reader.specs.StandsFor.{StandsFor}
@@ -251,7 +252,7 @@ pub terminals-amiss :
     × Refused 1 (amiss period (fresh 7) (zeros 2576) (zeros 266) (zeros 48) (places 8))
     × Refused 1 (amiss period (astray ∷ fresh 7) (zeros 2576) (zeros 266) (zeros 48) (places 8))
     × Refused 1 (amiss period [] [] [] [] [])
-unfolding wouldFit lentFits eightInRange allInRange terminal.terminalInRange accessInRange fits within
+unfolding wouldFit lentFits eightInRange allInRange terminalCalls.terminalInRange accessInRange fits within
 terminals-amiss = ((refl, refl), (refl, refl), (refl, refl), (refl, refl), (refl, refl), (refl, refl))
 
 -- with eight terminals, of an event the images, or the letters in number or in code: 2
@@ -260,7 +261,7 @@ pub event-slices-amiss :
     × Refused 2 (amiss on (fresh 8) (zeros 2577) [] (zeros 48) [])
     × Refused 2 (amiss on (fresh 8) (zeros 2576) [] (zeros 47) [])
     × Refused 2 (amiss on (fresh 8) (zeros 2576) [] (4 ∷ zeros 47) [])
-unfolding wouldFit eightInRange allInRange terminal.terminalInRange accessInRange fits within
+unfolding wouldFit eightInRange allInRange terminalCalls.terminalInRange accessInRange fits within
 event-slices-amiss = ((refl, refl), (refl, refl), (refl, refl), (refl, refl))
 
 -- .. and of a period also the octets or the places
@@ -272,7 +273,7 @@ pub period-slices-amiss :
     × Refused 2 (amiss period (fresh 8) (zeros 2576) (zeros 266) (4 ∷ zeros 47) (places 8))
     × Refused 2 (amiss period (fresh 8) (zeros 2576) (zeros 266) (zeros 48) (places 7))
     × Refused 2 (amiss period (fresh 8) (zeros 2576) (zeros 266) (zeros 48) (places 9))
-unfolding wouldFit lentFits eightInRange allInRange terminal.terminalInRange accessInRange fits within
+unfolding wouldFit lentFits eightInRange allInRange terminalCalls.terminalInRange accessInRange fits within
 period-slices-amiss = ((refl, refl), (refl, refl), (refl, refl), (refl, refl), (refl, refl), (refl, refl), (refl, refl))
 
 -- what has its length would fit, the octets also where they are more

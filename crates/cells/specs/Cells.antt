@@ -80,9 +80,9 @@ cellNotes (Stay notes) = notes
 cellNotes Impossible = packedNotes []
 cellNotes Absent = packedNotes []
 
--- Refusal 5: a request at an impossible or an empty cell is barred.
-abbrev pub barsRequest : Cell → Bool
-barsRequest (To next action notes) = false
-barsRequest (Stay notes) = false
-barsRequest Impossible = true
-barsRequest Absent = true
+-- An impossible or an empty cell: an event changes nothing there.
+abbrev pub isVoid : Cell → Bool
+isVoid (To next action notes) = false
+isVoid (Stay notes) = false
+isVoid Impossible = true
+isVoid Absent = true

@@ -24,7 +24,9 @@ use Rattle.hearing.specs.Heard.{upwardEvent, lossUp}
 use Rattle.cells.specs.Notes.{noted}
 use Rattle.hearing.specs.Sensing.{shownUp}
 use Rattle.network.specs.Network as network
+use Rattle.network.specs.Calls as networkCalls
 use Rattle.terminal.specs.Terminal as terminal
+use Rattle.terminal.specs.Calls as terminalCalls
 
 -- whether bits are the given ones, written as 0 and 1
 abbrev bits : List ℕ → List Bool
@@ -61,10 +63,10 @@ first00 = completed 25 (image (0 ∷ [])) (image (1 ∷ [])) (holding 1 false 24
 
 -- the state of the network end in G4 after it has heard a line, and of a terminal in F6 after its T3 is due
 abbrev g4Hears : List ℕ → ℕ
-g4Hears line = network.heard (shownUp line) (record { 0 = 9 }) (record { t1 = 0; t2 = 0; state = G4; alignment = unaligned 0 }) .network .state
+g4Hears line = networkCalls.heard (shownUp line) (record { 0 = 9 }) (record { t1 = 0; t2 = 0; state = G4; alignment = unaligned 0 }) .network .state
 
 abbrev f6Due : ℕ
-f6Due = terminal.timerDue (record { 0 = 9 }) (record { t3 = 9; access = access.fresh; state = F6; alignment = inAlignment 0 }) .terminal .state
+f6Due = terminalCalls.timerDue (record { 0 = 9 }) (record { t3 = 9; access = access.fresh; state = F6; alignment = inAlignment 0 }) .terminal .state
 
 -- an upward line whose first pulse after symbol 2 is minus and stands at a position
 abbrev pulseAt : ℕ → ℕ → List ℕ
@@ -103,5 +105,5 @@ all [] = true
 all (b ∷ bs) = cond b (all bs) false
 
 pub edges-hold : all edges ≡ true
-unfolding edges image stuff bodyBits lowBits mayStart threshold lowOf turn afterE countAfter lowAfter sendsNext stops completes idles sameSymbols framedIn firstPulse hasPulse shownUp network.checked network.ready network.networkInRange network.hears network.heardAs network.andThen network.happens network.acts network.moved network.aligned lossUp upwardEvent followed noted cellIn timerAfter startedBy due terminal.checked terminal.timer terminal.ready terminal.terminalInRange terminal.happens terminal.acts terminal.noTimer accessInRange
+unfolding edges image stuff bodyBits lowBits mayStart threshold lowOf turn afterE countAfter lowAfter sendsNext stops completes idles sameSymbols framedIn firstPulse hasPulse shownUp networkCalls.checked networkCalls.ready networkCalls.networkInRange network.hears network.heardAs network.andThen network.happens network.acts network.moved network.aligned lossUp upwardEvent followed noted cellIn timerAfter startedBy due terminalCalls.checked terminal.timer terminalCalls.ready terminalCalls.terminalInRange terminal.happens terminal.acts terminal.noTimer accessInRange
 edges-hold = refl

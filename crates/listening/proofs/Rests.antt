@@ -20,7 +20,8 @@ use Rattle.timing.specs.declared.counts.Periods.{Periods}
 use Rattle.alignment.specs.Alignment.{framedPeriod, followed}
 use Rattle.hearing.specs.Heard.{downwardEvent}
 use Rattle.hearing.specs.declared.heard.Downward.{Downward}
-use Rattle.terminal.specs.Terminal.{unchanged, acts, happens, aligned, heardAs, hears, timer, ready, checked}
+use Rattle.terminal.specs.Terminal.{unchanged, acts, happens, aligned, heardAs, hears, timer}
+use Rattle.terminal.specs.Calls.{ready, checked}
 use Rattle.terminal.specs.declared.Terminal.{Terminal}
 use Rattle.terminal.specs.declared.TerminalStep.{TerminalStep}
 use Rattle.listening.specs.Hears.{staysInSilence, rests, heardStep, timedStep, hasNote, heardOne, terminalAfter, notesAfter, toldAfter, noNotes}

@@ -14,6 +14,7 @@ use Rattle.cells.specs.declared.notes.Notes.{Notes}
 use Rattle.timing.specs.Counts.{mostPeriods, atPeriod, nextPeriod}
 use Rattle.hearing.specs.declared.heard.Downward.{Downward}
 use Rattle.terminal.specs.Terminal as terminal
+use Rattle.terminal.specs.Calls as terminalCalls
 use Rattle.terminal.specs.declared.Terminal.{Terminal}
 use Rattle.terminal.proofs.Laws.{heard-called, timer-due-called}
 use Rattle.terminal.proofs.RangesKept.{heard-in-range, timer-due-in-range}
@@ -32,12 +33,12 @@ another : (now : ℕ) → now + 1 ≤ mostPeriods → nextPeriod (atPeriod now) 
 unfolding nextPeriod
 another now l = rw (lt-leb mostPeriods now (omega arith))
 
-module _ (line : Downward) (now : ℕ) (l : now + 1 ≤ mostPeriods) (t : Terminal) (h : terminal.terminalInRange t ≡ true) where
+module _ (line : Downward) (now : ℕ) (l : now + 1 ≤ mostPeriods) (t : Terminal) (h : terminalCalls.terminalInRange t ≡ true) where
   hearing-is : heardStep line (atPeriod now) t ≡ terminal.hears line now t
   unfolding heardStep
   hearing-is = heard-called now t (omega arith) h line
 
-  heard-fits : terminal.terminalInRange (terminal.hears line now t .terminal) ≡ true
+  heard-fits : terminalCalls.terminalInRange (terminal.hears line now t .terminal) ≡ true
   unfolding heardStep
   heard-fits = rw (hearing-is) at (heard-in-range (atPeriod now) t h line)
 
@@ -58,9 +59,9 @@ module _ (line : Downward) (now : ℕ) (l : now + 1 ≤ mostPeriods) (t : Termin
   told-is = rw (hearing-is, timing-is)
 
 -- ---- all of them
-both-in-range : (t : Terminal) (ts : List Terminal) → allInRange (t ∷ ts) ≡ true → (terminal.terminalInRange t ≡ true) × (allInRange ts ≡ true)
+both-in-range : (t : Terminal) (ts : List Terminal) → allInRange (t ∷ ts) ≡ true → (terminalCalls.terminalInRange t ≡ true) × (allInRange ts ≡ true)
 unfolding allInRange
-both-in-range t ts h = and-both (terminal.terminalInRange t) (allInRange ts) h
+both-in-range t ts h = and-both (terminalCalls.terminalInRange t) (allInRange ts) h
 
 module _ (line : Downward) (now : ℕ) (l : now + 1 ≤ mostPeriods) where
   terminals-from : (k : ℕ) (ts : List Terminal) → allInRange ts ≡ true → mapFrom (terminalAfter line (atPeriod now)) k ts ≡ map (hearsThen line now) ts
@@ -94,10 +95,10 @@ pub seats-shown : SeatsShown
 seats-shown line now ss l h = terminals-shown line now (terminalsOf ss) l h ∙ on-seats line now ss
 
 -- ---- ranges
-one-in-range : (line : Downward) (now : ℕ) (t : Terminal) → terminal.terminalInRange t ≡ true → terminal.terminalInRange (heardOne line (atPeriod now) t .terminal) ≡ true
+one-in-range : (line : Downward) (now : ℕ) (t : Terminal) → terminalCalls.terminalInRange t ≡ true → terminalCalls.terminalInRange (heardOne line (atPeriod now) t .terminal) ≡ true
 unfolding heardOne timedStep heardStep
 one-in-range line now t h =
-    timer-due-in-range (nextPeriod (atPeriod now)) (terminal.heard line (atPeriod now) t .terminal) (heard-in-range (atPeriod now) t h line)
+    timer-due-in-range (nextPeriod (atPeriod now)) (terminalCalls.heard line (atPeriod now) t .terminal) (heard-in-range (atPeriod now) t h line)
 
 ranges-from : (line : Downward) (now k : ℕ) (ts : List Terminal) → allInRange ts ≡ true → allInRange (mapFrom (terminalAfter line (atPeriod now)) k ts) ≡ true
 unfolding mapFrom allInRange
@@ -136,7 +137,7 @@ module _ (line : Downward) (now : ℕ) (l : now + 1 ≤ mostPeriods) where
   abbrev TellsOne : Terminal → Bool
   TellsOne t = hasNote (heardNotes line now t) || hasNote (timedNotes line now t)
 
-  fold-on : (k : ℕ) (t : Terminal) (ts : List Terminal) → terminal.terminalInRange t ≡ true → foldFrom (toldAfter line (atPeriod now)) k false (t ∷ ts) ≡ foldFrom (toldAfter line (atPeriod now)) (suc k) (TellsOne t) ts
+  fold-on : (k : ℕ) (t : Terminal) (ts : List Terminal) → terminalCalls.terminalInRange t ≡ true → foldFrom (toldAfter line (atPeriod now)) k false (t ∷ ts) ≡ foldFrom (toldAfter line (atPeriod now)) (suc k) (TellsOne t) ts
   unfolding foldFrom
   fold-on k t ts h = rw (told-is line now l t h)
 

@@ -9,7 +9,7 @@ use Rattle.table_6_2.specs.Table62.{F1, F3, F5, F7}
 use Rattle.timing.specs.Counts.{nextPeriod}
 use Rattle.timing.specs.declared.counts.Periods.{Periods}
 use Rattle.hearing.specs.declared.heard.Downward.{Downward}
-use Rattle.terminal.specs.Terminal as terminal
+use Rattle.terminal.specs.Calls as terminalCalls
 use Rattle.terminal.specs.declared.Terminal.{Terminal}
 use Rattle.terminal.specs.declared.TerminalStep.{TerminalStep}
 use Rattle.cells.specs.Notes.{packedNotes}
@@ -32,10 +32,10 @@ rests line t =
 
 -- the two calls one after the other
 unfoldable pub heardStep : Downward → Periods → Terminal → TerminalStep
-heardStep line period t = terminal.heard line period t
+heardStep line period t = terminalCalls.heard line period t
 
 unfoldable pub timedStep : Downward → Periods → Terminal → TerminalStep
-timedStep line period t = terminal.timerDue (nextPeriod period) (heardStep line period t .terminal)
+timedStep line period t = terminalCalls.timerDue (nextPeriod period) (heardStep line period t .terminal)
 
 unfoldable pub hasNote : Notes → Bool
 hasNote n = ltb 0 (n .0)

@@ -9,6 +9,7 @@ use Rattle.cells.specs.declared.notes.Notes.{Notes}
 use Rattle.timing.specs.Counts.{mostPeriods, atPeriod}
 use Rattle.hearing.specs.declared.heard.Downward.{Downward}
 use Rattle.terminal.specs.Terminal as terminal
+use Rattle.terminal.specs.Calls as terminalCalls
 use Rattle.terminal.specs.declared.Terminal.{Terminal}
 use Rattle.bus.specs.Bus.{Seat}
 use Rattle.bus.specs.Period.{stepped}
@@ -18,7 +19,7 @@ use Rattle.listening.specs.declared.hears.UnitNotes.{UnitNotes}
 
 unfoldable pub allInRange : List Terminal → Bool
 allInRange [] = true
-allInRange (t ∷ ts) = terminal.terminalInRange t && allInRange ts
+allInRange (t ∷ ts) = terminalCalls.terminalInRange t && allInRange ts
 
 abbrev pub terminalsOf : List Seat → List Terminal
 terminalsOf ss = map (λ s. s .terminal) ss

@@ -21,7 +21,8 @@ use Rattle.alignment.specs.Alignment.{gained, lost, followed}
 use Rattle.hearing.specs.Heard.{upwardEvent, lossUp}
 use Rattle.alignment.specs.declared.Alignment.{Alignment}
 use Rattle.hearing.specs.declared.heard.Upward.{Upward}
-use Rattle.network.specs.Network.{unchanged, acts, moved, happens, andThen, aligned, isRequest, requests, t1Due, t2Due, timers, heardAs, hears, networkInRange, ready, checked, requested, timerDue, heard}
+use Rattle.network.specs.Network.{unchanged, acts, moved, happens, andThen, aligned, isRequest, bars, requests, t1Due, t2Due, timers, heardAs, hears}
+use Rattle.network.specs.Calls.{networkInRange, ready, checked, requested, timerDue, heard}
 use Rattle.network.specs.declared.Network.{Network}
 use Rattle.network.specs.declared.NetworkStep.{NetworkStep}
 use Rattle.network.proofs.TwoEvents.{happens-notes}
@@ -42,24 +43,24 @@ module _ (now : ℕ) (n : Network) (l : now ≤ mostPeriods) (h : networkInRange
   heard-called line = checked-called (hears line) now n l h
 
 -- ---- states
-acts-state : (k : ℕ) (c : Cell) (now : ℕ) (n : Network) → acts k c now n .network .state ≡ stateAfter c (n .state)
+acts-state : (c : Cell) (now : ℕ) (n : Network) → acts c now n .network .state ≡ stateAfter c (n .state)
 unfolding acts moved
-acts-state k (To next action notes) now n = refl
-acts-state k (Stay notes) now n = refl
-acts-state k Impossible now n = refl
-acts-state k Absent now n = refl
+acts-state (To next action notes) now n = refl
+acts-state (Stay notes) now n = refl
+acts-state Impossible now n = refl
+acts-state Absent now n = refl
 
-pub happens-state : (k e now : ℕ) (n : Network) → happens k e now n .network .state ≡ stateAfter (cellOf table63 e (n .state)) (n .state)
+pub happens-state : (e now : ℕ) (n : Network) → happens e now n .network .state ≡ stateAfter (cellOf table63 e (n .state)) (n .state)
 unfolding happens
-happens-state k e now n = acts-state k (cellOf table63 e (n .state)) now n
+happens-state e now n = acts-state (cellOf table63 e (n .state)) now n
 
 t1-due-G3 : (now : ℕ) (n : Network) → eqb (t1Due now n .network .state) G3 ≡ eqb (n .state) G3
 unfolding t1Due
-t1-due-G3 now n = by-test (due (n .t1) now) (λ t. rw (t, happens-state 0 T1-DUE now _) (t1-keeps-G3 (n .state))) (λ t. rw t)
+t1-due-G3 now n = by-test (due (n .t1) now) (λ t. rw (t, happens-state T1-DUE now _) (t1-keeps-G3 (n .state))) (λ t. rw t)
 
 t2-due-G3 : (now : ℕ) (n : Network) → eqb (t2Due now n .network .state) G3 ≡ eqb (n .state) G3
 unfolding t2Due
-t2-due-G3 now n = by-test (due (n .t2) now) (λ t. rw (t, happens-state 0 T2-DUE now _) (t2-keeps-G3 (n .state))) (λ t. rw t)
+t2-due-G3 now n = by-test (due (n .t2) now) (λ t. rw (t, happens-state T2-DUE now _) (t2-keeps-G3 (n .state))) (λ t. rw t)
 
 -- No timer that is due leads into G3 or out of it.
 pub timers-keep-G3 : (now : ℕ) (n : Network) → eqb (timers now n .network .state) G3 ≡ eqb (n .state) G3
@@ -67,16 +68,16 @@ unfolding timers andThen
 timers-keep-G3 now n = rw (t2-due-G3 now (t1Due now n .network)) (t1-due-G3 now n)
 
 -- ---- notes
-pub happens-two : (k e now : ℕ) (n : Network) → length (noted (happens k e now n .notes)) ≤ 2
-happens-two k e now n = rw (happens-notes k e now n) (notes-two e (n .state))
+pub happens-two : (e now : ℕ) (n : Network) → length (noted (happens e now n .notes)) ≤ 2
+happens-two e now n = rw (happens-notes e now n) (notes-two e (n .state))
 
 t1-two : (now : ℕ) (n : Network) → length (noted (t1Due now n .notes)) ≤ 2
 unfolding t1Due noted
-t1-two now n = by-test (due (n .t1) now) (λ t. rw t (happens-two 0 T1-DUE now _)) (λ t. rw t (omega arith))
+t1-two now n = by-test (due (n .t1) now) (λ t. rw t (happens-two T1-DUE now _)) (λ t. rw t (omega arith))
 
 t2-two : (now : ℕ) (n : Network) → length (noted (t2Due now n .notes)) ≤ 2
 unfolding t2Due noted
-t2-two now n = by-test (due (n .t2) now) (λ t. rw t (happens-two 0 T2-DUE now _)) (λ t. rw t (omega arith))
+t2-two now n = by-test (due (n .t2) now) (λ t. rw t (happens-two T2-DUE now _)) (λ t. rw t (omega arith))
 
 joined : (s : NetworkStep) (f : Network → NetworkStep) → length (noted (s .notes)) ≤ 2 → length (noted (f (s .network) .notes)) ≤ 2 →
     noted (andThen s f .notes) ≡ noted (s .notes) ++ noted (f (s .network) .notes)
@@ -91,56 +92,58 @@ timers-notes now n = joined (t1Due now n) (t2Due now) (t1-two now n) (t2-two now
 -- Nor of those of a heard line: they are the loss's and then the line's.
 abbrev lossHeard : Upward → ℕ → Network → NetworkStep
 lossHeard line now n =
-    happens 0 (lossUp (followed gained lost (line .pulse) (line .framed) (n .alignment))) now
+    happens (lossUp (followed gained lost (line .pulse) (line .framed) (n .alignment))) now
     (aligned (followed gained lost (line .pulse) (line .framed) (n .alignment) .alignment) n)
 
 abbrev lineHeard : Upward → ℕ → Network → NetworkStep
-lineHeard line now n = happens 0 (upwardEvent line (followed gained lost (line .pulse) (line .framed) (n .alignment))) now (lossHeard line now n .network)
+lineHeard line now n = happens (upwardEvent line (followed gained lost (line .pulse) (line .framed) (n .alignment))) now (lossHeard line now n .network)
 
 pub hears-notes : (line : Upward) (now : ℕ) (n : Network) → noted (hears line now n .notes) ≡ noted (lossHeard line now n .notes) ++ noted (lineHeard line now n .notes)
 unfolding hears heardAs
 hears-notes line now n =
-    joined (lossHeard line now n) (happens 0 (upwardEvent line (followed gained lost (line .pulse) (line .framed) (n .alignment))) now) (happens-two 0 _ now _) (happens-two 0 _ now _)
+    joined (lossHeard line now n) (happens (upwardEvent line (followed gained lost (line .pulse) (line .framed) (n .alignment))) now) (happens-two _ now _) (happens-two _ now _)
 
 -- Every note is an indication of table 6-3.
 abbrev Told : NetworkStep → Type 0
 Told s = everyNote isIndication (noted (s .notes)) ≡ true
 
-pub happens-told : (k e now : ℕ) (n : Network) → Told (happens k e now n)
-happens-told k e now n = rw (happens-notes k e now n) (notes-indications e (n .state))
+pub happens-told : (e now : ℕ) (n : Network) → Told (happens e now n)
+happens-told e now n = rw (happens-notes e now n) (notes-indications e (n .state))
 
 pub requests-told : (event now : ℕ) (n : Network) → Told (requests event now n)
 unfolding requests everyNote noted
-requests-told event now n = by-test (isRequest event) (λ t. rw t (happens-told 5 event now n)) (λ t. rw t)
+requests-told event now n = by-test (isRequest event)
+    (λ t. rw t (by-test (bars event (n .state)) (λ u. rw u) (λ u. rw u (happens-told event now n))))
+    (λ t. rw t)
 
 t1-told : (now : ℕ) (n : Network) → Told (t1Due now n)
 unfolding t1Due everyNote noted
-t1-told now n = by-test (due (n .t1) now) (λ t. rw t (happens-told 0 T1-DUE now _)) (λ t. rw t)
+t1-told now n = by-test (due (n .t1) now) (λ t. rw t (happens-told T1-DUE now _)) (λ t. rw t)
 
 t2-told : (now : ℕ) (n : Network) → Told (t2Due now n)
 unfolding t2Due everyNote noted
-t2-told now n = by-test (due (n .t2) now) (λ t. rw t (happens-told 0 T2-DUE now _)) (λ t. rw t)
+t2-told now n = by-test (due (n .t2) now) (λ t. rw t (happens-told T2-DUE now _)) (λ t. rw t)
 
 pub timers-told : (now : ℕ) (n : Network) → Told (timers now n)
 timers-told now n = rw (timers-notes now n) (every-append isIndication (noted (t1Due now n .notes)) _ (t1-told now n) (t2-told now (t1Due now n .network)))
 
 pub hears-told : (line : Upward) (now : ℕ) (n : Network) → Told (hears line now n)
-hears-told line now n = rw (hears-notes line now n) (every-append isIndication (noted (lossHeard line now n .notes)) _ (happens-told 0 _ now _) (happens-told 0 _ now _))
+hears-told line now n = rw (hears-notes line now n) (every-append isIndication (noted (lossHeard line now n .notes)) _ (happens-told _ now _) (happens-told _ now _))
 
 -- ---- events
 -- A signal, for which table 6-3 has no row, changes nothing.
-pub no-event : (k now : ℕ) (n : Network) → happens k 0 now n ≡ unchanged k n
+pub no-event : (now : ℕ) (n : Network) → happens 0 now n ≡ unchanged 0 n
 unfolding happens acts cellIn
-no-event k now n = from (n .state)
+no-event now n = from (n .state)
   where
-    from : (s : ℕ) → acts k (cellOf table63 0 s) now n ≡ unchanged k n
+    from : (s : ℕ) → acts (cellOf table63 0 s) now n ≡ unchanged 0 n
     from zero = refl
     from (suc s) = refl
 
 -- Where INFO 1 and the event of loss fall together, their order does not matter.
 pub loss-and-info-1 : (now t1 t2 state : ℕ) (a : Alignment) →
-    andThen (happens 0 LOSS now (record { t1 = t1; t2 = t2; state = state; alignment = a })) (happens 0 INFO-1 now)
-    ≡ andThen (happens 0 INFO-1 now (record { t1 = t1; t2 = t2; state = state; alignment = a })) (happens 0 LOSS now)
+    andThen (happens LOSS now (record { t1 = t1; t2 = t2; state = state; alignment = a })) (happens INFO-1 now)
+    ≡ andThen (happens INFO-1 now (record { t1 = t1; t2 = t2; state = state; alignment = a })) (happens LOSS now)
 unfolding happens acts cellIn andThen moved noted timerAfter startedBy
 loss-and-info-1 now t1 t2 zero a = refl
 loss-and-info-1 now t1 t2 (suc zero) a = refl

@@ -19,7 +19,8 @@ use Rattle.timing.proofs.RangesKept.{started-at-most, timer-at-most}
 use Rattle.alignment.specs.Alignment.{lost, alignmentInRange}
 use Rattle.hearing.specs.declared.heard.Upward.{Upward}
 use Rattle.alignment.proofs.Alignments.{followed-in-range}
-use Rattle.network.specs.Network.{fresh, acts, moved, happens, andThen, aligned, isRequest, requests, t1Due, t2Due, timers, heardAs, hears, networkInRange, ready, checked, requested, timerDue, heard}
+use Rattle.network.specs.Network.{fresh, acts, moved, happens, andThen, aligned, isRequest, bars, requests, t1Due, t2Due, timers, heardAs, hears}
+use Rattle.network.specs.Calls.{networkInRange, ready, checked, requested, timerDue, heard}
 use Rattle.network.specs.declared.Network.{Network}
 use Rattle.network.specs.declared.NetworkStep.{NetworkStep}
 
@@ -66,9 +67,9 @@ StepFits s = NetworkFits (s .network)
 
 -- The steps, in a period of the bus.
 module _ (now : ℕ) (l : now ≤ mostPeriods) where
-  acts-fits : (k : ℕ) (c : Cell) (n : Network) → nextTo G4 c ≡ true → NetworkFits n → StepFits (acts k c now n)
+  acts-fits : (c : Cell) (n : Network) → nextTo G4 c ≡ true → NetworkFits n → StepFits (acts c now n)
   unfolding acts moved
-  acts-fits k (To next action notes) n t f =
+  acts-fits (To next action notes) n t f =
       record {
         from-G1 = next-fits G4 next t .0;
         to-G4 = next-fits G4 next t .1;
@@ -76,23 +77,25 @@ module _ (now : ℕ) (l : now ≤ mostPeriods) where
         t2-fits = started-at-most (mostPeriods + T2) START-T2 T2 action now (n .t2) (omega arith) (f .t2-fits);
         alignment-fits = f .alignment-fits;
       }
-  acts-fits k (Stay notes) n t f = f
-  acts-fits k Impossible n t f = f
-  acts-fits k Absent n t f = f
+  acts-fits (Stay notes) n t f = f
+  acts-fits Impossible n t f = f
+  acts-fits Absent n t f = f
 
-  happens-fits : (k event : ℕ) (n : Network) → NetworkFits n → StepFits (happens k event now n)
+  happens-fits : (event : ℕ) (n : Network) → NetworkFits n → StepFits (happens event now n)
   unfolding happens
-  happens-fits k event n f = acts-fits k (cellOf table63 event (n .state)) n (next-state event (n .state)) f
+  happens-fits event n f = acts-fits (cellOf table63 event (n .state)) n (next-state event (n .state)) f
 
   requests-fits : (event : ℕ) (n : Network) → NetworkFits n → StepFits (requests event now n)
   unfolding requests
-  requests-fits event n f = by-test (isRequest event) (λ t. rw t (happens-fits 5 event n f)) (λ t. rw t f)
+  requests-fits event n f = by-test (isRequest event)
+      (λ t. rw t (by-test (bars event (n .state)) (λ u. rw u f) (λ u. rw u (happens-fits event n f))))
+      (λ t. rw t f)
 
   t1-due-fits : (n : Network) → NetworkFits n → StepFits (t1Due now n)
   unfolding t1Due
   t1-due-fits n f =
       by-test (due (n .t1) now)
-      (λ t. rw t (happens-fits 0 T1-DUE _
+      (λ t. rw t (happens-fits T1-DUE _
       (record { from-G1 = f .from-G1; to-G4 = f .to-G4; t1-fits = omega arith; t2-fits = f .t2-fits; alignment-fits = f .alignment-fits })))
       (λ t. rw t f)
 
@@ -100,7 +103,7 @@ module _ (now : ℕ) (l : now ≤ mostPeriods) where
   unfolding t2Due
   t2-due-fits n f =
       by-test (due (n .t2) now)
-      (λ t. rw t (happens-fits 0 T2-DUE _
+      (λ t. rw t (happens-fits T2-DUE _
       (record { from-G1 = f .from-G1; to-G4 = f .to-G4; t1-fits = f .t1-fits; t2-fits = omega arith; alignment-fits = f .alignment-fits })))
       (λ t. rw t f)
 
@@ -111,8 +114,8 @@ module _ (now : ℕ) (l : now ≤ mostPeriods) where
   hears-fits : (line : Upward) (n : Network) → NetworkFits n → StepFits (hears line now n)
   unfolding hears heardAs andThen aligned
   hears-fits line n f =
-      happens-fits 0 _ _
-      (happens-fits 0 _ _
+      happens-fits _ _
+      (happens-fits _ _
       (record {
         from-G1 = f .from-G1;
         to-G4 = f .to-G4;

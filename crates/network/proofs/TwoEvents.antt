@@ -22,35 +22,35 @@ use Rattle.network.specs.Network.{unchanged, isRequest, acts, happens, a
 use Rattle.network.specs.declared.Network.{Network}
 use Rattle.network.specs.declared.NetworkStep.{NetworkStep}
 
-acts-notes : (k : ℕ) (c : Cell) (now : ℕ) (n : Network) → acts k c now n .notes ≡ cellNotes c
+acts-notes : (c : Cell) (now : ℕ) (n : Network) → acts c now n .notes ≡ cellNotes c
 unfolding acts
-acts-notes k (To next action notes) now n = refl
-acts-notes k (Stay notes) now n = refl
-acts-notes k Impossible now n = refl
-acts-notes k Absent now n = refl
+acts-notes (To next action notes) now n = refl
+acts-notes (Stay notes) now n = refl
+acts-notes Impossible now n = refl
+acts-notes Absent now n = refl
 
 -- The notes of an event are its cell's.
-pub happens-notes : (k e now : ℕ) (n : Network) → happens k e now n .notes ≡ cellNotes (cellOf table63 e (n .state))
+pub happens-notes : (e now : ℕ) (n : Network) → happens e now n .notes ≡ cellNotes (cellOf table63 e (n .state))
 unfolding happens
-happens-notes k e now n = acts-notes k (cellOf table63 e (n .state)) now n
+happens-notes e now n = acts-notes (cellOf table63 e (n .state)) now n
 
-acts-reply : (c : Cell) (now : ℕ) (n : Network) → acts 0 c now n .reply ≡ 0
+acts-reply : (c : Cell) (now : ℕ) (n : Network) → acts c now n .reply ≡ 0
 unfolding acts
 acts-reply (To next action notes) now n = refl
 acts-reply (Stay notes) now n = refl
 acts-reply Impossible now n = refl
 acts-reply Absent now n = refl
 
--- No event but a request is refused.
-happens-reply : (e now : ℕ) (n : Network) → happens 0 e now n .reply ≡ 0
+-- No event is refused where it happens.
+happens-reply : (e now : ℕ) (n : Network) → happens e now n .reply ≡ 0
 unfolding happens
 happens-reply e now n = acts-reply (cellOf table63 e (n .state)) now n
 
-happens-tidy : (k e now : ℕ) (n : Network) → packedNotes (noted (happens k e now n .notes)) ≡ happens k e now n .notes
-happens-tidy k e now n = rw (happens-notes k e now n) (notes-in-order e (n .state))
+happens-tidy : (e now : ℕ) (n : Network) → packedNotes (noted (happens e now n .notes)) ≡ happens e now n .notes
+happens-tidy e now n = rw (happens-notes e now n) (notes-in-order e (n .state))
 
-happens-quiet : (k e now : ℕ) (n : Network) → noted (cellNotes (cellOf table63 e (n .state))) ≡ [] → noted (happens k e now n .notes) ≡ []
-happens-quiet k e now n q = rw (happens-notes k e now n) q
+happens-quiet : (e now : ℕ) (n : Network) → noted (cellNotes (cellOf table63 e (n .state))) ≡ [] → noted (happens e now n .notes) ≡ []
+happens-quiet e now n q = rw (happens-notes e now n) q
 
 first-only : (s : NetworkStep) (f : Network → NetworkStep) → packedNotes (noted (s .notes)) ≡ s .notes → noted (f (s .network) .notes) ≡ [] →
     record { network = f (s .network) .network; notes = s .notes; reply = 0 } ≡ andThen s f
@@ -68,22 +68,22 @@ is-request e = by-test (eqb e AR) (λ t. rw t) (λ t. rw t)
 
 -- T1, then T2.
 pub t1-is : (now : ℕ) (n : Network) {b : Bool} {a : NetworkStep} → b ≡ due (n .t1) now →
-    a ≡ cond b (happens 0 T1-DUE now (record { t1 = 0; t2 = n .t2; state = n .state; alignment = n .alignment })) (unchanged 0 n) → a ≡ t1Due now n
+    a ≡ cond b (happens T1-DUE now (record { t1 = 0; t2 = n .t2; state = n .state; alignment = n .alignment })) (unchanged 0 n) → a ≡ t1Due now n
 unfolding t1Due
 t1-is now n p q = rw (q, p)
 
 pub t2-is : (now : ℕ) (n : Network) {b : Bool} {a : NetworkStep} → b ≡ due (n .t2) now →
-    a ≡ cond b (happens 0 T2-DUE now (record { t1 = n .t1; t2 = 0; state = n .state; alignment = n .alignment })) (unchanged 0 n) → a ≡ t2Due now n
+    a ≡ cond b (happens T2-DUE now (record { t1 = n .t1; t2 = 0; state = n .state; alignment = n .alignment })) (unchanged 0 n) → a ≡ t2Due now n
 unfolding t2Due
 t2-is now n p q = rw (q, p)
 
 t1-tidy : (now : ℕ) (n : Network) → packedNotes (noted (t1Due now n .notes)) ≡ t1Due now n .notes
 unfolding t1Due noted
-t1-tidy now n = by-test (due (n .t1) now) (λ t. rw t (happens-tidy 0 T1-DUE now _)) (λ t. rw t)
+t1-tidy now n = by-test (due (n .t1) now) (λ t. rw t (happens-tidy T1-DUE now _)) (λ t. rw t)
 
 pub t2-without-notes : (now : ℕ) (n : Network) → noted (t2Due now n .notes) ≡ []
 unfolding t2Due noted
-t2-without-notes now n = by-test (due (n .t2) now) (λ t. rw t (happens-quiet 0 T2-DUE now _ (t2-quiet (n .state)))) (λ t. rw t)
+t2-without-notes now n = by-test (due (n .t2) now) (λ t. rw t (happens-quiet T2-DUE now _ (t2-quiet (n .state)))) (λ t. rw t)
 
 pub timers-are : (now : ℕ) (n : Network) {a b : NetworkStep} → a ≡ t1Due now n → b ≡ t2Due now (a .network) → record { network = b .network; notes = a .notes; reply = 0 } ≡ timers now n
 unfolding timers
@@ -106,23 +106,23 @@ no-loss : (f : Followed) → f .lost ≡ false → lossUp f ≡ 0
 unfolding lossUp
 no-loss f l = rw l
 
-module _ (line : Upward) (now : ℕ) (n : Network) (f : Followed) (a b : NetworkStep) (m : a ≡ happens 0 (lossUp f) now (aligned (f .alignment) n)) (h : b ≡ happens 0 (upwardEvent line f) now (a .network)) where
+module _ (line : Upward) (now : ℕ) (n : Network) (f : Followed) (a b : NetworkStep) (m : a ≡ happens (lossUp f) now (aligned (f .alignment) n)) (h : b ≡ happens (upwardEvent line f) now (a .network)) where
   heard-lost : f ≡ followed gained lost (line .pulse) (line .framed) (n .alignment) → f .lost ≡ true → record { network = b .network; notes = a .notes; reply = 0 } ≡ heardAs line f now n
   unfolding heardAs
   heard-lost e l =
       rw (h, m)
-      (first-only (happens 0 (lossUp f) now (aligned (f .alignment) n)) (happens 0 (upwardEvent line f) now)
-      (happens-tidy 0 (lossUp f) now (aligned (f .alignment) n))
-      (happens-quiet 0 (upwardEvent line f) now (happens 0 (lossUp f) now (aligned (f .alignment) n) .network)
-      (lost-quiet line f (n .alignment) (happens 0 (lossUp f) now (aligned (f .alignment) n) .network .state) e l)))
+      (first-only (happens (lossUp f) now (aligned (f .alignment) n)) (happens (upwardEvent line f) now)
+      (happens-tidy (lossUp f) now (aligned (f .alignment) n))
+      (happens-quiet (upwardEvent line f) now (happens (lossUp f) now (aligned (f .alignment) n) .network)
+      (lost-quiet line f (n .alignment) (happens (lossUp f) now (aligned (f .alignment) n) .network .state) e l)))
 
   heard-kept : f .lost ≡ false → record { network = b .network; notes = b .notes; reply = 0 } ≡ heardAs line f now n
   unfolding heardAs
   heard-kept l =
       rw (h, m)
-      (second-only (happens 0 (lossUp f) now (aligned (f .alignment) n)) (happens 0 (upwardEvent line f) now)
-      (happens-quiet 0 (lossUp f) now (aligned (f .alignment) n) (rw (no-loss f l) (no-event-quiet (aligned (f .alignment) n .state))))
-      (happens-tidy 0 (upwardEvent line f) now (happens 0 (lossUp f) now (aligned (f .alignment) n) .network)))
+      (second-only (happens (lossUp f) now (aligned (f .alignment) n)) (happens (upwardEvent line f) now)
+      (happens-quiet (lossUp f) now (aligned (f .alignment) n) (rw (no-loss f l) (no-event-quiet (aligned (f .alignment) n .state))))
+      (happens-tidy (upwardEvent line f) now (happens (lossUp f) now (aligned (f .alignment) n) .network)))
 
 -- A heard line, over what the calls in between gave.
 module _
@@ -130,12 +130,12 @@ module _
     {f : Followed} (ef : f ≡ followed gained lost (line .pulse) (line .framed) (n .alignment))
     {k : ℕ} (ek : k ≡ lossUp f)
     {e : ℕ} (ee : e ≡ upwardEvent line f)
-    {a : NetworkStep} (ea : a ≡ happens 0 k now (aligned (f .alignment) n))
-    {b : NetworkStep} (eb : b ≡ happens 0 e now (a .network)) where
-  loss-is : a ≡ happens 0 (lossUp f) now (aligned (f .alignment) n)
+    {a : NetworkStep} (ea : a ≡ happens k now (aligned (f .alignment) n))
+    {b : NetworkStep} (eb : b ≡ happens e now (a .network)) where
+  loss-is : a ≡ happens (lossUp f) now (aligned (f .alignment) n)
   loss-is = cc
 
-  line-is : b ≡ happens 0 (upwardEvent line f) now (a .network)
+  line-is : b ≡ happens (upwardEvent line f) now (a .network)
   line-is = cc
 
   pub heard-with-loss : f .lost ≡ true → record { network = b .network; notes = a .notes; reply = 0 } ≡ hears line now n

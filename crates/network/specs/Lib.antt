@@ -1,2 +1,3 @@
 -- The network end.
 pub mod Network
+pub mod Calls

@@ -1,7 +1,10 @@
 // The network end: states G1 to G4, alignment, T1 and T2.
 ghost use mathlib.Core.Bool.{cond};
 ghost use mathlib.Core.Path.{_≡_};
+ghost use Rattle.cells.specs.Cells.{cellOf, isVoid};
+ghost use Rattle.network.specs.Calls as calls;
 ghost use Rattle.network.specs.Network as spec;
+ghost use Rattle.table_6_3.specs.Table63.{table63};
 use alignment::Alignment;
 use cells::cell::Cell;
 use cells::cell::NO_NOTES;
@@ -60,7 +63,7 @@ impl Network {
 
     // Whether every field is in its range.
     pub fn in_range(self) -> bool
-        ensures { λ r. ⌜ r ≡ spec.networkInRange self ⌝ }
+        ensures { λ r. ⌜ r ≡ calls.networkInRange self ⌝ }
     {
         if self.state < G1 {
             return false;
@@ -79,7 +82,7 @@ impl Network {
 
     // `ar` and `dr`, by their numbers in table 6-3.
     pub fn request(self, event: u8, now: Periods) -> NetworkStep
-        ensures { λ r. ⌜ r ≡ spec.requested event now self ⌝ }
+        ensures { λ r. ⌜ r ≡ calls.requested event now self ⌝ }
     {
         if self.ready(now) {
             if (event == AR) | (event == DR) {
@@ -94,7 +97,7 @@ impl Network {
 
     // The start of a period: T1, then T2, where they are due.
     pub fn timer_due(self, now: Periods) -> NetworkStep
-        ensures { λ r. ⌜ r ≡ spec.timerDue now self ⌝ }
+        ensures { λ r. ⌜ r ≡ calls.timerDue now self ⌝ }
     {
         if self.ready(now) {
             let first = self.expires(due(self.t1, now), 0, self.t2, T1_DUE, now);
@@ -111,7 +114,7 @@ impl Network {
 
     // A period's upward line is heard: the event of loss, if any, and what the line is.
     pub fn hear(self, line: Upward, now: Periods) -> NetworkStep
-        ensures { λ r. ⌜ r ≡ spec.heard line now self ⌝ }
+        ensures { λ r. ⌜ r ≡ calls.heard line now self ⌝ }
     {
         if self.ready(now) {
             let f = self.alignment.follow(line.pulse, line.framed);
@@ -137,7 +140,7 @@ impl Network {
 
     // Whether record and period are in range.
     fn ready(self, now: Periods) -> bool
-        ensures { λ r. ⌜ r ≡ spec.ready now self ⌝ }
+        ensures { λ r. ⌜ r ≡ calls.ready now self ⌝ }
     {
         self.in_range() && now.in_range()
     }
@@ -165,7 +168,7 @@ impl Network {
 
     // An event of table 6-3; the reply at a cell that is impossible or empty is barred.
     fn happens(self, barred: u8, event: u8, now: Periods) -> NetworkStep
-        ensures { λ r. ⌜ r ≡ spec.happens barred event (now .0) self ⌝ }
+        ensures { λ r. ⌜ r ≡ cond (isVoid (cellOf table63 event (self .state))) (spec.unchanged barred self) (spec.happens event (now .0) self) ⌝ }
     {
         let found = cell(event, self.state);
         match found {
@@ -187,7 +190,7 @@ impl Network {
 
     // The event of a timer at the record with other timers, where it is due.
     fn expires(self, expired: bool, t1: u64, t2: u64, event: u8, now: Periods) -> NetworkStep
-        ensures { λ r. ⌜ r ≡ cond expired (spec.happens 0 event (now .0) (record { t1 = t1; t2 = t2; state = self .state; alignment = self .alignment })) (spec.unchanged 0 self) ⌝ }
+        ensures { λ r. ⌜ r ≡ cond expired (spec.happens event (now .0) (record { t1 = t1; t2 = t2; state = self .state; alignment = self .alignment })) (spec.unchanged 0 self) ⌝ }
     {
         if expired {
             let alignment = self.alignment;

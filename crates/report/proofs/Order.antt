@@ -14,7 +14,8 @@ use Rattle.hdlc.specs.Image.{image, longestBody}
 use Rattle.hdlc.proofs.ImageLaws.{length-image, length-stuff-most, length-bodyBits}
 use Rattle.hdlc.proofs.OctetLaws.{length-octets}
 use Rattle.packing.specs.Packing.{octetsFor, imageRoom, filledOctets, onto, isBodyLength, imagedOctets}
-use Rattle.terminal.specs.Terminal.{fresh, terminalInRange}
+use Rattle.terminal.specs.Terminal.{fresh}
+use Rattle.terminal.specs.Calls.{terminalInRange}
 use Rattle.terminal.specs.declared.Terminal.{Terminal}
 use Rattle.terminal.proofs.RangesKept.{fresh-in-range}
 use Rattle.bus.specs.Bus.{terminals}

@@ -8,7 +8,7 @@ use lib.Dec.{eqb}
 use lib.ListN.{length}
 use borrow.Author.Tests.{eqb-true, ne-eqb}
 use Rattle.cells.specs.Notes.{packedNotes, noted}
-use Rattle.cells.specs.Cells.{rowOf, cellIn, cellOf, infoIn, stateAfter, cellNotes, barsRequest}
+use Rattle.cells.specs.Cells.{rowOf, cellIn, cellOf, infoIn, stateAfter, cellNotes, isVoid}
 use Rattle.cells.specs.declared.cell.Cell.{Cell}
 use Rattle.cells.specs.declared.cell.Cell.the-variants.{To}
 use Rattle.cells.specs.declared.notes.Notes.{Notes}
@@ -20,7 +20,7 @@ use Rattle.table_6_2.specs.States.{nextState, inF6OrF7, inF6OrF7After, i
 
 -- Refusal 5: "`ar` in F1, F2, F4, F5, F7" are the empty and the impossible cells of the request's row.
 pub ar-barred :
-    map (λ s. barsRequest (cellOf table62 AR s)) (F1 ∷ F2 ∷ F3 ∷ F4 ∷ F5 ∷ F6 ∷ F7 ∷ F8 ∷ [])
+    map (λ s. isVoid (cellOf table62 AR s)) (F1 ∷ F2 ∷ F3 ∷ F4 ∷ F5 ∷ F6 ∷ F7 ∷ F8 ∷ [])
     ≡ true ∷ true ∷ false ∷ true ∷ true ∷ false ∷ true ∷ false ∷ []
 unfolding cellIn
 ar-barred = refl

@@ -6,18 +6,18 @@ use Prim.Native.Nat.{ℕ, _≤_}
 use lib.Dec.{eqb}
 use lib.ListN.{length}
 use Rattle.cells.specs.Notes.{packedNotes, noted}
-use Rattle.cells.specs.Cells.{cellIn, cellOf, stateAfter, cellNotes, barsRequest}
+use Rattle.cells.specs.Cells.{cellIn, cellOf, stateAfter, cellNotes, isVoid}
 use Rattle.cells.proofs.Everywhere.{in-row, in-table}
 use Rattle.cells.proofs.NextState.{nextTo, row-keeps}
 use Rattle.cells.proofs.NotesKept.{quiet, quiet-is, tidy, tidy-is, atMost, at-most-is, everyNote, isIndication, indications}
 use Rattle.table_6_3.specs.Table63.{table63, t1Expiry, t2Expiry, info1Received, G1, G2, G3, G4, AR, DR, T1-DUE, T2-DUE, INFO-1}
 
 -- Refusal 5: "`ar` in .. G2 or G3, `dr` in G1 or G4" are the empty and the impossible cells of the requests' rows.
-pub ar-barred : map (λ s. barsRequest (cellOf table63 AR s)) (G1 ∷ G2 ∷ G3 ∷ G4 ∷ []) ≡ false ∷ true ∷ true ∷ false ∷ []
+pub ar-barred : map (λ s. isVoid (cellOf table63 AR s)) (G1 ∷ G2 ∷ G3 ∷ G4 ∷ []) ≡ false ∷ true ∷ true ∷ false ∷ []
 unfolding cellIn
 ar-barred = refl
 
-pub dr-barred : map (λ s. barsRequest (cellOf table63 DR s)) (G1 ∷ G2 ∷ G3 ∷ G4 ∷ []) ≡ true ∷ false ∷ false ∷ true ∷ []
+pub dr-barred : map (λ s. isVoid (cellOf table63 DR s)) (G1 ∷ G2 ∷ G3 ∷ G4 ∷ []) ≡ true ∷ false ∷ false ∷ true ∷ []
 unfolding cellIn
 dr-barred = refl
 

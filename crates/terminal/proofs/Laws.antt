@@ -24,7 +24,8 @@ use Rattle.alignment.specs.Alignment.{gained, lost, followed}
 use Rattle.hearing.specs.Heard.{downwardEvent}
 use Rattle.alignment.specs.declared.Followed.{Followed}
 use Rattle.hearing.specs.declared.heard.Downward.{Downward}
-use Rattle.terminal.specs.Terminal.{accessAfter, droppedNote, moved, acts, happens, aligned, noTimer, switchesOn, switchesOff, requests, handsOver, holding, timer, heardAs, hears, terminalInRange, ready, checked, switchedOn, switchedOff, requested, timerDue, heard, handedOver}
+use Rattle.terminal.specs.Terminal.{accessAfter, droppedNote, moved, acts, happens, aligned, noTimer, bars, switchesOn, switchesOff, requests, handsOver, holding, timer, heardAs, hears}
+use Rattle.terminal.specs.Calls.{terminalInRange, ready, checked, switchedOn, switchedOff, requested, timerDue, heard, handedOver}
 use Rattle.terminal.specs.declared.Terminal.{Terminal}
 use Rattle.terminal.specs.declared.TerminalStep.{TerminalStep}
 
@@ -54,26 +55,26 @@ unfolding handedOver
 handed-over-called class n t h = rw h
 
 -- ---- what an event does to the fields
-module _ (k : ℕ) (now : ℕ) (t : Terminal) where
-  acts-state : (c : Cell) → acts k c now t .terminal .state ≡ stateAfter c (t .state)
+module _ (now : ℕ) (t : Terminal) where
+  acts-state : (c : Cell) → acts c now t .terminal .state ≡ stateAfter c (t .state)
   unfolding acts moved
   acts-state (To next action notes) = refl
   acts-state (Stay notes) = refl
   acts-state Impossible = refl
   acts-state Absent = refl
 
-  acts-alignment : (c : Cell) → acts k c now t .terminal .alignment ≡ t .alignment
+  acts-alignment : (c : Cell) → acts c now t .terminal .alignment ≡ t .alignment
   unfolding acts moved
   acts-alignment (To next action notes) = refl
   acts-alignment (Stay notes) = refl
   acts-alignment Impossible = refl
   acts-alignment Absent = refl
 
-  pub happens-state : (e : ℕ) → happens k e now t .terminal .state ≡ nextState e (t .state)
+  pub happens-state : (e : ℕ) → happens e now t .terminal .state ≡ nextState e (t .state)
   unfolding happens
   happens-state e = acts-state (cellOf table62 e (t .state))
 
-  pub happens-alignment : (e : ℕ) → happens k e now t .terminal .alignment ≡ t .alignment
+  pub happens-alignment : (e : ℕ) → happens e now t .terminal .alignment ≡ t .alignment
   unfolding happens
   happens-alignment e = acts-alignment (cellOf table62 e (t .state))
 
@@ -86,42 +87,42 @@ stays s a = by-test (eqb s F7) (λ t. rw t) (λ t. rw t)
 abbrev pub AccessByState : (Terminal → TerminalStep) → Terminal → Type 0
 AccessByState step t = step t .terminal .access ≡ accessAfter (t .state) (step t .terminal .state) (t .access) .access
 
-acts-access : (k : ℕ) (c : Cell) (now : ℕ) (t : Terminal) → AccessByState (acts k c now) t
+acts-access : (c : Cell) (now : ℕ) (t : Terminal) → AccessByState (acts c now) t
 unfolding acts moved
-acts-access k (To next action notes) now t = refl
-acts-access k (Stay notes) now t = rw (stays (t .state) (t .access))
-acts-access k Impossible now t = rw (stays (t .state) (t .access))
-acts-access k Absent now t = rw (stays (t .state) (t .access))
+acts-access (To next action notes) now t = refl
+acts-access (Stay notes) now t = rw (stays (t .state) (t .access))
+acts-access Impossible now t = rw (stays (t .state) (t .access))
+acts-access Absent now t = rw (stays (t .state) (t .access))
 
 module _ (now : ℕ) (t : Terminal) where
-  pub happens-access : (k e : ℕ) → AccessByState (happens k e now) t
+  pub happens-access : (e : ℕ) → AccessByState (happens e now) t
   unfolding happens
-  happens-access k e = acts-access k (cellOf table62 e (t .state)) now t
+  happens-access e = acts-access (cellOf table62 e (t .state)) now t
 
   pub switches-on-access : AccessByState (switchesOn now) t
   unfolding switchesOn happens aligned
-  switches-on-access = by-test (eqb (t .state) F1) (λ e. rw e (acts-access 0 _ now _)) (λ e. rw (e, stays (t .state) (t .access)))
+  switches-on-access = by-test (bars ON (t .state)) (λ e. rw (e, stays (t .state) (t .access))) (λ e. rw e (acts-access _ now _))
 
   pub switches-off-access : AccessByState (switchesOff now) t
   unfolding switchesOff happens noTimer
-  switches-off-access = by-test (eqb (t .state) F1) (λ e. rw (e, stays (t .state) (t .access))) (λ e. rw e (acts-access 0 _ now _))
+  switches-off-access = by-test (bars OFF (t .state)) (λ e. rw (e, stays (t .state) (t .access))) (λ e. rw e (acts-access _ now _))
 
   pub requests-access : AccessByState (requests now) t
   unfolding requests
-  requests-access = happens-access 5 AR
+  requests-access = by-test (bars AR (t .state)) (λ e. rw (e, stays (t .state) (t .access))) (λ e. rw e (happens-access AR))
 
   pub timer-access : AccessByState (timer now) t
   unfolding timer happens noTimer
-  timer-access = by-test (due (t .t3) now) (λ e. rw e (acts-access 0 _ now _)) (λ e. rw (e, stays (t .state) (t .access)))
+  timer-access = by-test (due (t .t3) now) (λ e. rw e (acts-access _ now _)) (λ e. rw (e, stays (t .state) (t .access)))
 
   pub hears-access : (line : Downward) → AccessByState (hears line now) t
   unfolding hears heardAs happens aligned
-  hears-access line = by-test (eqb (t .state) F1) (λ e. rw (e, stays (t .state) (t .access))) (λ e. rw e (acts-access 0 _ now _))
+  hears-access line = by-test (eqb (t .state) F1) (λ e. rw (e, stays (t .state) (t .access))) (λ e. rw e (acts-access _ now _))
 
 -- T3, where it is due, leads neither into F7 nor out of it, and so leaves the access alone.
 pub timer-keeps-F7 : (now : ℕ) (t : Terminal) → eqb (timer now t .terminal .state) F7 ≡ eqb (t .state) F7
 unfolding timer noTimer
-timer-keeps-F7 now t = by-test (due (t .t3) now) (λ e. rw (e, happens-state 0 now _ T3-DUE) (t3-keeps-F7 (t .state))) (λ e. rw e)
+timer-keeps-F7 now t = by-test (due (t .t3) now) (λ e. rw (e, happens-state now _ T3-DUE) (t3-keeps-F7 (t .state))) (λ e. rw e)
 
 kept-access : (from next : ℕ) (a : Access) → eqb next F7 ≡ eqb from F7 → accessAfter from next a ≡ record { access = a; dropped = 0 }
 unfolding accessAfter
@@ -143,19 +144,19 @@ none-dropped : (s : ℕ) (a : Access) → droppedNote (accessAfter s s a .droppe
 unfolding droppedNote
 none-dropped s a = rw (stays s a)
 
-acts-notes : (k : ℕ) (c : Cell) (now : ℕ) (t : Terminal) → length (noted (cellNotes c)) ≤ 3 →
-    noted (acts k c now t .notes) ≡ droppedNote (accessAfter (t .state) (stateAfter c (t .state)) (t .access) .dropped) ++ noted (cellNotes c)
+acts-notes : (c : Cell) (now : ℕ) (t : Terminal) → length (noted (cellNotes c)) ≤ 3 →
+    noted (acts c now t .notes) ≡ droppedNote (accessAfter (t .state) (stateAfter c (t .state)) (t .access) .dropped) ++ noted (cellNotes c)
 unfolding acts
-acts-notes k (To next action notes) now t l =
+acts-notes (To next action notes) now t l =
     noted-packed _ (simp length-append (omega (arith, dropped-length (accessAfter (t .state) next (t .access) .dropped))))
-acts-notes k (Stay notes) now t l = rw (none-dropped (t .state) (t .access))
-acts-notes k Impossible now t l = rw (none-dropped (t .state) (t .access))
-acts-notes k Absent now t l = rw (none-dropped (t .state) (t .access))
+acts-notes (Stay notes) now t l = rw (none-dropped (t .state) (t .access))
+acts-notes Impossible now t l = rw (none-dropped (t .state) (t .access))
+acts-notes Absent now t l = rw (none-dropped (t .state) (t .access))
 
 -- Of an event's notes none is cut off: they are the dropped frame's and then the cell's.
-pub happens-notes : (k e now : ℕ) (t : Terminal) → noted (happens k e now t .notes) ≡ droppedAt e t ++ noted (cellNotes (cellOf table62 e (t .state)))
+pub happens-notes : (e now : ℕ) (t : Terminal) → noted (happens e now t .notes) ≡ droppedAt e t ++ noted (cellNotes (cellOf table62 e (t .state)))
 unfolding happens
-happens-notes k e now t = acts-notes k (cellOf table62 e (t .state)) now t (notes-three e (t .state))
+happens-notes e now t = acts-notes (cellOf table62 e (t .state)) now t (notes-three e (t .state))
 
 -- A powered terminal hears a line: the event that it is, with the state, the alignment and the notes.
 abbrev pub following : Downward → Terminal → Followed
@@ -167,21 +168,21 @@ eventHeard line t = downwardEvent line (following line t)
 module _ (line : Downward) (now : ℕ) (t : Terminal) (on : eqb (t .state) F1 ≡ false) where
   pub hears-state : hears line now t .terminal .state ≡ nextState (eventHeard line t) (t .state)
   unfolding hears heardAs aligned
-  hears-state = rw on (happens-state 0 now _ (eventHeard line t))
+  hears-state = rw on (happens-state now _ (eventHeard line t))
 
   pub hears-alignment : hears line now t .terminal .alignment ≡ following line t .alignment
   unfolding hears heardAs aligned
-  hears-alignment = rw on (happens-alignment 0 now _ (eventHeard line t))
+  hears-alignment = rw on (happens-alignment now _ (eventHeard line t))
 
   pub hears-notes : noted (hears line now t .notes) ≡ droppedAt (eventHeard line t) t ++ noted (cellNotes (cellOf table62 (eventHeard line t) (t .state)))
   unfolding hears heardAs aligned
-  hears-notes = rw on (happens-notes 0 (eventHeard line t) now _)
+  hears-notes = rw on (happens-notes (eventHeard line t) now _)
 
 -- T3, where it is due, drops no frame: its notes are the cell's.
 pub timer-notes : (now : ℕ) (t : Terminal) → due (t .t3) now ≡ true → noted (timer now t .notes) ≡ noted (cellNotes (cellOf table62 T3-DUE (t .state)))
 unfolding timer noTimer droppedNote
 timer-notes now t d =
-    rw (d, happens-notes 0 T3-DUE now (record { t3 = 0; access = t .access; state = t .state; alignment = t .alignment }), kept-access (t .state) (nextState T3-DUE (t .state)) (t .access) (t3-keeps-F7 (t .state)))
+    rw (d, happens-notes T3-DUE now (record { t3 = 0; access = t .access; state = t .state; alignment = t .alignment }), kept-access (t .state) (nextState T3-DUE (t .state)) (t .access) (t3-keeps-F7 (t .state)))
 
 -- Every note is an indication of table 6-2, DROPPED1 or DROPPED2.
 abbrev pub isTerminalNote : ℕ → Bool
@@ -194,32 +195,32 @@ dropped-told : (class : ℕ) → everyNote isTerminalNote (droppedNote class) �
 unfolding droppedNote everyNote
 dropped-told class = by-test (eqb class 1) (λ t. rw t) (λ t. rw t (by-test (eqb class 2) (λ u. rw u) (λ u. rw u)))
 
-pub happens-told : (k e now : ℕ) (t : Terminal) → Told (happens k e now t)
-happens-told k e now t =
-    rw (happens-notes k e now t)
+pub happens-told : (e now : ℕ) (t : Terminal) → Told (happens e now t)
+happens-told e now t =
+    rw (happens-notes e now t)
     (every-append isTerminalNote (droppedAt e t) _ (dropped-told _)
     (every-of isIndication isTerminalNote (λ code h. rw h) (noted (cellNotes (cellOf table62 e (t .state)))) (notes-indications e (t .state))))
 
 module _ (now : ℕ) (t : Terminal) where
   pub on-told : Told (switchesOn now t)
   unfolding switchesOn everyNote noted
-  on-told = by-test (eqb (t .state) F1) (λ e. rw e (happens-told 0 ON now _)) (λ e. rw e)
+  on-told = by-test (bars ON (t .state)) (λ e. rw e) (λ e. rw e (happens-told ON now _))
 
   pub off-told : Told (switchesOff now t)
   unfolding switchesOff everyNote noted
-  off-told = by-test (eqb (t .state) F1) (λ e. rw e) (λ e. rw e (happens-told 0 OFF now _))
+  off-told = by-test (bars OFF (t .state)) (λ e. rw e) (λ e. rw e (happens-told OFF now _))
 
   pub requests-told : Told (requests now t)
-  unfolding requests
-  requests-told = happens-told 5 AR now t
+  unfolding requests everyNote noted
+  requests-told = by-test (bars AR (t .state)) (λ e. rw e) (λ e. rw e (happens-told AR now t))
 
   pub timer-told : Told (timer now t)
   unfolding timer everyNote noted
-  timer-told = by-test (due (t .t3) now) (λ e. rw e (happens-told 0 T3-DUE now _)) (λ e. rw e)
+  timer-told = by-test (due (t .t3) now) (λ e. rw e (happens-told T3-DUE now _)) (λ e. rw e)
 
   pub hears-told : (line : Downward) → Told (hears line now t)
   unfolding hears heardAs everyNote noted
-  hears-told line = by-test (eqb (t .state) F1) (λ e. rw e) (λ e. rw e (happens-told 0 _ now _))
+  hears-told line = by-test (eqb (t .state) F1) (λ e. rw e) (λ e. rw e (happens-told _ now _))
 
 -- A hand-over has no notes.
 pub hands-over-notes : (class : Class) (n : ℕ) (t : Terminal) → handsOver class n t .notes ≡ packedNotes []

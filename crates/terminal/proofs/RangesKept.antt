@@ -28,7 +28,8 @@ use Rattle.dchannel.specs.Ranges.{accessInRange}
 use Rattle.dchannel.specs.declared.access.Access.{Access}
 use Rattle.dchannel.specs.declared.access.Class.{Class}
 use Rattle.dchannel.proofs.RangesKept as dchannel
-use Rattle.terminal.specs.Terminal.{fresh, accessAfter, acts, moved, happens, aligned, noTimer, switchesOn, switchesOff, requests, holding, handsOver, timer, heardAs, hears, terminalInRange, ready, checked, switchedOn, switchedOff, requested, timerDue, heard, handedOver}
+use Rattle.terminal.specs.Terminal.{fresh, accessAfter, acts, moved, happens, aligned, noTimer, bars, switchesOn, switchesOff, requests, holding, handsOver, timer, heardAs, hears}
+use Rattle.terminal.specs.Calls.{terminalInRange, ready, checked, switchedOn, switchedOff, requested, timerDue, heard, handedOver}
 use Rattle.terminal.specs.declared.Terminal.{Terminal}
 use Rattle.terminal.specs.declared.TerminalStep.{TerminalStep}
 
@@ -98,9 +99,9 @@ access-put a t h f =
 
 -- The steps, in a period of the bus.
 module _ (now : ℕ) (l : now ≤ mostPeriods) where
-  acts-fits : (k : ℕ) (c : Cell) (t : Terminal) → nextTo F8 c ≡ true → TerminalFits t → StepFits (acts k c now t)
+  acts-fits : (c : Cell) (t : Terminal) → nextTo F8 c ≡ true → TerminalFits t → StepFits (acts c now t)
   unfolding acts moved
-  acts-fits k (To next action notes) t n f =
+  acts-fits (To next action notes) t n f =
       record {
         from-F1 = next-fits F8 next n .0;
         to-F8 = next-fits F8 next n .1;
@@ -108,37 +109,37 @@ module _ (now : ℕ) (l : now ≤ mostPeriods) where
         alignment-fits = f .alignment-fits;
         access-fits = access-after (t .state) next (t .access) (f .access-fits);
       }
-  acts-fits k (Stay notes) t n f = f
-  acts-fits k Impossible t n f = f
-  acts-fits k Absent t n f = f
+  acts-fits (Stay notes) t n f = f
+  acts-fits Impossible t n f = f
+  acts-fits Absent t n f = f
 
-  happens-fits : (k event : ℕ) (t : Terminal) → TerminalFits t → StepFits (happens k event now t)
+  happens-fits : (event : ℕ) (t : Terminal) → TerminalFits t → StepFits (happens event now t)
   unfolding happens
-  happens-fits k event t f = acts-fits k (cellOf table62 event (t .state)) t (next-state event (t .state)) f
+  happens-fits event t f = acts-fits (cellOf table62 event (t .state)) t (next-state event (t .state)) f
 
   on-fits : (t : Terminal) → TerminalFits t → StepFits (switchesOn now t)
   unfolding switchesOn
   on-fits t f =
-      by-test (eqb (t .state) F1) (λ e. rw e (happens-fits 0 ON (aligned alignment.fresh t) (aligned-fits alignment.fresh t refl f))) (λ e. rw e f)
+      by-test (bars ON (t .state)) (λ e. rw e f) (λ e. rw e (happens-fits ON (aligned alignment.fresh t) (aligned-fits alignment.fresh t refl f)))
 
   off-fits : (t : Terminal) → TerminalFits t → StepFits (switchesOff now t)
   unfolding switchesOff
-  off-fits t f = by-test (eqb (t .state) F1) (λ e. rw e f) (λ e. rw e (happens-fits 0 OFF (noTimer t) (no-timer-fits t f)))
+  off-fits t f = by-test (bars OFF (t .state)) (λ e. rw e f) (λ e. rw e (happens-fits OFF (noTimer t) (no-timer-fits t f)))
 
   requests-fits : (t : Terminal) → TerminalFits t → StepFits (requests now t)
   unfolding requests
-  requests-fits t f = happens-fits 5 AR t f
+  requests-fits t f = by-test (bars AR (t .state)) (λ e. rw e f) (λ e. rw e (happens-fits AR t f))
 
   timer-fits : (t : Terminal) → TerminalFits t → StepFits (timer now t)
   unfolding timer
-  timer-fits t f = by-test (due (t .t3) now) (λ e. rw e (happens-fits 0 T3-DUE (noTimer t) (no-timer-fits t f))) (λ e. rw e f)
+  timer-fits t f = by-test (due (t .t3) now) (λ e. rw e (happens-fits T3-DUE (noTimer t) (no-timer-fits t f))) (λ e. rw e f)
 
   hears-fits : (line : Downward) (t : Terminal) → TerminalFits t → StepFits (hears line now t)
   unfolding hears heardAs
   hears-fits line t f =
       by-test (eqb (t .state) F1)
       (λ e. rw e f)
-      (λ e. rw e (happens-fits 0 _ _ (aligned-fits _ t (followed-in-range lost (omega arith) (t .alignment) (line .pulse) (line .framed)) f)))
+      (λ e. rw e (happens-fits _ _ (aligned-fits _ t (followed-in-range lost (omega arith) (t .alignment) (line .pulse) (line .framed)) f)))
 
 -- A record that is ready has a period in range.
 pub ready-now : (now : Periods) (t : Terminal) → ready now t ≡ true → now .0 ≤ mostPeriods

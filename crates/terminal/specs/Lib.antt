@@ -1,2 +1,3 @@
 -- A terminal.
 pub mod Terminal
+pub mod Calls

@@ -1,13 +1,12 @@
--- A terminal (document 01, "Activation", "Order inside a period" and "D access (6.1)"): an event finds its cell in table 6-2, and the
--- cell says what becomes of the record.
-use mathlib.Core.Bool.{Bool, false, cond}
+-- Rules: a terminal (document 01, "Activation", "Order inside a period" and "D access (6.1)"). An event
+-- finds its cell in table 6-2, and the cell says what becomes of the record.
+use mathlib.Core.Bool.{Bool, false, cond, not, _||_}
 use mathlib.Core.List.{List, [], _∷_, _++_}
-use Prim.Native.Nat.{ℕ, _+_}
-use lib.Dec.{ltb, eqb}
-use Rattle.dchannel.specs.Access.{normal2, entered}
+use Prim.Native.Nat.{ℕ}
+use lib.Dec.{eqb}
+use Rattle.dchannel.specs.Access.{entered}
 use Rattle.dchannel.specs.Access as dchannel
 use Rattle.dchannel.specs.Handing.{handed, left}
-use Rattle.dchannel.specs.Ranges.{accessInRange}
 use Rattle.dchannel.specs.declared.access.Access.{Access}
 use Rattle.dchannel.specs.declared.access.Class.{Class}
 use Rattle.dchannel.specs.declared.access.Handed.{Handed}
@@ -16,11 +15,9 @@ use Rattle.cells.specs.Notes.{DROPPED1, DROPPED2, packedNotes, noted}
 use Rattle.cells.specs.Cells.{cellOf}
 use Rattle.cells.specs.declared.cell.Cell.{Cell}
 use Rattle.cells.specs.declared.cell.Cell.the-variants.{To, Stay, Impossible, Absent}
-use Rattle.table_6_2.specs.Table62.{table62, F1, F7, F8, ON, OFF, AR, T3-DUE}
-use Rattle.timing.specs.Counts.{mostPeriods, periodsInRange}
+use Rattle.table_6_2.specs.Table62.{table62, F1, F2, F4, F5, F7, ON, OFF, AR, T3-DUE}
 use Rattle.timing.specs.Timers.{T3, due, timerAfter}
-use Rattle.timing.specs.declared.counts.Periods.{Periods}
-use Rattle.alignment.specs.Alignment.{gained, lost, followed, alignmentInRange}
+use Rattle.alignment.specs.Alignment.{gained, lost, followed}
 use Rattle.alignment.specs.Alignment as alignment
 use Rattle.hearing.specs.Heard.{downwardEvent}
 use Rattle.alignment.specs.declared.Alignment.{Alignment}
@@ -60,22 +57,23 @@ moved next action now t =
       alignment = t .alignment;
     }
 
--- What a cell does in period now: "D notes, dropped1 and dropped2 among them, come before the table's". "A cell that is impossible there
--- changes nothing, save for requests (refusal 5)": the reply at a cell that is impossible or empty is k.
-unfoldable pub acts : ℕ → Cell → ℕ → Terminal → TerminalStep
-acts k (To next action notes) now t =
+-- What a cell does in period now: "D notes, dropped1 and dropped2 among them, come before the table's".
+-- "A cell that is impossible there changes nothing, save for requests (refusal 5)": `bars` says which
+-- requests those are. An empty cell changes nothing either.
+unfoldable pub acts : Cell → ℕ → Terminal → TerminalStep
+acts (To next action notes) now t =
     record {
       terminal = moved next action now t;
       notes = packedNotes (droppedNote (accessAfter (t .state) next (t .access) .dropped) ++ noted notes);
       reply = 0;
     }
-acts k (Stay notes) now t = record { terminal = t; notes = notes; reply = 0 }
-acts k Impossible now t = unchanged k t
-acts k Absent now t = unchanged k t
+acts (Stay notes) now t = record { terminal = t; notes = notes; reply = 0 }
+acts Impossible now t = unchanged 0 t
+acts Absent now t = unchanged 0 t
 
 -- An event of table 6-2, by its number there. A number that is no event does nothing.
-unfoldable pub happens : ℕ → ℕ → ℕ → Terminal → TerminalStep
-happens k event now t = acts k (cellOf table62 event (t .state)) now t
+unfoldable pub happens : ℕ → ℕ → Terminal → TerminalStep
+happens event now t = acts (cellOf table62 event (t .state)) now t
 
 -- The record with another alignment; and with T3 not running.
 unfoldable pub aligned : Alignment → Terminal → Terminal
@@ -84,17 +82,25 @@ aligned a t = record { t3 = t .t3; access = t .access; state = t .state; alignme
 unfoldable pub noTimer : Terminal → Terminal
 noTimer t = record { t3 = 0; access = t .access; state = t .state; alignment = t .alignment }
 
--- `on`, barred outside F1: it "finds it unaligned with no run".
+-- Reason 5 for a terminal, by an event's number in table 6-2 and the state: "`on` outside F1, `off` in
+-- F1, `ar` in F1, F2, F4, F5, F7".
+unfoldable pub bars : ℕ → ℕ → Bool
+bars event state =
+    cond (eqb event ON) (not (eqb state F1))
+    (cond (eqb event OFF) (eqb state F1)
+    (cond (eqb event AR) (eqb state F1 || eqb state F2 || eqb state F4 || eqb state F5 || eqb state F7) false))
+
+-- `on`: it "finds it unaligned with no run".
 unfoldable pub switchesOn : ℕ → Terminal → TerminalStep
-switchesOn now t = cond (eqb (t .state) F1) (happens 0 ON now (aligned alignment.fresh t)) (unchanged 5 t)
+switchesOn now t = cond (bars ON (t .state)) (unchanged 5 t) (happens ON now (aligned alignment.fresh t))
 
--- `off`, barred in F1: "Power off stops T3."
+-- `off`: "Power off stops T3."
 unfoldable pub switchesOff : ℕ → Terminal → TerminalStep
-switchesOff now t = cond (eqb (t .state) F1) (unchanged 5 t) (happens 0 OFF now (noTimer t))
+switchesOff now t = cond (bars OFF (t .state)) (unchanged 5 t) (happens OFF now (noTimer t))
 
--- `ar`, barred where its cell is impossible or empty.
+-- `ar`, the request for activation.
 unfoldable pub requests : ℕ → Terminal → TerminalStep
-requests now t = happens 5 AR now t
+requests now t = cond (bars AR (t .state)) (unchanged 5 t) (happens AR now t)
 
 -- What the access answers to a hand-over, taken into the record.
 unfoldable pub holding : Handed → Terminal → TerminalStep
@@ -111,48 +117,14 @@ handsOver class n t = cond (eqb (t .state) F7) (holding (handed class n (t .acce
 
 -- The start of a period: T3, spent whatever the cell (docs/DECISIONS.md, reading 12), where it is due.
 unfoldable pub timer : ℕ → Terminal → TerminalStep
-timer now t = cond (due (t .t3) now) (happens 0 T3-DUE now (noTimer t)) (unchanged 0 t)
+timer now t = cond (due (t .t3) now) (happens T3-DUE now (noTimer t)) (unchanged 0 t)
 
 -- A period is heard: alignment follows it, and then comes what the line is. "One in F1 hears nothing."
 unfoldable pub heardAs : Downward → Followed → ℕ → Terminal → TerminalStep
-heardAs line f now t = happens 0 (downwardEvent line f) now (aligned (f .alignment) t)
+heardAs line f now t = happens (downwardEvent line f) now (aligned (f .alignment) t)
 
 unfoldable pub hears : Downward → ℕ → Terminal → TerminalStep
 hears line now t =
     cond (eqb (t .state) F1)
     (unchanged 0 t)
     (heardAs line (followed gained lost (line .pulse) (line .framed) (t .alignment)) now t)
-
--- Refusal 1: each field in its range. The latest T3 is one started when the last period has been run.
-unfoldable pub terminalInRange : Terminal → Bool
-terminalInRange t =
-    cond (ltb (t .state) F1) false
-    (cond (ltb F8 (t .state)) false
-    (cond (ltb (mostPeriods + T3) (t .t3)) false
-    (cond (alignmentInRange (t .alignment)) (accessInRange normal2 (t .access)) false)))
-
-unfoldable pub ready : Periods → Terminal → Bool
-ready now t = cond (terminalInRange t) (periodsInRange now) false
-
--- The calls: refusal 1 for a field outside its range, or a period past the last; else what is said above.
-unfoldable pub checked : (ℕ → Terminal → TerminalStep) → Periods → Terminal → TerminalStep
-checked step now t = cond (ready now t) (step (now .0) t) (unchanged 1 t)
-
-abbrev pub switchedOn : Periods → Terminal → TerminalStep
-switchedOn now t = checked switchesOn now t
-
-abbrev pub switchedOff : Periods → Terminal → TerminalStep
-switchedOff now t = checked switchesOff now t
-
-abbrev pub requested : Periods → Terminal → TerminalStep
-requested now t = checked requests now t
-
-abbrev pub timerDue : Periods → Terminal → TerminalStep
-timerDue now t = checked timer now t
-
-abbrev pub heard : Downward → Periods → Terminal → TerminalStep
-heard line now t = checked (hears line) now t
-
--- Handing a frame over takes no period.
-unfoldable pub handedOver : Class → ℕ → Terminal → TerminalStep
-handedOver class n t = cond (terminalInRange t) (handsOver class n t) (unchanged 1 t)

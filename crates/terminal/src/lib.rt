@@ -3,7 +3,10 @@ ghost use mathlib.Core.Path.{_≡_};
 ghost use mathlib.Core.Bool.{cond};
 ghost use mathlib.Core.List.{_++_};
 ghost use Rattle.cells.specs.declared.cell.Cell.the-variants.{To};
+ghost use Rattle.cells.specs.Cells.{cellOf, isVoid};
 ghost use Rattle.cells.specs.Notes.{packedNotes, noted};
+ghost use Rattle.table_6_2.specs.Table62.{table62};
+ghost use Rattle.terminal.specs.Calls as calls;
 ghost use Rattle.terminal.specs.Terminal as spec;
 use alignment::Alignment;
 use cells::cell::Cell;
@@ -63,7 +66,7 @@ impl Terminal {
 
     // Whether every field is in its range.
     pub fn in_range(self) -> bool
-        ensures { λ r. ⌜ r ≡ spec.terminalInRange self ⌝ }
+        ensures { λ r. ⌜ r ≡ calls.terminalInRange self ⌝ }
     {
         if self.state < F1 {
             return false;
@@ -79,28 +82,28 @@ impl Terminal {
 
     // Power on, barred with 5 outside F1; it finds the terminal unaligned.
     pub fn switch_on(self, now: Periods) -> TerminalStep
-        ensures { λ r. ⌜ r ≡ spec.switchedOn now self ⌝ }
+        ensures { λ r. ⌜ r ≡ calls.switchedOn now self ⌝ }
     {
         self.when(self.state == F1, 5, self.t3, Alignment::fresh(), 0, ON, now)
     }
 
     // Power off, barred with 5 in F1; T3 is stopped.
     pub fn switch_off(self, now: Periods) -> TerminalStep
-        ensures { λ r. ⌜ r ≡ spec.switchedOff now self ⌝ }
+        ensures { λ r. ⌜ r ≡ calls.switchedOff now self ⌝ }
     {
         self.when(self.state != F1, 5, 0, self.alignment, 0, OFF, now)
     }
 
     // `ar`, the request for activation, barred with 5 where its cell is impossible or empty.
     pub fn request(self, now: Periods) -> TerminalStep
-        ensures { λ r. ⌜ r ≡ spec.requested now self ⌝ }
+        ensures { λ r. ⌜ r ≡ calls.requested now self ⌝ }
     {
         self.when(true, 0, self.t3, self.alignment, 5, AR, now)
     }
 
     // A frame of a class is handed over, in F7 (else 6); its image has so many bits.
     pub fn hand_over(self, class: Class, length: u16) -> TerminalStep
-        ensures { λ r. ⌜ r ≡ spec.handedOver class length self ⌝ }
+        ensures { λ r. ⌜ r ≡ calls.handedOver class length self ⌝ }
     {
         if self.in_range() {
             if self.state == F7 {
@@ -118,14 +121,14 @@ impl Terminal {
 
     // The start of a period: T3, where it is due, is spent.
     pub fn timer_due(self, now: Periods) -> TerminalStep
-        ensures { λ r. ⌜ r ≡ spec.timerDue now self ⌝ }
+        ensures { λ r. ⌜ r ≡ calls.timerDue now self ⌝ }
     {
         self.when(due(self.t3, now), 0, 0, self.alignment, 0, T3_DUE, now)
     }
 
     // A period's downward line is heard; one in F1 hears nothing.
     pub fn hear(self, line: Downward, now: Periods) -> TerminalStep
-        ensures { λ r. ⌜ r ≡ spec.heard line now self ⌝ }
+        ensures { λ r. ⌜ r ≡ calls.heard line now self ⌝ }
     {
         let f = self.alignment.follow(line.pulse, line.framed);
         self.when(
@@ -150,7 +153,7 @@ impl Terminal {
         event: u8,
         now: Periods,
     ) -> TerminalStep
-        ensures { λ r. ⌜ r ≡ spec.checked (λ p t. cond holds (spec.happens barred event p (record { t3 = t3; access = t .access; state = t .state; alignment = alignment })) (spec.unchanged reply t)) now self ⌝ }
+        ensures { λ r. ⌜ r ≡ calls.checked (λ p t. cond holds (cond (isVoid (cellOf table62 event (t .state))) (spec.unchanged barred (record { t3 = t3; access = t .access; state = t .state; alignment = alignment })) (spec.happens event p (record { t3 = t3; access = t .access; state = t .state; alignment = alignment }))) (spec.unchanged reply t)) now self ⌝ }
     {
         if self.in_range() & now.in_range() {
             if holds {
@@ -198,7 +201,7 @@ impl Terminal {
     // A cell's next state, timer action and notes, after the note of a dropped frame.
     fn moves(self, next: u8, action: u8, notes: Notes, now: Periods) -> TerminalStep
         requires { ⌜ packedNotes (noted notes) ≡ notes ⌝ }
-        ensures { λ r. ⌜ r ≡ spec.acts 0 (To next action notes) (now .0) self ⌝ }
+        ensures { λ r. ⌜ r ≡ spec.acts (To next action notes) (now .0) self ⌝ }
     {
         let way = access_after(self.state, next, self.access);
         let t3 = timer_after(T3, action, now, self.t3);
@@ -210,7 +213,7 @@ impl Terminal {
 
     // An event of table 6-2; the reply at a cell that is impossible or empty is barred.
     fn happens(self, barred: u8, event: u8, now: Periods) -> TerminalStep
-        ensures { λ r. ⌜ r ≡ spec.happens barred event (now .0) self ⌝ }
+        ensures { λ r. ⌜ r ≡ cond (isVoid (cellOf table62 event (self .state))) (spec.unchanged barred self) (spec.happens event (now .0) self) ⌝ }
     {
         let found = cell(event, self.state);
         match found {

@@ -3,7 +3,7 @@ use Rattle.walks.proofs.Walk.{_≡_, refl, _∙_, ap, ℕ, _+_, Bool, _&&_, Lis
 use Rattle.bus_calls.proofs.Structs.{terminals}
 use Rattle.terminal.specs.declared.Terminal.{Terminal}
 use Rattle.terminal.proofs.Terminal as T
-use Rattle.terminal.specs.Terminal.{terminalInRange}
+use Rattle.terminal.specs.Calls.{terminalInRange}
 use Rattle.call_rules.specs.Ready.{eightInRange}
 use Rattle.call_rules.proofs.InOrder.{alsoInRange, from-first}
 use Rattle.terminal.proofs.Terminal.in_range as step

@@ -1,3 +1,4 @@
+use Rattle.network.proofs.Barred.{happened}
 use borrow.Author.Needs.{needs}
 use Rattle.network.proofs.Network.expires.Statement.{statement}
 use Rattle.network.proofs.Network.expires.Tie as tie
@@ -9,7 +10,7 @@ unchanged-requires : tie.Need-unchanged-requires
 unchanged-requires c κs = search needs
 
 returns : tie.Need-returns
-returns c = simp (c .happens .ensures, c .before .before .if1 .taken)
+returns c = simp (c .before .before .if1 .taken) (happened _ _ _ (c .happens .ensures))
 
 returns-2 : tie.Need-returns-2
 returns-2 c = simp (c .unchanged .ensures, c .before .if1 .left)

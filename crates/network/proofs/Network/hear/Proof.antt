@@ -1,5 +1,7 @@
-use Rattle.network.specs.Network.{aligned, checked}
+use Rattle.network.specs.Network.{aligned}
+use Rattle.network.specs.Calls.{checked}
 use Rattle.network.proofs.TwoEvents.{heard-with-loss, heard-without}
+use Rattle.network.proofs.Barred.{happened}
 use borrow.Author.Needs.{needs}
 use Rattle.network.proofs.Network.hear.Statement.{statement}
 use Rattle.network.proofs.Network.hear.Tie as tie
@@ -30,11 +32,11 @@ unchanged-requires c κs = search needs
 
 returns : tie.Need-returns
 unfolding checked aligned
-returns c = simp (c .stays .ensures, c .before .before .before .before .before .before .before .before .if1 .taken, ← c .before .before .before .before .before .before .before .before .before .ready .ensures) (heard-with-loss _ _ _ (c .before .before .before .before .before .before .before .follow .ensures) (c .before .before .before .before .before .loss-up .ensures) (c .before .before .before .event .ensures) (c .before .before .before .before .happens .ensures) (c .before .before .happens2 .ensures) (c .before .if2 .taken))
+returns c = simp (c .stays .ensures, c .before .before .before .before .before .before .before .before .if1 .taken, ← c .before .before .before .before .before .before .before .before .before .ready .ensures) (heard-with-loss _ _ _ (c .before .before .before .before .before .before .before .follow .ensures) (c .before .before .before .before .before .loss-up .ensures) (c .before .before .before .event .ensures) (happened _ _ _ (c .before .before .before .before .happens .ensures)) (happened _ _ _ (c .before .before .happens2 .ensures)) (c .before .if2 .taken))
 
 returns-2 : tie.Need-returns-2
 unfolding checked aligned
-returns-2 c = simp (c .before .before .before .before .before .before .before .if1 .taken, ← c .before .before .before .before .before .before .before .before .ready .ensures) (heard-without _ _ _ (c .before .before .before .before .before .before .follow .ensures) (c .before .before .before .before .loss-up .ensures) (c .before .before .event .ensures) (c .before .before .before .happens .ensures) (c .before .happens2 .ensures) (c .if2 .left))
+returns-2 c = simp (c .before .before .before .before .before .before .before .if1 .taken, ← c .before .before .before .before .before .before .before .before .ready .ensures) (heard-without _ _ _ (c .before .before .before .before .before .before .follow .ensures) (c .before .before .before .before .loss-up .ensures) (c .before .before .event .ensures) (happened _ _ _ (c .before .before .before .happens .ensures)) (happened _ _ _ (c .before .happens2 .ensures)) (c .if2 .left))
 
 returns-3 : tie.Need-returns-3
 unfolding checked aligned

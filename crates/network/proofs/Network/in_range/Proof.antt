@@ -1,5 +1,5 @@
 use borrow.Author.Tests.{le-ltb, lt-ltb}
-use Rattle.network.specs.Network.{networkInRange}
+use Rattle.network.specs.Calls.{networkInRange}
 use borrow.Author.Needs.{needs}
 use Rattle.network.proofs.Network.in_range.Statement.{statement}
 use Rattle.network.proofs.Network.in_range.Tie as tie

@@ -1,4 +1,4 @@
-use Rattle.network.specs.Network.{ready}
+use Rattle.network.specs.Calls.{ready}
 use borrow.Author.Needs.{needs}
 use Rattle.network.proofs.Network.ready.Statement.{statement}
 use Rattle.network.proofs.Network.ready.Tie as tie

@@ -1,5 +1,7 @@
-use Rattle.network.specs.Network.{requests, checked}
+use Rattle.network.specs.Network.{requests}
+use Rattle.network.specs.Calls.{checked}
 use Rattle.network.proofs.TwoEvents.{is-request}
+use Rattle.network.proofs.Barred.{asked}
 use borrow.Author.Needs.{needs}
 use Rattle.network.proofs.Network.request.Statement.{statement}
 use Rattle.network.proofs.Network.request.Tie as tie
@@ -17,8 +19,7 @@ unchanged-requires-2 : tie.Need-unchanged-requires-2
 unchanged-requires-2 c κs = search needs
 
 returns : tie.Need-returns
-unfolding checked requests
-returns c = simp (c .happens .ensures, is-request (c .before .before .before .before .args .event), c .before .if2 .taken, c .before .before .if1 .taken, ← c .before .before .before .ready .ensures)
+returns c = asked _ _ _ (c .before .before .before .ready .ensures) (c .before .before .if1 .taken) (c .before .if2 .taken) (c .happens .ensures)
 
 returns-2 : tie.Need-returns-2
 unfolding checked requests

@@ -1,4 +1,4 @@
-use Rattle.network.specs.Network.{checked}
+use Rattle.network.specs.Calls.{checked}
 use Rattle.network.proofs.TwoEvents.{t1-is, t2-is, timers-are}
 use borrow.Author.Needs.{needs}
 use Rattle.network.proofs.Network.timer_due.Statement.{statement}

@@ -1,5 +1,5 @@
-use Rattle.terminal.specs.Terminal.{aligned, heardAs, hears, checked}
-use Rattle.cases.proofs.Operators.{cond-not}
+use Rattle.terminal.specs.Calls.{checked}
+use Rattle.terminal.proofs.Barred.{heard-is}
 use borrow.Author.Needs.{needs}
 use Rattle.terminal.proofs.Terminal.hear.Statement.{statement}
 use Rattle.terminal.proofs.Terminal.hear.Tie as tie
@@ -14,8 +14,10 @@ when-requires : tie.Need-when-requires
 when-requires c κs = search needs
 
 returns : tie.Need-returns
-unfolding checked hears heardAs aligned
-returns c = simp (cond-not, c .when .ensures, c .before .event .ensures, c .before .before .before .follow .ensures)
+unfolding checked
+returns c =
+    let given = c .before .before .before .before .args in
+    heard-is (given .line) (given .now) (given .self) (c .before .before .before .follow .ensures) (c .before .event .ensures) (c .when .ensures)
 
 pub hear-spec : {M : Type 1} → statement M
 hear-spec = tie.close (tie.spec follow-requires event-requires when-requires returns)

@@ -1,5 +1,5 @@
 use borrow.Author.Tests.{le-ltb, lt-ltb}
-use Rattle.terminal.specs.Terminal.{terminalInRange}
+use Rattle.terminal.specs.Calls.{terminalInRange}
 use borrow.Author.Needs.{needs}
 use Rattle.terminal.proofs.Terminal.in_range.Statement.{statement}
 use Rattle.terminal.proofs.Terminal.in_range.Tie as tie

@@ -1,5 +1,7 @@
-use Rattle.terminal.specs.Terminal.{noTimer, switchesOff, checked}
+use Rattle.terminal.specs.Terminal.{noTimer, bars, switchesOff}
+use Rattle.terminal.specs.Calls.{checked}
 use Rattle.cases.proofs.Operators.{cond-not}
+use Rattle.terminal.proofs.Barred.{happens-void}
 use borrow.Author.Needs.{needs}
 use Rattle.terminal.proofs.Terminal.switch_off.Statement.{statement}
 use Rattle.terminal.proofs.Terminal.switch_off.Tie as tie
@@ -8,8 +10,8 @@ when-requires : tie.Need-when-requires
 when-requires c κs = search needs
 
 returns : tie.Need-returns
-unfolding checked switchesOff noTimer
-returns c = simp (cond-not, c .when .ensures)
+unfolding checked switchesOff noTimer bars
+returns c = simp (cond-not, happens-void, c .when .ensures)
 
 pub switch-off-spec : {M : Type 1} → statement M
 switch-off-spec = tie.close (tie.spec when-requires returns)

@@ -1,4 +1,7 @@
-use Rattle.terminal.specs.Terminal.{aligned, switchesOn, checked}
+use Rattle.terminal.specs.Terminal.{aligned, bars, switchesOn}
+use Rattle.terminal.specs.Calls.{checked}
+use Rattle.cases.proofs.Operators.{cond-not}
+use Rattle.terminal.proofs.Barred.{happens-void}
 use borrow.Author.Needs.{needs}
 use Rattle.terminal.proofs.Terminal.switch_on.Statement.{statement}
 use Rattle.terminal.proofs.Terminal.switch_on.Tie as tie
@@ -10,8 +13,8 @@ when-requires : tie.Need-when-requires
 when-requires c κs = search needs
 
 returns : tie.Need-returns
-unfolding checked switchesOn aligned
-returns c = simp (c .when .ensures, c .before .fresh .ensures)
+unfolding checked switchesOn aligned bars
+returns c = simp (cond-not, happens-void, c .when .ensures, c .before .fresh .ensures)
 
 pub switch-on-spec : {M : Type 1} → statement M
 switch-on-spec = tie.close (tie.spec fresh-requires when-requires returns)

@@ -1,4 +1,4 @@
-use Rattle.terminal.specs.Terminal.{checked}
+use Rattle.terminal.specs.Calls.{checked}
 use Rattle.terminal.proofs.RangesKept.{ready-both}
 use borrow.Author.Needs.{needs}
 use Rattle.terminal.proofs.Terminal.when.Statement.{statement}

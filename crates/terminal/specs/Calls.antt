@@ -1,0 +1,51 @@
+-- Calls: a terminal's, with refusal 1 before the rules (document 01, "Reasons a call is turned down").
+-- The rules are in specs/Terminal.antt.
+use mathlib.Core.Bool.{Bool, false, cond}
+use Prim.Native.Nat.{ℕ, _+_}
+use lib.Dec.{ltb}
+use Rattle.dchannel.specs.Access.{normal2}
+use Rattle.dchannel.specs.Ranges.{accessInRange}
+use Rattle.dchannel.specs.declared.access.Class.{Class}
+use Rattle.table_6_2.specs.Table62.{F1, F8}
+use Rattle.timing.specs.Counts.{mostPeriods, periodsInRange}
+use Rattle.timing.specs.Timers.{T3}
+use Rattle.timing.specs.declared.counts.Periods.{Periods}
+use Rattle.alignment.specs.Alignment.{alignmentInRange}
+use Rattle.hearing.specs.declared.heard.Downward.{Downward}
+use Rattle.terminal.specs.Terminal.{unchanged, switchesOn, switchesOff, requests, handsOver, timer, hears}
+use Rattle.terminal.specs.declared.Terminal.{Terminal}
+use Rattle.terminal.specs.declared.TerminalStep.{TerminalStep}
+
+-- Refusal 1: each field in its range. The latest T3 is one started when the last period has been run.
+unfoldable pub terminalInRange : Terminal → Bool
+terminalInRange t =
+    cond (ltb (t .state) F1) false
+    (cond (ltb F8 (t .state)) false
+    (cond (ltb (mostPeriods + T3) (t .t3)) false
+    (cond (alignmentInRange (t .alignment)) (accessInRange normal2 (t .access)) false)))
+
+unfoldable pub ready : Periods → Terminal → Bool
+ready now t = cond (terminalInRange t) (periodsInRange now) false
+
+-- The calls: refusal 1 for a field outside its range, or a period past the last; else what the rules say.
+unfoldable pub checked : (ℕ → Terminal → TerminalStep) → Periods → Terminal → TerminalStep
+checked step now t = cond (ready now t) (step (now .0) t) (unchanged 1 t)
+
+abbrev pub switchedOn : Periods → Terminal → TerminalStep
+switchedOn now t = checked switchesOn now t
+
+abbrev pub switchedOff : Periods → Terminal → TerminalStep
+switchedOff now t = checked switchesOff now t
+
+abbrev pub requested : Periods → Terminal → TerminalStep
+requested now t = checked requests now t
+
+abbrev pub timerDue : Periods → Terminal → TerminalStep
+timerDue now t = checked timer now t
+
+abbrev pub heard : Downward → Periods → Terminal → TerminalStep
+heard line now t = checked (hears line) now t
+
+-- Handing a frame over takes no period.
+unfoldable pub handedOver : Class → ℕ → Terminal → TerminalStep
+handedOver class n t = cond (terminalInRange t) (handsOver class n t) (unchanged 1 t)
