@@ -23,7 +23,8 @@ use Rattle.terminal.proofs.Laws as terminal-laws
 use Rattle.terminal.proofs.Laws.{isTerminalNote}
 use Rattle.bus.specs.Bus.{Seat, Bus, Note, freshSeat, notesOf}
 use Rattle.bus.specs.Exchange.{Sender, Moment, seatsOf, doneOf, hearsE, eComes, sendersAfter, onward, seated, begins, opportunitiesOf, exchanged, wholeDown, wholeUp}
-use Rattle.bus.specs.Period.{networkHears, terminalHears, saidNotes, doneCodes, hearingNotes, timerNotes, heardBy, notesHeard, notesTimed, periodNotes}
+use Rattle.bus.specs.Order.{unitByUnit}
+use Rattle.bus.specs.Period.{networkHears, terminalHears, saidNotes, doneCodes, hearingCodes, timerCodes, heardBy, notesHeard, notesTimed, periodNotes, TwoParts}
 use Rattle.bus.specs.Event.{seatOf, classOf, networkDoes, terminalDoes, eventNotes}
 use Rattle.cells.specs.Events.{ON, OFF, AR, HIT}
 use Rattle.bus.specs.Calls.{Call, reply, tells, after, notes}
@@ -136,9 +137,15 @@ done-said v now (nothing ∷ ss) = done-said v now ss
 done-said v now (torn ∷ ss) = by-test (eqb 0 v) (λ t. rw t (done-said v now ss)) (λ t. rw t (done-said v now ss))
 done-said v now (heard body ∷ ss) = by-test (eqb 0 v) (λ t. rw t (done-said v now ss)) (λ t. rw t (done-said v now ss))
 
--- ---- the walks over the terminals
+-- ---- the terminals, from a unit on
+abbrev hearingNotes : List ℕ → ℕ → ℕ → List Sender → List Note
+hearingNotes down now u ss = unitByUnit now u (map (hearingCodes down now) ss)
+
+abbrev timerNotes : ℕ → ℕ → List Seat → List Note
+timerNotes now u ss = unitByUnit now u (map (timerCodes now) ss)
+
 hearing-heard : (down : List ℕ) (now u : ℕ) (ss : List Sender) → heardIn (hearingNotes down now u ss) ≡ []
-unfolding heardIn hearingNotes
+unfolding heardIn unitByUnit
 hearing-heard down now u [] = refl
 hearing-heard down now u (s ∷ ss) =
     let table = noted (terminalHears down now (s .seat .terminal) .notes) in
@@ -152,7 +159,7 @@ hearing-heard down now u (s ∷ ss) =
     (hearing-heard down now (suc u) ss)
 
 timer-heard : (now u : ℕ) (ss : List Seat) → heardIn (timerNotes now u ss) ≡ []
-unfolding heardIn timerNotes
+unfolding heardIn unitByUnit
 timer-heard now u [] = refl
 timer-heard now u (s ∷ ss) =
     let table = noted (terminal.timer now (s .terminal) .notes) in
@@ -160,7 +167,7 @@ timer-heard now u (s ∷ ss) =
     (timer-heard now (suc u) ss)
 
 timer-done : (v now u : ℕ) (ss : List Seat) → doneIn v (timerNotes now u ss) ≡ []
-unfolding doneIn timerNotes
+unfolding doneIn unitByUnit
 timer-done v now u [] = refl
 timer-done v now u (s ∷ ss) =
     let table = noted (terminal.timer now (s .terminal) .notes) in
@@ -169,7 +176,7 @@ timer-done v now u (s ∷ ss) =
 
 -- units above have no note of this one
 hearing-below : (v : ℕ) (down : List ℕ) (now u : ℕ) (ss : List Sender) → v < u → doneIn v (hearingNotes down now u ss) ≡ []
-unfolding doneIn hearingNotes
+unfolding doneIn unitByUnit
 hearing-below v down now u [] h = refl
 hearing-below v down now u (s ∷ ss) h =
     let codes = doneCodes (s .done) ++ noted (terminalHears down now (s .seat .terminal) .notes) in
@@ -180,7 +187,7 @@ abbrev donesOf : List Sender → List (List ℕ)
 donesOf ss = map (λ (s : Sender). s .done) ss
 
 hearing-done : (v : ℕ) (down : List ℕ) (now u : ℕ) (ss : List Sender) (i : ℕ) → v ≡ u + i → doneIn v (hearingNotes down now u ss) ≡ doneCodes (getD (donesOf ss) i [])
-unfolding doneIn hearingNotes doneCodes
+unfolding doneIn unitByUnit doneCodes
 hearing-done v down now u [] i e = refl
 hearing-done v down now u (s ∷ ss) zero e =
     let table = noted (terminalHears down now (s .seat .terminal) .notes) in
@@ -292,10 +299,14 @@ module _ (m : Moment) (b : Bus) where
       )
       (hearing-done (suc i) (wholeDown m) (b .periods) 1 (m .senders) i (omega arith))
 
+pub two-parts : TwoParts
+unfolding periodNotes notesHeard notesTimed heardBy
+two-parts b = refl
+
 heard-period : (b : Bus) → heardIn (periodNotes b) ≡ spoken (saidIn (opportunitiesOf b))
-unfolding periodNotes
 heard-period b =
     rw (
+      two-parts b,
       heard-append (notesHeard (exchanged b) b) (notesTimed (heardBy (exchanged b) b)),
       heard-timed (heardBy (exchanged b) b),
       append-nil,
@@ -304,9 +315,9 @@ heard-period b =
     )
 
 done-period : (i : ℕ) (b : Bus) → doneIn (suc i) (periodNotes b) ≡ doneCodes (completedIn i (opportunitiesOf b))
-unfolding periodNotes
 done-period i b =
     rw (
+      two-parts b,
       done-append (suc i) (notesHeard (exchanged b) b) (notesTimed (heardBy (exchanged b) b)),
       done-timed (suc i) (heardBy (exchanged b) b),
       append-nil,

@@ -1,8 +1,9 @@
 -- Lists of calls on a bus (document 01, "Lists and stretches").
-use mathlib.Core.Bool.{cond}
+use mathlib.Core.Bool.{Bool, cond, _&&_}
 use mathlib.Core.List.{List, [], _∷_, _++_}
-use Prim.Native.Nat.{ℕ}
+use Prim.Native.Nat.{ℕ, zero, suc}
 use lib.Dec.{eqb, leb}
+use lib.ListN.{length}
 use Rattle.timing.specs.Counts.{mostPeriods}
 use Rattle.bus.specs.Bus.{Bus, Note}
 use Rattle.bus.specs.Period.{periodRun, periodNotes}
@@ -42,3 +43,29 @@ ran b (c ∷ more) = ran (after b c) more
 unfoldable pub allNotes : Bus → List Call → List Note
 allNotes b [] = []
 allNotes b (c ∷ more) = notes b c ++ allNotes (after b c) more
+
+-- ---- A run: periods until so many are run, or one hands back notes, or the bus has run 4,000,000.
+-- It is no call of its own but that many calls of `period`, and hands back their notes: those of
+-- the last one, since the others have none.
+
+-- whether it goes on after a period on this bus: that one hands back no notes, and the next one is
+-- not refused
+unfoldable pub goesOn : Bus → Bool
+goesOn b = eqb (length (notes b period)) 0 && eqb (reply (after b period) period) 0
+
+-- the calls of a run of at most so many periods
+unfoldable pub runCalls : ℕ → Bus → List Call
+runCalls zero b = []
+runCalls (suc n) b = period ∷ cond (goesOn b) (runCalls n (after b period)) []
+
+-- The number that comes back: the first period's, since no later one is called that would be
+-- refused. A run of no periods runs nothing, and is not refused.
+unfoldable pub runReply : ℕ → Bus → ℕ
+runReply zero b = 0
+runReply (suc n) b = reply b period
+
+unfoldable pub runNotes : ℕ → Bus → List Note
+runNotes most b = allNotes b (runCalls most b)
+
+unfoldable pub runLeaves : ℕ → Bus → Bus
+runLeaves most b = ran b (runCalls most b)

@@ -1,6 +1,8 @@
--- The bus, in document 01's order: the record, a period, an event, a list of calls, the ranges; then the words of "Lists and stretches" and
--- demand 3; then what is on the line without building it, scenes by computation, and what holds of every list of calls.
+-- The bus, in document 01's order: the record, the order of notes, a period, an event, a list of
+-- calls, the ranges; then the words of "Lists and stretches" and demand 3; then what is on the line
+-- without building it, scenes by computation, and what holds of every list of calls.
 pub mod Bus
+pub mod Order
 pub mod Exchange
 pub mod Period
 pub mod Event

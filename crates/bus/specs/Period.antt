@@ -1,7 +1,8 @@
 -- A period (document 01, "Lists and stretches"): "exchange, hearing, then the timers due at the next one's start".
 use mathlib.Core.Bool.{cond}
 use mathlib.Core.List.{List, [], _∷_, _++_, map}
-use Prim.Native.Nat.{ℕ, suc, _+_}
+use mathlib.Core.Path.{_≡_}
+use Prim.Native.Nat.{ℕ, _+_}
 use lib.Dec.{eqb}
 use Rattle.cells.specs.Notes.{HEARD, TORN, DONE1, DONE2, noted}
 use Rattle.table_6_3.specs.Table63.{G3}
@@ -14,7 +15,8 @@ use Rattle.network.specs.declared.Network.{Network}
 use Rattle.network.specs.declared.NetworkStep.{NetworkStep}
 use Rattle.terminal.specs.declared.Terminal.{Terminal}
 use Rattle.terminal.specs.declared.TerminalStep.{TerminalStep}
-use Rattle.bus.specs.Bus.{Seat, Hit, Bus, Note, notesOf}
+use Rattle.bus.specs.Bus.{Seat, Hit, Bus, Note}
+use Rattle.bus.specs.Order.{ByUnit, dFirst, partInOrder, periodInOrder}
 use Rattle.bus.specs.Exchange.{Sender, Moment, seatsOf, exchanged, wholeDown, wholeUp}
 
 -- "Leaving G3 clears the reader silently."
@@ -32,7 +34,7 @@ terminalHears down now t = terminal.hears (shownDown down) now t
 unfoldable pub stepped : (Terminal → TerminalStep) → Seat → Seat
 stepped f s = record { terminal = f (s .terminal) .terminal; image = s .image; body = s .body }
 
--- ---- Notes. "Within one unit's hearing or line, D notes .. come before the table's, which keep its order."
+-- ---- What is noted; Order.antt has the order.
 
 -- what the reader has said
 unfoldable pub saidNotes : ℕ → List Said → List Note
@@ -46,16 +48,12 @@ unfoldable pub doneCodes : List ℕ → List ℕ
 doneCodes [] = []
 doneCodes (class ∷ more) = cond (eqb class 1) DONE1 DONE2 ∷ doneCodes more
 
--- hearing, the terminals from a unit on
-unfoldable pub hearingNotes : List ℕ → ℕ → ℕ → List Sender → List Note
-hearingNotes down now unit [] = []
-hearingNotes down now unit (s ∷ ss) =
-    notesOf now unit (doneCodes (s .done) ++ noted (terminalHears down now (s .seat .terminal) .notes)) ++ hearingNotes down now (suc unit) ss
+-- the codes of a terminal's hearing, and of its timer
+abbrev pub hearingCodes : List ℕ → ℕ → Sender → List ℕ
+hearingCodes down now s = dFirst (doneCodes (s .done)) (noted (terminalHears down now (s .seat .terminal) .notes))
 
--- timers, the terminals from a unit on
-unfoldable pub timerNotes : ℕ → ℕ → List Seat → List Note
-timerNotes now unit [] = []
-timerNotes now unit (s ∷ ss) = notesOf now unit (noted (terminal.timer now (s .terminal) .notes)) ++ timerNotes now (suc unit) ss
+abbrev pub timerCodes : ℕ → Seat → List ℕ
+timerCodes now s = noted (terminal.timer now (s .terminal) .notes)
 
 -- ---- Hearing, unit 0 first, after the exchange m. "The record counts periods run and D opportunities run, four for each period whose
 -- lines leave the network end in G3": the book's lines, which come before the exchange.
@@ -72,11 +70,16 @@ heardBy m b =
       seats = map (stepped (terminalHears (wholeDown m) (b .periods))) (seatsOf (m .senders));
     }
 
+abbrev pub heardByUnit : Moment → Bus → ByUnit
+heardByUnit m b =
+    record {
+      reader = saidNotes (b .periods) (m .saids);
+      network = noted (networkHears (wholeUp m) (b .periods) (b .network) .notes);
+      terminals = map (hearingCodes (wholeDown m) (b .periods)) (m .senders);
+    }
+
 unfoldable pub notesHeard : Moment → Bus → List Note
-notesHeard m b =
-    saidNotes (b .periods) (m .saids)
-    ++ (notesOf (b .periods) 0 (noted (networkHears (wholeUp m) (b .periods) (b .network) .notes))
-    ++ hearingNotes (wholeDown m) (b .periods) 1 (m .senders))
+notesHeard m b = partInOrder (b .periods) (heardByUnit m b)
 
 -- ---- "Timers that are due (unit 0, then 1 to 8)", at the start of the period that comes.
 unfoldable pub timed : Bus → Bus
@@ -92,12 +95,24 @@ timed b =
       seats = map (stepped (terminal.timer (b .periods))) (b .seats);
     }
 
+abbrev pub timedByUnit : Bus → ByUnit
+timedByUnit b =
+    record {
+      reader = [];
+      network = noted (network.timers (b .periods) (b .network) .notes);
+      terminals = map (timerCodes (b .periods)) (b .seats);
+    }
+
 unfoldable pub notesTimed : Bus → List Note
-notesTimed b = notesOf (b .periods) 0 (noted (network.timers (b .periods) (b .network) .notes)) ++ timerNotes (b .periods) 1 (b .seats)
+notesTimed b = partInOrder (b .periods) (timedByUnit b)
 
 -- ---- The whole.
 unfoldable pub periodRun : Bus → Bus
 periodRun b = timed (heardBy (exchanged b) b)
 
 unfoldable pub periodNotes : Bus → List Note
-periodNotes b = notesHeard (exchanged b) b ++ notesTimed (heardBy (exchanged b) b)
+periodNotes b = periodInOrder (b .periods) (heardByUnit (exchanged b) b) (timedByUnit (heardBy (exchanged b) b))
+
+-- its two parts (proofs/Telling.antt)
+abbrev pub TwoParts : Type 0
+TwoParts = (b : Bus) → periodNotes b ≡ notesHeard (exchanged b) b ++ notesTimed (heardBy (exchanged b) b)

@@ -37,11 +37,12 @@ use Rattle.network.specs.Network as network
 use Rattle.network.specs.declared.Network.{Network}
 use Rattle.terminal.specs.Terminal as terminal
 use Rattle.bus.specs.Bus.{Seat, Hit, Bus, Note, freshSeat, freshBus, notesOf, seatAt}
+use Rattle.bus.specs.Order.{unitByUnit}
 use Rattle.bus.specs.Exchange.{Moment, sentDown, sentUp, turnOf, turned, dOf, doneOf, hearsE, sentOf, lineDown, lineUp, eComes, sendersAfter, dComes, saidTo, onward, seated, begins, opportunitiesOf, exchanged, wholeDown, wholeUp}
-use Rattle.bus.specs.Period.{readingAfter, networkHears, terminalHears, stepped, saidNotes, doneCodes, hearingNotes, timerNotes, heardBy, notesHeard, timed, notesTimed, periodRun, periodNotes}
+use Rattle.bus.specs.Period.{readingAfter, networkHears, terminalHears, stepped, saidNotes, doneCodes, heardBy, notesHeard, timed, notesTimed, periodRun, periodNotes}
 use Rattle.bus.specs.Event.{classOf, eventFor, barsNetwork, barsTerminal, bars, reasons, firstOf, refusal, networkDoes, networkDone, hitGiven, terminalDoes, withFrame, seatAfter, seatDone, eventDone, eventNotes}
+use Rattle.bus.specs.Calls.{Call, reply, does, tells, after, notes, ran, allNotes, goesOn, runCalls, runReply, runNotes, runLeaves}
 use Rattle.cells.specs.Events.{ON, OFF, AR, DR, D1, D2, HIT}
-use Rattle.bus.specs.Calls.{Call, reply, does, tells, after, notes, ran}
 use Rattle.bus.specs.Calls.Call.{event, period}
 use Rattle.bus.specs.Stretch.{momentsOf, moments, seatThen, buses, powered, poweredFrom, poweredIn, longestOf, longestIn}
 use Rattle.bus.specs.Claims.{waitBound}
@@ -68,7 +69,7 @@ reportFrom b (c ∷ more) = reported b c ++ reportFrom (after b c) more
 
 -- what a list of calls hands back; whatever says `unfolding report` computes a bus
 unfoldable pub report : Bus → List Call → List Note
-unfolding within fits tabulate sameSymbols bits.octetBits bits.zeros polarity.alternate polarity.symbols down.downBody down.downBits down.downLine up.upBits up.upLine four.pick four.padded framing.firstPulse framing.framedIn framing.hasPulse combine.isSent combine.combined hits.hit octets.lowBits octets.bodyBits octets.numberLowFirst octets.octets images.stuff images.image images.allOctets images.isBody reader.startsWith reader.unstuff reader.reversed reader.rest reader.contents reader.between reader.aborted reader.says reader.said reader.next access.entered access.countAfter access.lowAfter access.afterE access.lowOf access.threshold access.mayStart access.sendsNext access.stops access.completes access.idles access.turn handing.takenUp handing.left change noted cellIn infoIn timers.due timers.startedBy timers.timerAfter alignment.framedPeriod alignment.unframedPeriod alignment.followed heard.downwardEvent heard.upwardEvent heard.lossUp sensing.shownDown sensing.shownUp network.moved network.acts network.happens network.andThen network.aligned network.requests network.t1Due network.t2Due network.timers network.heardAs network.hears terminal.accessAfter terminal.droppedNote terminal.moved terminal.acts terminal.happens terminal.aligned terminal.noTimer terminal.switchesOn terminal.switchesOff terminal.requests terminal.timer terminal.heardAs terminal.hears notesOf sentDown sentUp turnOf turned dOf doneOf hearsE sentOf lineDown lineUp eComes sendersAfter dComes saidTo onward seated begins opportunitiesOf exchanged wholeDown wholeUp readingAfter networkHears terminalHears stepped saidNotes doneCodes hearingNotes timerNotes heardBy notesHeard timed notesTimed periodRun periodNotes classOf eventFor barsNetwork barsTerminal bars reasons firstOf refusal networkDoes networkDone hitGiven terminalDoes withFrame seatAfter seatDone eventDone eventNotes reply does tells after notes ran momentsOf moments seatThen buses powered poweredFrom poweredIn longestOf longestIn network.bars terminal.bars
+unfolding within fits tabulate sameSymbols bits.octetBits bits.zeros polarity.alternate polarity.symbols down.downBody down.downBits down.downLine up.upBits up.upLine four.pick four.padded framing.firstPulse framing.framedIn framing.hasPulse combine.isSent combine.combined hits.hit octets.lowBits octets.bodyBits octets.numberLowFirst octets.octets images.stuff images.image images.allOctets images.isBody reader.startsWith reader.unstuff reader.reversed reader.rest reader.contents reader.between reader.aborted reader.says reader.said reader.next access.entered access.countAfter access.lowAfter access.afterE access.lowOf access.threshold access.mayStart access.sendsNext access.stops access.completes access.idles access.turn handing.takenUp handing.left change noted cellIn infoIn timers.due timers.startedBy timers.timerAfter alignment.framedPeriod alignment.unframedPeriod alignment.followed heard.downwardEvent heard.upwardEvent heard.lossUp sensing.shownDown sensing.shownUp network.moved network.acts network.happens network.andThen network.aligned network.requests network.t1Due network.t2Due network.timers network.heardAs network.hears terminal.accessAfter terminal.droppedNote terminal.moved terminal.acts terminal.happens terminal.aligned terminal.noTimer terminal.switchesOn terminal.switchesOff terminal.requests terminal.timer terminal.heardAs terminal.hears notesOf sentDown sentUp turnOf turned dOf doneOf hearsE sentOf lineDown lineUp eComes sendersAfter dComes saidTo onward seated begins opportunitiesOf exchanged wholeDown wholeUp readingAfter networkHears terminalHears stepped saidNotes doneCodes heardBy notesHeard timed notesTimed periodRun periodNotes classOf eventFor barsNetwork barsTerminal bars reasons firstOf refusal networkDoes networkDone hitGiven terminalDoes withFrame seatAfter seatDone eventDone eventNotes reply does tells after notes ran momentsOf moments seatThen buses powered poweredFrom poweredIn longestOf longestIn network.bars terminal.bars unitByUnit allNotes goesOn runCalls runReply runNotes runLeaves
 report b calls = reportFrom b calls
 
 -- ---- Lists of calls from the fresh bus.
@@ -316,3 +317,32 @@ timers-next = refl
 pub nine : report (busWith 3999999 (networkIn G1 0 0) []) (period ∷ period ∷ []) ≡ note mostPeriods 0 REFUSED (9 ∷ []) ∷ []
 unfolding report
 nine = refl
+
+-- ---- Runs. Document 01's book after its `ar`: of 20 periods that are asked for those with the
+-- numbers 1 to 7 are run, since the last of them has notes; of 3 all are run, and there are none.
+abbrev asked : Bus
+asked = ran freshBus (event 1 ON [] ∷ periods 1 (event 1 AR [] ∷ []))
+
+pub run-to-notes :
+    (runReply 20 asked ≡ 0)
+    × (runCalls 20 asked ≡ periods 7 [])
+    × (runNotes 20 asked ≡ note 7 0 PH-ACT [] ∷ note 7 0 MPH-ACT [] ∷ [])
+    × (runLeaves 20 asked .periods ≡ 8)
+unfolding report
+run-to-notes = (refl, refl, refl, refl)
+
+pub run-of-three : (runCalls 3 asked ≡ periods 3 []) × (runNotes 3 asked ≡ []) × (runLeaves 3 asked .periods ≡ 4)
+unfolding report
+run-of-three = (refl, refl, refl)
+
+-- .. and where the bus has run 4,000,000, the first period is refused and the run with it
+abbrev nearlyAll : ℕ → Bus
+nearlyAll p = busWith p (networkIn G1 0 0) []
+
+pub run-to-the-last :
+    (runReply 5 (nearlyAll 3999998) ≡ 0)
+    × (runCalls 5 (nearlyAll 3999998) ≡ periods 2 [])
+    × (runReply 5 (nearlyAll mostPeriods) ≡ 9)
+    × (runReply 0 (nearlyAll mostPeriods) ≡ 0)
+unfolding report
+run-to-the-last = (refl, refl, refl, refl)

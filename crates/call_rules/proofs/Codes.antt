@@ -25,6 +25,7 @@ use Rattle.terminal.specs.declared.TerminalStep.{TerminalStep}
 use Rattle.terminal.proofs.Laws as terminal-laws
 use Rattle.terminal.proofs.Laws.{isTerminalNote, timer-told}
 use Rattle.bus.specs.Bus.{Note, notesOf}
+use Rattle.bus.specs.Order.{unitByUnit}
 use Rattle.bus.specs.Calls.Call.{event, period}
 use Rattle.cells.specs.Events.{ON, OFF, AR, D1, D2, HIT}
 use Rattle.bus.specs.Exchange.{Sender, exchanged, wholeDown}
@@ -44,7 +45,7 @@ use Rattle.call_rules.specs.Period.{noteOf, networkNotes, terminalsNotes
 use Rattle.call_rules.specs.Ready.{goesOn}
 use Rattle.call_rules.specs.Run.{ran, keptAfter}
 use Rattle.call_rules.specs.Event.{reason, eventTold}
-use Rattle.call_rules.specs.Lists.{told, replied, notesTold, doneNotes, readerTold, terminalsTold, timersTold, periodTold, runTold, isCode, coded, NotesCoded, RunNotesCoded}
+use Rattle.call_rules.specs.Lists.{told, replied, notesTold, doneNotes, readerTold, terminalsHeard, terminalsTold, timersTold, periodTold, runTold, isCode, coded, NotesCoded, RunNotesCoded}
 use Rattle.call_rules.proofs.QuietRuns.{accepted-one, one-told, told-on, told-end}
 
 -- ---- Lists of notes.
@@ -91,7 +92,7 @@ AllCodes [] = Unit
 AllCodes (n ∷ ns) = Codes (noted (n .heard)) × Codes (noted (n .timed)) × AllCodes ns
 
 coded-terminals : (now : ℕ) (r : Ran) (i : ℕ) (ns : List UnitNotes) → AllCodes ns → coded (terminalsTold now r i ns) ≡ true
-unfolding terminalsTold coded AllCodes
+unfolding unitByUnit terminalsHeard coded AllCodes
 coded-terminals now r i [] h = refl
 coded-terminals now r i (n ∷ ns) h =
     coded-append (notesOf now (suc i) _) (terminalsTold now r (suc i) ns)
@@ -99,7 +100,7 @@ coded-terminals now r i (n ∷ ns) h =
     (coded-terminals now r (suc i) ns (h .2))
 
 coded-timers : (now i : ℕ) (ns : List UnitNotes) → AllCodes ns → coded (timersTold now i ns) ≡ true
-unfolding timersTold coded AllCodes
+unfolding unitByUnit coded AllCodes
 coded-timers now i [] h = refl
 coded-timers now i (n ∷ ns) h =
     coded-append (notesOf now (suc i) (noted (n .timed))) (timersTold now (suc i) ns) (coded-of now (suc i) _ (h .1)) (coded-timers now (suc i) ns (h .2))

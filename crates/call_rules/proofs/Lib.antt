@@ -3,7 +3,8 @@
 -- what a run leaves (RunLeft). An event given (Events). Lists that go together (Pairs); what a period has in common with that of a bus that differs only in
 -- what is not sent (SameExchange, ReaderCarried, SameNotes); the bus that a record stands for (Fitting) and its period (PeriodCarried); what an
 -- event leaves (EventLeft); calls that are turned down (Refused); every event (EventCarried) and every list of calls (Lists); the notes of a
--- run (QuietRuns), where a run without notes has come to (QuietEnds) and what codes its notes have (Codes); demand 3 on the calls (Demand3).
+-- run (QuietRuns), where a run without notes has come to (QuietEnds), that it is the rules'
+-- run (RunCarried) and what codes its notes have (Codes); demand 3 on the calls (Demand3).
 pub mod ReadFour
 pub mod InOrder
 pub mod StepShown
@@ -24,5 +25,6 @@ pub mod EventCarried
 pub mod Lists
 pub mod QuietRuns
 pub mod QuietEnds
+pub mod RunCarried
 pub mod Codes
 pub mod Demand3

@@ -17,7 +17,7 @@ use Rattle.reader.proofs.ReadingKept.{stands-after}
 use Rattle.reader.proofs.AnswerLaws.{answers-say, one-speaks}
 use Rattle.bus.specs.Bus.{Bus, freshSeat}
 use Rattle.bus.specs.Exchange.{exchanged, opportunitiesOf, wholeDown}
-use Rattle.bus.specs.Period.{heardBy, timed, saidNotes, periodRun, periodNotes, notesHeard, notesTimed}
+use Rattle.bus.specs.Period.{heardBy, timed, saidNotes, periodRun, periodNotes}
 use Rattle.bus.specs.Calls as bus
 use Rattle.bus.specs.Calls.Call.{period}
 use Rattle.bus.proofs.OneDone.{exchangedAt}
@@ -99,13 +99,13 @@ module _ (k : Kept) (b : Bus) (c : Carries k b) (f : Fit b) where
 
   period-told : (r : Ran) → r .said ≡ noteOf (answersIn k) → r .body ≡ bodyOf (answersIn k) → r .network ≡ networkNotes b →
       r .done1 ≡ doneMask 1 b → r .done2 ≡ doneMask 2 b → periodTold (b .periods) r (terminalsNotes b) (octetsRun k) ≡ periodNotes b
-  unfolding periodTold periodNotes notesHeard notesTimed heardBy terminalsNotes networkNotes
+  unfolding periodTold periodNotes heardBy terminalsNotes networkNotes
   period-told r p q n one two =
       rw (
         reader-notes r p q,
         hearing-told (wholeDown (exchanged b)) (b .periods) r (exchangedAt b freshSeat) 0 (exchanged b .senders)
             (λ j. let z : 0 + j ≡ j = omega arith in rw (z, one, two) (done-notes b (f .in-range) j)),
-        timers-told (wholeDown (exchanged b)) (b .periods) 0 (exchanged b .senders),
+        timers-told (wholeDown (exchanged b)) (b .periods) (exchanged b .senders),
         n,
       )
 

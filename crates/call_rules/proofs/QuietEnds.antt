@@ -14,6 +14,7 @@ use Rattle.hdlc.specs.Bits.{numberLowFirst, bitOf}
 use Rattle.hdlc.proofs.OctetLaws.{number-bit}
 use Rattle.timing.specs.Counts.{mostPeriods, allRun}
 use Rattle.bus.specs.Bus.{notesOf}
+use Rattle.bus.specs.Order.{unitByUnit}
 use Rattle.bus.specs.Period.{heardBy, timed, periodRun}
 use Rattle.exchange.specs.Shown.{doneOctet}
 use Rattle.listening.specs.Hears.{hasNote}
@@ -25,7 +26,7 @@ use Rattle.call_rules.specs.Shown.{busIn}
 use Rattle.call_rules.specs.Period.{terminalsNotes, anyNote, hasNotes, doneMask, periodRan, keptRun}
 use Rattle.call_rules.specs.Ready.{runReply, goesOn}
 use Rattle.call_rules.specs.Run.{notYet, ran, keptAfter, keptOn}
-use Rattle.call_rules.specs.Lists.{doneNotes, readerTold, terminalsTold, timersTold, periodTold, runTold, QuietRunEnds}
+use Rattle.call_rules.specs.Lists.{doneNotes, readerTold, terminalsHeard, terminalsTold, timersTold, periodTold, runTold, QuietRunEnds}
 use Rattle.call_rules.proofs.InOrder.{in-order, one-left}
 use Rattle.call_rules.proofs.RunSingle.{same-reply, period-single, goes-facts, ran-ends, stays}
 use Rattle.call_rules.proofs.QuietRuns.{goes-again, told-on, told-end, kept-on, kept-end}
@@ -66,7 +67,7 @@ record Silent (now : ℕ) (r : Ran) (i : ℕ) (n : UnitNotes) (ns : List UnitNot
   rest : terminalsTold now r (suc i) ns ≡ []
 
 silent : (now : ℕ) (r : Ran) (i : ℕ) (n : UnitNotes) (ns : List UnitNotes) → terminalsTold now r i (n ∷ ns) ≡ [] → Silent now r i n ns
-unfolding terminalsTold
+unfolding unitByUnit terminalsHeard
 silent now r i n ns h =
     let p = no-parts (notesOf now (suc i) (doneNotes (bitOf (r .done1) i) (bitOf (r .done2) i) ++ noted (n .heard))) (terminalsTold now r (suc i) ns) h in
     let q = no-parts (doneNotes (bitOf (r .done1) i) (bitOf (r .done2) i)) (noted (n .heard)) (no-codes now (suc i) _ (p .0)) in
@@ -74,7 +75,7 @@ silent now r i n ns h =
     record { heard = no-note (n .heard) (q .1); one = d .0; two = d .1; rest = p .1 }
 
 none-any : (now later : ℕ) (r : Ran) (i : ℕ) (ns : List UnitNotes) → terminalsTold now r i ns ≡ [] → timersTold later i ns ≡ [] → anyNote ns ≡ false
-unfolding anyNote timersTold
+unfolding anyNote unitByUnit
 none-any now later r i [] h t = refl
 none-any now later r i (n ∷ ns) h t =
     let s = silent now r i n ns h in
@@ -131,7 +132,7 @@ module _ (k : Kept) where
       let e : 0 + j ≡ j = omega arith in
       sym (number-bit _ j) ∙ (rw e at (h j (simp length-map (simp length-map at l)))))
 
-  silent-period : (now : ℕ) (octets : List ℕ) → periodTold now (periodRan k) (keptRun k .notes) octets ≡ [] → periodRan k .told ≡ false
+  pub silent-period : (now : ℕ) (octets : List ℕ) → periodTold now (periodRan k) (keptRun k .notes) octets ≡ [] → periodRan k .told ≡ false
   unfolding periodRan keptRun hasNotes anyNote
   silent-period now octets h =
       let ns = terminalsNotes (busIn k) in

@@ -14,6 +14,7 @@ use Rattle.hdlc.specs.Bits.{numberLowFirst, bitOf}
 use Rattle.hdlc.proofs.OctetLaws.{number-bit}
 use Rattle.timing.specs.Counts.{allRun}
 use Rattle.bus.specs.Bus.{notesOf}
+use Rattle.bus.specs.Order.{unitByUnit}
 use Rattle.bus.specs.Period.{heardBy, timed, periodRun}
 use Rattle.bus.specs.Calls.{Call}
 use Rattle.bus.specs.Calls.Call.{period}
@@ -26,7 +27,7 @@ use Rattle.call_rules.specs.Shown.{busIn}
 use Rattle.call_rules.specs.Period.{terminalsNotes, anyNote, hasNotes, periodRan, keptRun}
 use Rattle.call_rules.specs.Ready.{runReply, goesOn}
 use Rattle.call_rules.specs.Run.{notYet, ran, keptAfter, ranOn, keptOn, SinglePeriod}
-use Rattle.call_rules.specs.Lists.{called, replied, readerTold, terminalsTold, timersTold, periodTold, notesTold, LentCall, finds, leftBy, callOf, leftAll, allTold, callsIn, runTold, RunIsCalls, RunsAreCalls}
+use Rattle.call_rules.specs.Lists.{called, replied, readerTold, terminalsHeard, terminalsTold, timersTold, periodTold, notesTold, LentCall, finds, leftBy, callOf, leftAll, allTold, callsIn, runTold, RunIsCalls, RunsAreCalls}
 use Rattle.call_rules.specs.Lists.LentCall.{runs}
 use Rattle.call_rules.proofs.InOrder.{one-left}
 use Rattle.call_rules.proofs.ReadyKept.{ready-kept}
@@ -46,7 +47,7 @@ unfolding numberLowFirst
 no-bit i = number-bit [] i
 
 none-told : (now : ℕ) (r : Ran) (i : ℕ) (ns : List UnitNotes) → r .done1 ≡ 0 → r .done2 ≡ 0 → anyNote ns ≡ false → terminalsTold now r i ns ≡ []
-unfolding terminalsTold anyNote notesOf
+unfolding unitByUnit terminalsHeard anyNote notesOf
 none-told now r i [] p q h = refl
 none-told now r i (n ∷ ns) p q h =
     let t = neither _ (anyNote ns) h in
@@ -54,7 +55,7 @@ none-told now r i (n ∷ ns) p q h =
     rw (none-told now r (suc i) ns p q (t .1), none-noted (n .heard) (m .0), p, q, no-bit i)
 
 none-timed : (now i : ℕ) (ns : List UnitNotes) → anyNote ns ≡ false → timersTold now i ns ≡ []
-unfolding timersTold anyNote notesOf
+unfolding unitByUnit anyNote notesOf
 none-timed now i [] h = refl
 none-timed now i (n ∷ ns) h =
     let t = neither _ (anyNote ns) h in
@@ -87,7 +88,7 @@ quiet now r ns octets h =
     )
 
 -- what a run goes on by
-goes-by : (last : Ran) (n : ℕ) → goesOn last n ≡ true → (eqb (last .reply) 0 ≡ true) × (last .told ≡ false) × (allRun (last .bus .periods) ≡ false)
+pub goes-by : (last : Ran) (n : ℕ) → goesOn last n ≡ true → (eqb (last .reply) 0 ≡ true) × (last .told ≡ false) × (allRun (last .bus .periods) ≡ false)
 unfolding goesOn
 goes-by last n g =
     let all = and-both _ (not (allRun (last .bus .periods))) g in
@@ -96,7 +97,7 @@ goes-by last n g =
     (first .0, not-true _ (first .1), not-true _ (all .1))
 
 module _ (k : Kept) where
-  quiet-run : (now : ℕ) → periodRan k .told ≡ false → periodTold now (periodRan k) (keptRun k .notes) (keptRun k .octets) ≡ []
+  pub quiet-run : (now : ℕ) → periodRan k .told ≡ false → periodTold now (periodRan k) (keptRun k .notes) (keptRun k .octets) ≡ []
   unfolding keptRun periodRan hasNotes
   quiet-run now h = quiet now (periodRan k) (terminalsNotes (busIn k)) (keptRun k .octets) h
 
@@ -186,10 +187,10 @@ module _ (n : ℕ) (k : Kept) where
   unfolding runTold
   told-end g = let s = run-single n k in rw (s .ran-is, s .kept-is, g)
 
-  ran-on : goesOn (ran 1 k) n ≡ true → ran (suc n) k ≡ ran n (keptAfter 1 k)
+  pub ran-on : goesOn (ran 1 k) n ≡ true → ran (suc n) k ≡ ran n (keptAfter 1 k)
   ran-on g = run-single n k .ran-is ∙ rw g
 
-  ran-end : goesOn (ran 1 k) n ≡ false → ran (suc n) k ≡ ran 1 k
+  pub ran-end : goesOn (ran 1 k) n ≡ false → ran (suc n) k ≡ ran 1 k
   ran-end g = run-single n k .ran-is ∙ rw g
 
   pub kept-on : goesOn (ran 1 k) n ≡ true → keptAfter (suc n) k ≡ keptAfter n (keptAfter 1 k)
@@ -222,7 +223,7 @@ run-on m k g rest =
           ∙ rw (calls-on (suc m) k g, first-told k calls, goes-quiet k (suc m) g, settled-told (keptAfter 1 k) m) (rest .tells);
     }
 
-no-more : (last : Ran) → goesOn last 0 ≡ false
+pub no-more : (last : Ran) → goesOn last 0 ≡ false
 unfolding goesOn
 no-more last =
     and-left-false ((eqb (last .reply) 0 && not (last .told)) && ltb 0 0) (not (allRun (last .bus .periods)))

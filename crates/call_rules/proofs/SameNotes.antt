@@ -10,7 +10,7 @@ use Rattle.hdlc.proofs.OctetLaws.{number-bit}
 use Rattle.bus.specs.Bus.{Bus, freshSeat, seatAt}
 use Rattle.bus.specs.Exchange.{Sender, seatsOf, turned, doneOf, hearsE, seated, exchanged, wholeDown}
 use Rattle.hearing.specs.Sensing.{shownDown}
-use Rattle.bus.specs.Period.{terminalHears, stepped, doneCodes, hearingNotes, timerNotes}
+use Rattle.bus.specs.Period.{terminalHears, stepped, doneCodes, hearingCodes, timerCodes}
 use Rattle.bus.specs.Event.{among}
 use Rattle.bus.specs.Ranges.{InRange}
 use Rattle.bus.proofs.OneDone.{hearsFour, exchangedAt, sender-exchanged}
@@ -20,7 +20,7 @@ use Rattle.bus_record.specs.declared.side.Ran.{Ran}
 use Rattle.exchange.specs.Shown.{doneOctet}
 use Rattle.listening.specs.Shown.{heardNotes, timedNotes, terminalNotes}
 use Rattle.call_rules.specs.Period.{dRead, leftG3, doneMask, networkNotes, terminalsNotes}
-use Rattle.call_rules.specs.Lists.{doneNotes, terminalsTold, timersTold}
+use Rattle.call_rules.specs.Lists.{doneNotes, terminalsHeard, terminalsTimed}
 use Rattle.call_rules.proofs.Pairs.{both-equal}
 use Rattle.call_rules.proofs.SameExchange.{SameSender, SameBus, exchanged-same, ds-same, down-same, network-hears-same, heard-same, period-same}
 
@@ -71,23 +71,23 @@ module _ (b : Bus) (r : InRange b) where
       doneNotes (bitOf (doneMask 1 b) i) (bitOf (doneMask 2 b) i) ≡ doneCodes (getD (exchanged b .senders) i (exchangedAt b freshSeat) .done)
   done-notes i = rw (mask-bit 1 i, mask-bit 2 i, sender-exchanged b i) (sym (done-bits-in b r i))
 
--- ---- the terminals' notes
+-- ---- the codes of the terminals
 module _ (down : List ℕ) (now : ℕ) where
   abbrev told : Sender → UnitNotes
   told s = terminalNotes (shownDown down) now (s .seat .terminal)
 
   pub hearing-told : (r : Ran) (d : Sender) (i : ℕ) (ss : List Sender) →
       ((j : ℕ) → doneNotes (bitOf (r .done1) (i + j)) (bitOf (r .done2) (i + j)) ≡ doneCodes (getD ss j d .done)) →
-      terminalsTold now r i (map told ss) ≡ hearingNotes down now (suc i) ss
-  unfolding terminalsTold hearingNotes terminalNotes heardNotes timedNotes terminalHears
+      terminalsHeard r i (map told ss) ≡ map (hearingCodes down now) ss
+  unfolding terminalsHeard terminalNotes heardNotes timedNotes terminalHears
   hearing-told r d i [] h = refl
   hearing-told r d i (s ∷ ss) h =
       let z : i + 0 ≡ i = omega arith in
       let first : doneNotes (bitOf (r .done1) i) (bitOf (r .done2) i) ≡ doneCodes (s .done) = rw z at (h 0) in
       rw (first, hearing-told r d (suc i) ss (λ j. let n : i + suc j ≡ suc i + j = omega arith in rw n at (h (suc j))))
 
-  pub timers-told : (i : ℕ) (ss : List Sender) →
-      timersTold (now + 1) i (map told ss) ≡ timerNotes (now + 1) (suc i) (map (stepped (terminalHears down now)) (seatsOf ss))
-  unfolding timersTold timerNotes terminalNotes heardNotes timedNotes terminalHears stepped
-  timers-told i [] = refl
-  timers-told i (s ∷ ss) = rw (timers-told (suc i) ss)
+  pub timers-told : (ss : List Sender) →
+      terminalsTimed (map told ss) ≡ map (timerCodes (now + 1)) (map (stepped (terminalHears down now)) (seatsOf ss))
+  unfolding terminalNotes heardNotes timedNotes terminalHears stepped
+  timers-told [] = refl
+  timers-told (s ∷ ss) = rw (timers-told ss)

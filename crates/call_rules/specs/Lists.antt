@@ -18,12 +18,14 @@ use Rattle.terminal.specs.declared.Terminal.{Terminal}
 use Rattle.reader.specs.ReaderRange.{readerInRange}
 use Rattle.reader.specs.StandsFor.{StandsFor}
 use Rattle.bus.specs.Bus.{Seat, Bus, Note, terminals, freshBus, notesOf, seatAt}
+use Rattle.bus.specs.Order.{ByUnit, dFirst, unitByUnit, periodInOrder}
+use Rattle.bus.specs.Calls as rules
 use Rattle.bus.specs.Calls.{Call, reply, notes, after, allNotes}
 use Rattle.bus.specs.Calls.Call.{event, period}
 use Rattle.exchange.specs.Part.{imageOf}
 use Rattle.listening.specs.Shown.{allInRange}
 use Rattle.listening.specs.declared.hears.UnitNotes.{UnitNotes}
-use Rattle.bus_record.specs.Record.{freshRecord}
+use Rattle.bus_record.specs.Record.{freshRecord, recordInRange}
 use Rattle.bus_record.specs.NetworkSide.{noNotes}
 use Rattle.bus_event.specs.Event.{imagesRoom, areLetters}
 use Rattle.bus_record.specs.declared.side.Ran.{Ran}
@@ -52,7 +54,8 @@ unfoldable pub replied : Kept → Call → ℕ
 replied k (event unit number value) = told unit number value k .reply
 replied k period = ran 1 k .reply
 
--- ---- The notes that it hands back, in the report's order.
+-- ---- The notes that it hands back, in the order that the rules have for a period (crate `bus`,
+-- specs/Order.antt).
 
 -- of the reader: `heard` with the octets of the body, or `torn`
 unfoldable pub readerTold : ℕ → Ran → List ℕ → List Note
@@ -63,21 +66,32 @@ readerTold now r octets =
 abbrev pub doneNotes : Bool → Bool → List ℕ
 doneNotes one two = cond one (DONE1 ∷ []) [] ++ cond two (DONE2 ∷ []) []
 
--- of the terminals' hearing, from index i on
-unfoldable pub terminalsTold : ℕ → Ran → ℕ → List UnitNotes → List Note
-terminalsTold now r i [] = []
-terminalsTold now r i (n ∷ ns) =
-    notesOf now (suc i) (doneNotes (bitOf (r .done1) i) (bitOf (r .done2) i) ++ noted (n .heard)) ++ terminalsTold now r (suc i) ns
+-- the codes of each terminal's hearing, from index i on, and of its timer
+unfoldable pub terminalsHeard : Ran → ℕ → List UnitNotes → List (List ℕ)
+terminalsHeard r i [] = []
+terminalsHeard r i (n ∷ ns) =
+    dFirst (doneNotes (bitOf (r .done1) i) (bitOf (r .done2) i)) (noted (n .heard)) ∷ terminalsHeard r (suc i) ns
 
--- of the timers
-unfoldable pub timersTold : ℕ → ℕ → List UnitNotes → List Note
-timersTold now i [] = []
-timersTold now i (n ∷ ns) = notesOf now (suc i) (noted (n .timed)) ++ timersTold now (suc i) ns
+abbrev pub terminalsTimed : List UnitNotes → List (List ℕ)
+terminalsTimed ns = map (λ (n : UnitNotes). noted (n .timed)) ns
+
+-- what is heard, and what comes of the timers
+abbrev pub heardTold : ℕ → Ran → List UnitNotes → List ℕ → ByUnit
+heardTold now r ns octets =
+    record { reader = readerTold now r octets; network = noted (r .network .heard); terminals = terminalsHeard r 0 ns }
+
+abbrev pub timedTold : Ran → List UnitNotes → ByUnit
+timedTold r ns = record { reader = []; network = noted (r .network .timed); terminals = terminalsTimed ns }
 
 unfoldable pub periodTold : ℕ → Ran → List UnitNotes → List ℕ → List Note
-periodTold now r ns octets =
-    (readerTold now r octets ++ (notesOf now 0 (noted (r .network .heard)) ++ terminalsTold now r 0 ns))
-    ++ (notesOf (now + 1) 0 (noted (r .network .timed)) ++ timersTold (now + 1) 0 ns)
+periodTold now r ns octets = periodInOrder now (heardTold now r ns octets) (timedTold r ns)
+
+-- the notes of the terminals alone, from index i on: their hearing, and their timers
+abbrev pub terminalsTold : ℕ → Ran → ℕ → List UnitNotes → List Note
+terminalsTold now r i ns = unitByUnit now (suc i) (terminalsHeard r i ns)
+
+abbrev pub timersTold : ℕ → ℕ → List UnitNotes → List Note
+timersTold now i ns = unitByUnit now (suc i) (terminalsTimed ns)
 
 unfoldable pub notesTold : Kept → Call → List Note
 notesTold k (event unit number value) =
@@ -314,6 +328,34 @@ pub record RunIsCalls (n : ℕ) (k : Kept) : Type 0 where
 
 abbrev pub RunsAreCalls : Type 0
 RunsAreCalls = (n : ℕ) (k : Kept) → RunIsCalls n k
+
+-- Such a run is the rules' (crate `bus`, specs/Calls.antt `runCalls`), of whatever stands for a bus
+-- that a list of calls leads to (proofs/RunCarried.antt).
+pub record RunOfRules (most : ℕ) (k : Kept) (b : Bus) : Type 0 where
+  pub replies : ran most k .reply ≡ rules.runReply most b
+  pub tells : runTold most k ≡ rules.runNotes most b
+  pub carries : Carries (keptAfter most k) (rules.runLeaves most b)
+
+abbrev pub RunCarried : Type 0
+RunCarried =
+    (calls : List Call) (k : Kept) (n : ℕ) → Carries k (rules.ran freshBus calls) → RunOfRules (suc n) k (rules.ran freshBus calls)
+
+-- A run of no periods runs nothing, whatever it finds: what is kept stays, and no note is told of.
+-- It can be refused, with 1 or 2, but not where what it finds stands for such a bus.
+pub record NothingRun (k : Kept) : Type 0 where
+  pub replies :
+      ran 0 k .reply
+      ≡ cond (eightInRange (k .terminals) && recordInRange (k .bus))
+      (cond (lentFits (length (k .images)) (length (k .octets)) (k .letters) (length (k .notes))) 0 2) 1
+  pub tells-of-none : ran 0 k .told ≡ false
+  pub keeps : keptAfter 0 k ≡ k
+
+abbrev pub NoPeriodsRun : Type 0
+NoPeriodsRun = (k : Kept) → NothingRun k
+
+abbrev pub NoPeriodsCarried : Type 0
+NoPeriodsCarried =
+    (calls : List Call) (k : Kept) → Carries k (rules.ran freshBus calls) → ran 0 k .reply ≡ rules.runReply 0 (rules.ran freshBus calls)
 
 -- The codes that notes have stand in an octet and are not 0, which as an octet ends the notes of a call (proofs/Codes.antt).
 abbrev pub isCode : ℕ → Bool

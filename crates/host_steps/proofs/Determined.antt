@@ -13,13 +13,14 @@ use Rattle.hdlc.specs.Bits.{bitOf}
 use Rattle.hdlc.specs.Image.{longestBody}
 use Rattle.timing.specs.Counts.{mostPeriods}
 use Rattle.bus.specs.Bus.{Note, terminals, notesOf}
+use Rattle.bus.specs.Order.{unitByUnit}
 use Rattle.bus.specs.Calls.{Call}
 use Rattle.bus.specs.Calls.Call.{event, period}
 use Rattle.listening.specs.declared.hears.UnitNotes.{UnitNotes}
 use Rattle.bus_record.specs.declared.side.Ran.{Ran}
 use Rattle.call_rules.specs.Kept.{Kept}
 use Rattle.call_rules.specs.Run.{ran}
-use Rattle.call_rules.specs.Lists.{isCode, coded, told, replied, notesTold, runTold, doneNotes, periodTold, readerTold, terminalsTold, timersTold}
+use Rattle.call_rules.specs.Lists.{isCode, coded, told, replied, notesTold, runTold, doneNotes, periodTold, readerTold, terminalsHeard, terminalsTold, timersTold}
 use Rattle.call_rules.proofs.InOrder.{InOrder}
 use Rattle.call_rules.proofs.Events.{unit-is}
 use Rattle.call_rules.proofs.QuietRuns.{one-told}
@@ -61,7 +62,7 @@ small-of now unit (c ∷ codes) h u =
 
 module _ (now : ℕ) (r : Ran) (in-time : now ≤ mostPeriods + 1) where
   small-terminals : (i : ℕ) (ns : List UnitNotes) → i + length ns ≤ terminals → AllSmall (terminalsTold now r i ns)
-  unfolding terminalsTold
+  unfolding unitByUnit terminalsHeard
   small-terminals i [] h = none-small
   small-terminals i (n ∷ ns) h =
       small-append (notesOf now (suc i) _) _
@@ -69,7 +70,7 @@ module _ (now : ℕ) (r : Ran) (in-time : now ≤ mostPeriods + 1) where
       (small-terminals (suc i) ns (omega arith))
 
   small-timers : (i : ℕ) (ns : List UnitNotes) → i + length ns ≤ terminals → AllSmall (timersTold now i ns)
-  unfolding timersTold
+  unfolding unitByUnit
   small-timers i [] h = none-small
   small-timers i (n ∷ ns) h =
       small-append (notesOf now (suc i) _) _ (small-of now (suc i) (noted (n .timed)) in-time (omega arith))

@@ -5,13 +5,14 @@ use mathlib.Core.Path.{_≡_, refl, ap, _∙_}
 use Prim.Native.Nat.{ℕ, _-_}
 use lib.ListN.{length}
 use Rattle.bus.specs.Bus.{notesOf}
+use Rattle.bus.specs.Order.{unitByUnit}
 use Rattle.bus.specs.Calls.Call.{event}
 use Rattle.cells.specs.Notes.{noted}
 use Rattle.hdlc.specs.Bits.{bitOf}
 use Rattle.bus_record.specs.NetworkSide.{refusedRun}
 use Rattle.call_rules.specs.Kept.{Kept}
 use Rattle.call_rules.specs.Run.{ran, ranOn, keptOn, notYet, keptAfter}
-use Rattle.call_rules.specs.Lists.{told, replied, notesTold, periodTold, readerTold, terminalsTold, timersTold, runTold}
+use Rattle.call_rules.specs.Lists.{told, replied, notesTold, periodTold, readerTold, terminalsHeard, runTold}
 use Rattle.call_rules.proofs.InOrder.{order-reply}
 use Rattle.call_rules.proofs.RunLeft.{run-left}
 use Rattle.bus_octets.specs.Layout.{octetsIn, busOctets, shown, busLength, isBus}
@@ -56,5 +57,5 @@ module _ (s : List ℕ) (h : isBus s ≡ true) where
   none-refused = exact s h .ready
 
   pub none-told : runTold 0 (shown s) ≡ []
-  unfolding runTold ran ranOn notYet refusedRun keptAfter keptOn periodTold readerTold terminalsTold timersTold notesOf noted bitOf shown
+  unfolding runTold ran ranOn notYet refusedRun keptAfter keptOn periodTold readerTold unitByUnit terminalsHeard notesOf noted bitOf shown
   none-told = rw (exact s h .ready) refl

@@ -12,9 +12,10 @@ use lib.Seq.{take-suc, take-all, length-take-le}
 use Rattle.hdlc.specs.Bits.{bitOf}
 use Rattle.cells.specs.Notes.{noted}
 use Rattle.bus.specs.Bus.{Note, terminals, notesOf}
+use Rattle.bus.specs.Order.{unitByUnit}
 use Rattle.listening.specs.declared.hears.UnitNotes.{UnitNotes}
 use Rattle.bus_record.specs.declared.side.Ran.{Ran}
-use Rattle.call_rules.specs.Lists.{readerTold, doneNotes, terminalsTold, timersTold, periodTold}
+use Rattle.call_rules.specs.Lists.{readerTold, doneNotes, terminalsHeard, terminalsTold, timersTold, periodTold}
 use Rattle.note_text.specs.Room.{Put}
 use Rattle.note_text.specs.NoteText.{notesIn}
 use Rattle.note_text.specs.declared.form.Form.{Form}
@@ -32,7 +33,7 @@ timedOf now i n = notesOf now (suc i) (noted (n .timed))
 -- a terminal more
 terminals-more : (now : ℕ) (r : Ran) (i : ℕ) (ns : List UnitNotes) (n : UnitNotes)
     → terminalsTold now r i (ns ++ (n ∷ [])) ≡ terminalsTold now r i ns ++ heardOf now r (i + length ns) n
-unfolding terminalsTold
+unfolding unitByUnit terminalsHeard
 terminals-more now r i [] n = let e : i + zero ≡ i = omega arith in rw (e, append-nil)
 terminals-more now r i (m ∷ ns) n =
     let e : suc i + length ns ≡ i + suc (length ns) = omega arith in
@@ -41,7 +42,7 @@ terminals-more now r i (m ∷ ns) n =
 
 timers-more : (now i : ℕ) (ns : List UnitNotes) (n : UnitNotes)
     → timersTold now i (ns ++ (n ∷ [])) ≡ timersTold now i ns ++ timedOf now (i + length ns) n
-unfolding timersTold
+unfolding unitByUnit
 timers-more now i [] n = let e : i + zero ≡ i = omega arith in rw (e, append-nil)
 timers-more now i (m ∷ ns) n =
     let e : suc i + length ns ≡ i + suc (length ns) = omega arith in
@@ -82,7 +83,7 @@ pub record Hearing (form : Form) (room₀ : List ℕ) (wrote now : ℕ) (ns : Li
 
 pub hearing-starts : (form : Form) (room : List ℕ) (wrote now : ℕ) (ns : List UnitNotes) (done1 done2 at : ℕ) → length ns ≡ terminals → at ≡ min wrote (length room)
     → Hearing form room wrote now ns done1 done2 room done1 done2 at 0
-unfolding terminalsTold notesIn
+unfolding unitByUnit terminalsHeard notesIn
 hearing-starts form room wrote now ns done1 done2 at long h =
     record {
       long = long;
@@ -128,7 +129,7 @@ pub record Timing (form : Form) (room₀ : List ℕ) (wrote now : ℕ) (ns : Lis
 
 pub timing-starts : (form : Form) (room : List ℕ) (wrote now : ℕ) (ns : List UnitNotes) (at : ℕ) → length ns ≡ terminals → at ≡ min wrote (length room)
     → Timing form room wrote now ns room at 0
-unfolding timersTold notesIn
+unfolding unitByUnit notesIn
 timing-starts form room wrote now ns at long h = record { long = long; within = omega arith; put-are = put-start room wrote h }
 
 module _ {form : Form} {room₀ : List ℕ} {wrote now : ℕ} {ns : List UnitNotes} {room : List ℕ} {at i : ℕ} (l : Timing form room₀ wrote now ns room at i) where
@@ -142,6 +143,10 @@ module _ {form : Form} {room₀ : List ℕ} {wrote now : ℕ} {ns : List UnitNot
   timing-ends h = let long = l .long in rw (take-all i ns (omega arith)) at (l .put-are)
 
 -- ---- The parts of a period's notes, one behind the other.
+five-parts : (form : Form) (a b c d e : List Note)
+    → notesIn form a ++ (notesIn form b ++ (notesIn form c ++ (notesIn form d ++ notesIn form e))) ≡ notesIn form ((a ++ (b ++ c)) ++ (d ++ e))
+five-parts form a b c d e = simp (← form-append, ← append-assoc)
+
 pub period-parts : (form : Form) (now : ℕ) (r : Ran) (ns : List UnitNotes) (octets : List ℕ)
     → notesIn form (readerTold now r octets)
     ++ (notesIn form (notesOf now 0 (noted (r .network .heard)))
@@ -150,4 +155,5 @@ pub period-parts : (form : Form) (now : ℕ) (r : Ran) (ns : List UnitNotes) (oc
     ≡ notesIn form (periodTold now r ns octets)
 unfolding periodTold
 period-parts form now r ns octets =
-    simp (← form-append, ← append-assoc)
+    five-parts form (readerTold now r octets) (notesOf now 0 (noted (r .network .heard))) (terminalsTold now r 0 ns)
+    (notesOf (now + 1) 0 (noted (r .network .timed))) (timersTold (now + 1) 0 ns)

@@ -14,9 +14,10 @@ use Rattle.cells.specs.declared.notes.Notes.{Notes}
 use Rattle.hdlc.specs.Bits.{bitOf}
 use Rattle.hdlc.specs.Image.{longestBody}
 use Rattle.bus.specs.Bus.{terminals, notesOf}
+use Rattle.bus.specs.Order.{unitByUnit}
 use Rattle.listening.specs.declared.hears.UnitNotes.{UnitNotes}
 use Rattle.bus_record.specs.declared.side.Ran.{Ran}
-use Rattle.call_rules.specs.Lists.{readerTold, doneNotes, terminalsTold, timersTold, periodTold}
+use Rattle.call_rules.specs.Lists.{readerTold, doneNotes, terminalsHeard, terminalsTold, timersTold, periodTold}
 use Rattle.note_text.specs.NoteText.{note, noteIn, notesIn}
 use Rattle.note_text.specs.Lengths.{numbers, lineRoom, heardRoom, octetsRoom}
 use Rattle.note_text.specs.declared.form.Form.{Form}
@@ -66,7 +67,7 @@ module _ (form : Form) (most : ℕ) where
 
   terminals-fit : (now : ℕ) (r : Ran) (i : ℕ) (ns : List UnitNotes) → UnitsFit form most now → i + length ns ≤ terminals
       → length (notesIn form (terminalsTold now r i ns)) ≤ length ns * (6 * most)
-  unfolding terminalsTold notesIn
+  unfolding unitByUnit terminalsHeard notesIn
   terminals-fit now r i [] h k = omega arith
   terminals-fit now r i (n ∷ ns) h k =
       rw (
@@ -77,7 +78,7 @@ module _ (form : Form) (most : ℕ) where
 
   timers-fit : (now i : ℕ) (ns : List UnitNotes) → UnitsFit form most now → i + length ns ≤ terminals
       → length (notesIn form (timersTold now i ns)) ≤ length ns * (4 * most)
-  unfolding timersTold notesIn
+  unfolding unitByUnit notesIn
   timers-fit now i [] h k = omega arith
   timers-fit now i (n ∷ ns) h k =
       rw (
