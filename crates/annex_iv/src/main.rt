@@ -27,7 +27,8 @@ const ONES: Four = Four {
 
 // The tests of table IV-2 or IV-3 in a state, numbered from the first on, by their stimuli: events of table 6-3 or 6-2.
 fn tests(table: u8, first: u8, state: u8, events: &[u8])
-    requires { ⌜ (first ≤ 64) × (length (now events) ≤ 8) ⌝ }
+    requires { ⌜ first ≤ 64 ⌝ }
+    requires { ⌜ length (now events) ≤ 8 ⌝ }
 {
     let mut i: usize = 0;
     while i < events.len() {

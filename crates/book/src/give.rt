@@ -22,8 +22,9 @@ pub(crate) fn give(
     value: &[u8],
     room: &mut [u8],
 ) -> Until
-    requires { ⌜ (u .bus .periods .0 ≤ mostPeriods) × (length (valueOctets event (now value)) ≤ valueRoom)
-        × (u .wrote + periodRoom ≤ length (now room)) ⌝ }
+    requires { ⌜ u .bus .periods .0 ≤ mostPeriods ⌝ }
+    requires { ⌜ length (valueOctets event (now value)) ≤ valueRoom ⌝ }
+    requires { ⌜ u .wrote + periodRoom ≤ length (now room) ⌝ }
     ensures { λ r. ⌜ ((octets : List ℕ) → Gives
         (found (u .bus) (u .terminals) (now (images .entry)) octets (now (letters .entry))) unit event (now (value .entry))
         (now (room .entry)) (u .wrote)

@@ -8,8 +8,8 @@ use super::reading::read_on;
 
 // The first of the reasons 1 and 2 that holds, or 0: as for a run of no period, which changes nothing.
 fn reason(progress: Progress, images: &[u8], octets: &mut [u8], letters: &[u8]) -> u8
-    ensures { λ r. ⌜ (r ≡ spec.reason (spec.standOf progress (now (images .entry)) (now (octets .entry)) (now (letters .entry))))
-        × (now (octets .exit) ≡ now (octets .entry)) ⌝ }
+    ensures { λ r. ⌜ r ≡ spec.reason (spec.standOf progress (now (images .entry)) (now (octets .entry)) (now (letters .entry))) ⌝ }
+    ensures { λ _. ⌜ now (octets .exit) ≡ now (octets .entry) ⌝ }
 {
     let terminals = progress.terminals;
     let g = bus_held::run(progress.bus, terminals, images, octets, letters, 0);
@@ -27,7 +27,8 @@ pub fn go_on(
     room: &mut [u8],
     whole: bool,
 ) -> Went
-    ensures { λ r. ⌜ GoesOn progress (now (images .entry)) (now (octets .entry)) (now (letters .entry)) (now (text .entry)) (now (room .entry)) whole
+    ensures { λ r. ⌜ GoesOn progress (now (images .entry)) (now (octets .entry)) (now (letters .entry))
+        (now (text .entry)) (now (room .entry)) whole
         r (now (images .exit)) (now (octets .exit)) (now (letters .exit)) (now (room .exit)) ⌝ }
 {
     let reply = reason(progress, images, octets, letters);

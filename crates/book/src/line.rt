@@ -55,13 +55,17 @@ pub(crate) fn line(
     event: u8,
     size: usize,
 ) -> Went
-    requires { ⌜ spec.Goes w (now images) (now octets) (now letters) (now room)
-        × (w .progress .begun ≡ true) × (w .progress .over ≡ false) × (w .progress .bus .periods .0 ≤ period)
-        × (period ≤ mostPeriods) × (length (valueOctets event (now value)) ≤ valueRoom) ⌝ }
+    requires { ⌜ spec.Goes w (now images) (now octets) (now letters) (now room) ⌝ }
+    requires { ⌜ w .progress .begun ≡ true ⌝ }
+    requires { ⌜ w .progress .over ≡ false ⌝ }
+    requires { ⌜ w .progress .bus .periods .0 ≤ period ⌝ }
+    requires { ⌜ period ≤ mostPeriods ⌝ }
+    requires { ⌜ length (valueOctets event (now value)) ≤ valueRoom ⌝ }
     ensures { λ r. ⌜ ((ends : Ends) → StepsBy (Entry period unit event ends size) (now (value .entry))
         (spec.standOf (w .progress) (now (images .entry)) (now (octets .entry)) (now (letters .entry))) (now (room .entry)) (w .wrote)
-        (spec.standOf (r .progress) (now (images .exit)) (now (octets .exit)) (now (letters .exit))) (r .taken) (now (room .exit)) (r .wrote) (r .why))
-        × (r .reply ≡ 0) ⌝ }
+        (spec.standOf (r .progress) (now (images .exit)) (now (octets .exit)) (now (letters .exit))) (r .taken) (now (room .exit))
+        (r .wrote) (r .why)) ⌝ }
+    ensures { λ r. ⌜ r .reply ≡ 0 ⌝ }
 {
     let u = run_to(w, images, octets, letters, room, period);
     if !has_room(room.len(), u.wrote) {

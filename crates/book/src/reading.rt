@@ -27,8 +27,8 @@ pub(crate) fn read_on(
     ensures { λ r. ⌜ Stopped (spec.standOf progress (now (images .entry)) (now (octets .entry)) (now (letters .entry)))
         (now (text .entry)) (now (room .entry)) whole
         (spec.standOf (r .progress) (now (images .exit)) (now (octets .exit)) (now (letters .exit)))
-        (r .taken) (r .wrote) (r .why) (now (room .exit))
-        × (r .reply ≡ 0) ⌝ }
+        (r .taken) (r .wrote) (r .why) (now (room .exit)) ⌝ }
+    ensures { λ r. ⌜ r .reply ≡ 0 ⌝ }
 {
     let mut w = untaken(progress);
     let mut reader = lent::new(text);

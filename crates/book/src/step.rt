@@ -66,13 +66,16 @@ fn carry_out(
     value: &[u8],
     room: &mut [u8],
 ) -> Went
-    requires { ⌜ spec.Goes w (now images) (now octets) (now letters) (now room)
-        × IsRead (spec.standOf (w .progress) (now images) (now octets) (now letters)) said (now value)
-        × (w .wrote + periodRoom ≤ length (now room)) × (w .progress .begun ≡ true) × (w .progress .over ≡ false) ⌝ }
+    requires { ⌜ spec.Goes w (now images) (now octets) (now letters) (now room) ⌝ }
+    requires { ⌜ IsRead (spec.standOf (w .progress) (now images) (now octets) (now letters)) said (now value) ⌝ }
+    requires { ⌜ w .wrote + periodRoom ≤ length (now room) ⌝ }
+    requires { ⌜ w .progress .begun ≡ true ⌝ }
+    requires { ⌜ w .progress .over ≡ false ⌝ }
     ensures { λ r. ⌜ StepsBy said (now (value .entry))
         (spec.standOf (w .progress) (now (images .entry)) (now (octets .entry)) (now (letters .entry))) (now (room .entry)) (w .wrote)
-        (spec.standOf (r .progress) (now (images .exit)) (now (octets .exit)) (now (letters .exit))) (r .taken) (now (room .exit)) (r .wrote) (r .why)
-        × (r .reply ≡ 0) ⌝ }
+        (spec.standOf (r .progress) (now (images .exit)) (now (octets .exit)) (now (letters .exit))) (r .taken) (now (room .exit))
+        (r .wrote) (r .why) ⌝ }
+    ensures { λ r. ⌜ r .reply ≡ 0 ⌝ }
 {
     let stage = w.progress.stage;
     match said {
@@ -115,12 +118,13 @@ pub(crate) fn step(
     value: &[u8],
     room: &mut [u8],
 ) -> Went
-    requires { ⌜ spec.Goes w (now images) (now octets) (now letters) (now room)
-        × IsRead (spec.standOf (w .progress) (now images) (now octets) (now letters)) said (now value) ⌝ }
+    requires { ⌜ spec.Goes w (now images) (now octets) (now letters) (now room) ⌝ }
+    requires { ⌜ IsRead (spec.standOf (w .progress) (now images) (now octets) (now letters)) said (now value) ⌝ }
     ensures { λ r. ⌜ StepsBy said (now (value .entry))
         (spec.standOf (w .progress) (now (images .entry)) (now (octets .entry)) (now (letters .entry))) (now (room .entry)) (w .wrote)
-        (spec.standOf (r .progress) (now (images .exit)) (now (octets .exit)) (now (letters .exit))) (r .taken) (now (room .exit)) (r .wrote) (r .why)
-        × (r .reply ≡ 0) ⌝ }
+        (spec.standOf (r .progress) (now (images .exit)) (now (octets .exit)) (now (letters .exit))) (r .taken) (now (room .exit))
+        (r .wrote) (r .why) ⌝ }
+    ensures { λ r. ⌜ r .reply ≡ 0 ⌝ }
 {
     if w.progress.over {
         return stays(w, w.progress.stage, 0, OVER);

@@ -41,12 +41,14 @@ fn advance(
     room: &mut [u8],
     to: u32,
 ) -> Until
-    requires { ⌜ Ready (found (u .bus) (u .terminals) (now images) (now octets) (now letters)) × (u .bus .periods .0 < to)
-        × (to ≤ mostPeriods) × (u .wrote + periodRoom ≤ length (now room)) ⌝ }
+    requires { ⌜ Ready (found (u .bus) (u .terminals) (now images) (now octets) (now letters)) ⌝ }
+    requires { ⌜ u .bus .periods .0 < to ⌝ }
+    requires { ⌜ to ≤ mostPeriods ⌝ }
+    requires { ⌜ u .wrote + periodRoom ≤ length (now room) ⌝ }
     ensures { λ r. ⌜ RunsTo (found (u .bus) (u .terminals) (now (images .entry)) (now (octets .entry)) (now (letters .entry)))
         to (now (room .entry)) (u .wrote)
-        (found (r .bus) (r .terminals) (now (images .entry)) (now (octets .exit)) (now (letters .entry))) (r .wrote) (now (room .exit))
-        × (u .bus .periods .0 < r .bus .periods .0) ⌝ }
+        (found (r .bus) (r .terminals) (now (images .entry)) (now (octets .exit)) (now (letters .entry))) (r .wrote) (now (room .exit)) ⌝ }
+    ensures { λ r. ⌜ u .bus .periods .0 < r .bus .periods .0 ⌝ }
 {
     let before = u.terminals;
     let g = bus_held::run(u.bus, before, images, octets, letters, to - u.bus.periods.0);
@@ -86,13 +88,15 @@ pub(crate) fn run_to(
     room: &mut [u8],
     to: u32,
 ) -> Until
-    requires { ⌜ Ready (found (w .progress .bus) (w .progress .terminals) (now images) (now octets) (now letters))
-        × (w .progress .bus .periods .0 ≤ to) × (to ≤ mostPeriods) × (w .wrote ≤ length (now room)) ⌝ }
+    requires { ⌜ Ready (found (w .progress .bus) (w .progress .terminals) (now images) (now octets) (now letters)) ⌝ }
+    requires { ⌜ w .progress .bus .periods .0 ≤ to ⌝ }
+    requires { ⌜ to ≤ mostPeriods ⌝ }
+    requires { ⌜ w .wrote ≤ length (now room) ⌝ }
     ensures { λ r. ⌜ RunsTo
         (found (w .progress .bus) (w .progress .terminals) (now (images .entry)) (now (octets .entry)) (now (letters .entry)))
         to (now (room .entry)) (w .wrote)
-        (found (r .bus) (r .terminals) (now (images .entry)) (now (octets .exit)) (now (letters .entry))) (r .wrote) (now (room .exit))
-        × (r .bus .periods .0 < to → length (now (room .entry)) < r .wrote + periodRoom) ⌝ }
+        (found (r .bus) (r .terminals) (now (images .entry)) (now (octets .exit)) (now (letters .entry))) (r .wrote) (now (room .exit)) ⌝ }
+    ensures { λ r. ⌜ (r .bus .periods .0 < to → length (now (room .entry)) < r .wrote + periodRoom) ⌝ }
 {
     let p = w.progress;
     let bus = p.bus;

@@ -17,7 +17,8 @@ pub struct Reader<'a> {
 
 // A reader of the text that has read nothing.
 pub fn new<'a>(text: &'a [u8]) -> Reader<'a>
-    ensures { λ r. ⌜ (r .text ≡ text .entry) × (r .at ≡ 0) ⌝ }
+    ensures { λ r. ⌜ r .text ≡ text .entry ⌝ }
+    ensures { λ r. ⌜ r .at ≡ 0 ⌝ }
 {
     Reader { text, at: 0 }
 }
@@ -38,7 +39,8 @@ pub fn value<'a>(r: Reader<'a>, said: Step) -> &'a [u8]
 
 // The reader moved on by so many octets, at most to the text's end.
 pub fn next<'a>(r: Reader<'a>, octets: usize) -> Reader<'a>
-    ensures { λ q. ⌜ (q .text ≡ r .entry .text) × (q .at ≡ movedOn (r .entry .at) octets (length (now (r .entry .text)))) ⌝ }
+    ensures { λ q. ⌜ q .text ≡ r .entry .text ⌝ }
+    ensures { λ q. ⌜ q .at ≡ movedOn (r .entry .at) octets (length (now (r .entry .text))) ⌝ }
 {
     let text = r.text;
     let at = moved_on(r.at, octets, text.len());

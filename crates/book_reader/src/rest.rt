@@ -6,7 +6,8 @@ use text::length::least;
 
 // Moves the octets from `from` to `end` to the front, as far as they are there, and says how many they are.
 pub fn keep(buf: &mut [u8], from: usize, end: usize) -> usize
-    ensures { λ r. ⌜ (r ≡ length (restOf from end (now (buf .entry)))) × (now (buf .exit) ≡ kept from end (now (buf .entry))) ⌝ }
+    ensures { λ r. ⌜ r ≡ length (restOf from end (now (buf .entry))) ⌝ }
+    ensures { λ _. ⌜ now (buf .exit) ≡ kept from end (now (buf .entry)) ⌝ }
 {
     let to = least(end, buf.len());
     let start = least(from, to);

@@ -49,7 +49,14 @@ pub fn event(
     event: u8,
     value: &[u8],
 ) -> Told
-    ensures { λ r. ⌜ (r ≡ eventTold unit event (now (value .entry)) bus (now (terminals .entry)) (now (images .entry)) (now (letters .entry))) × (now (terminals .exit) ≡ terminalsAfter unit event (now (value .entry)) bus (now (terminals .entry)) (now (images .entry)) (now (letters .entry))) × (now (images .exit) ≡ imagesAfter unit event (now (value .entry)) bus (now (terminals .entry)) (now (images .entry)) (now (letters .entry))) × (now (letters .exit) ≡ lettersAfter unit event (now (value .entry)) bus (now (terminals .entry)) (now (images .entry)) (now (letters .entry))) ⌝ }
+    ensures { λ r. ⌜ r
+        ≡ eventTold unit event (now (value .entry)) bus (now (terminals .entry)) (now (images .entry)) (now (letters .entry)) ⌝ }
+    ensures { λ _. ⌜ now (terminals .exit)
+        ≡ terminalsAfter unit event (now (value .entry)) bus (now (terminals .entry)) (now (images .entry)) (now (letters .entry)) ⌝ }
+    ensures { λ _. ⌜ now (images .exit)
+        ≡ imagesAfter unit event (now (value .entry)) bus (now (terminals .entry)) (now (images .entry)) (now (letters .entry)) ⌝ }
+    ensures { λ _. ⌜ now (letters .exit)
+        ≡ lettersAfter unit event (now (value .entry)) bus (now (terminals .entry)) (now (images .entry)) (now (letters .entry)) ⌝ }
 {
     let ready = in_range(terminals);
     let reason = first_reason(ready, bus, images.len(), letters, unit, event, value);

@@ -69,8 +69,8 @@ fn request(bus: BusRecord, event: u8) -> Told
 
 // An event of unit 0.
 pub(crate) fn network_event(bus: BusRecord, letters: &mut [u8], event: u8, value: &[u8]) -> Told
-    ensures { λ r. ⌜ (r ≡ spec.networkTold event bus)
-        × (now (letters .exit) ≡ spec.lettersAfter event (now (value .entry)) (now (letters .entry))) ⌝ }
+    ensures { λ r. ⌜ r ≡ spec.networkTold event bus ⌝ }
+    ensures { λ _. ⌜ now (letters .exit) ≡ spec.lettersAfter event (now (value .entry)) (now (letters .entry)) ⌝ }
 {
     if event == HIT {
         take_over(value, letters);

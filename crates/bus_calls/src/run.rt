@@ -26,7 +26,17 @@ pub fn run(
     notes: &mut [UnitNotes],
     most: u32,
 ) -> Ran
-    ensures { λ r. ⌜ (let k = kept bus (now (terminals .entry)) (now (images .entry)) (now (octets .entry)) (now (letters .entry)) (now (notes .entry)) in (r ≡ ran most k) × (now (terminals .exit) ≡ keptAfter most k .terminals) × (now (octets .exit) ≡ keptAfter most k .octets) × (now (notes .exit) ≡ keptAfter most k .notes)) ⌝ }
+    ensures { λ r. ⌜ r ≡ ran most
+        (kept bus (now (terminals .entry)) (now (images .entry)) (now (octets .entry)) (now (letters .entry)) (now (notes .entry))) ⌝ }
+    ensures { λ _. ⌜ now (terminals .exit) ≡ keptAfter most
+        (kept bus (now (terminals .entry)) (now (images .entry)) (now (octets .entry)) (now (letters .entry)) (now (notes .entry)))
+        .terminals ⌝ }
+    ensures { λ _. ⌜ now (octets .exit) ≡ keptAfter most
+        (kept bus (now (terminals .entry)) (now (images .entry)) (now (octets .entry)) (now (letters .entry)) (now (notes .entry)))
+        .octets ⌝ }
+    ensures { λ _. ⌜ now (notes .exit) ≡ keptAfter most
+        (kept bus (now (terminals .entry)) (now (images .entry)) (now (octets .entry)) (now (letters .entry)) (now (notes .entry)))
+        .notes ⌝ }
 {
     let ready = in_range(terminals);
     let reason = run_reason(
@@ -67,7 +77,17 @@ pub fn period(
     letters: &[u8],
     notes: &mut [UnitNotes],
 ) -> Ran
-    ensures { λ r. ⌜ (let k = kept bus (now (terminals .entry)) (now (images .entry)) (now (octets .entry)) (now (letters .entry)) (now (notes .entry)) in (r ≡ ran 1 k) × (now (terminals .exit) ≡ keptAfter 1 k .terminals) × (now (octets .exit) ≡ keptAfter 1 k .octets) × (now (notes .exit) ≡ keptAfter 1 k .notes)) ⌝ }
+    ensures { λ r. ⌜ r ≡ ran 1
+        (kept bus (now (terminals .entry)) (now (images .entry)) (now (octets .entry)) (now (letters .entry)) (now (notes .entry))) ⌝ }
+    ensures { λ _. ⌜ now (terminals .exit) ≡ keptAfter 1
+        (kept bus (now (terminals .entry)) (now (images .entry)) (now (octets .entry)) (now (letters .entry)) (now (notes .entry)))
+        .terminals ⌝ }
+    ensures { λ _. ⌜ now (octets .exit) ≡ keptAfter 1
+        (kept bus (now (terminals .entry)) (now (images .entry)) (now (octets .entry)) (now (letters .entry)) (now (notes .entry)))
+        .octets ⌝ }
+    ensures { λ _. ⌜ now (notes .exit) ≡ keptAfter 1
+        (kept bus (now (terminals .entry)) (now (images .entry)) (now (octets .entry)) (now (letters .entry)) (now (notes .entry)))
+        .notes ⌝ }
 {
     run(bus, terminals, images, octets, letters, notes, 1)
 }

@@ -32,7 +32,11 @@ pub(crate) fn step(
     notes: &mut [UnitNotes],
 ) -> Ran
     requires { ⌜ length (now notes) ≡ length (now terminals) ⌝ }
-    ensures { λ r. ⌜ (r ≡ stepRan bus (now (terminals .entry)) (now (images .entry)) (now (octets .entry)) (now (letters .entry))) × (now (terminals .exit) ≡ stepTerminals bus (now (terminals .entry)) (now (images .entry)) (now (letters .entry))) × (now (octets .exit) ≡ stepOctets bus (now (terminals .entry)) (now (images .entry)) (now (octets .entry)) (now (letters .entry))) × (now (notes .exit) ≡ stepNotes bus (now (terminals .entry)) (now (images .entry)) (now (letters .entry))) ⌝ }
+    ensures { λ r. ⌜ r ≡ stepRan bus (now (terminals .entry)) (now (images .entry)) (now (octets .entry)) (now (letters .entry)) ⌝ }
+    ensures { λ _. ⌜ now (terminals .exit) ≡ stepTerminals bus (now (terminals .entry)) (now (images .entry)) (now (letters .entry)) ⌝ }
+    ensures { λ _. ⌜ now (octets .exit)
+        ≡ stepOctets bus (now (terminals .entry)) (now (images .entry)) (now (octets .entry)) (now (letters .entry)) ⌝ }
+    ensures { λ _. ⌜ now (notes .exit) ≡ stepNotes bus (now (terminals .entry)) (now (images .entry)) (now (letters .entry)) ⌝ }
 {
     let first = first_moment(bus, letters);
     let moment = exchange(terminals, images, first);

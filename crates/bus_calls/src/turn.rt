@@ -30,7 +30,8 @@ pub struct Turn {
 
 // A turn of these two.
 fn turned(ran: Ran, over: u32) -> Turn
-    ensures { λ r. ⌜ (r .ran ≡ ran) × (r .over ≡ over) ⌝ }
+    ensures { λ r. ⌜ r .ran ≡ ran ⌝ }
+    ensures { λ r. ⌜ r .over ≡ over ⌝ }
 {
     Turn { ran, over }
 }
@@ -44,7 +45,8 @@ fn none_run(alone: Alone) -> bool
 
 // A run alone as a turn: its last period, and how many were run before it.
 fn turn_alone(alone: Alone) -> Turn
-    ensures { λ r. ⌜ (r .ran ≡ alone .ran) × (r .over ≡ alone .over - 1) ⌝ }
+    ensures { λ r. ⌜ r .ran ≡ alone .ran ⌝ }
+    ensures { λ r. ⌜ r .over ≡ alone .over - 1 ⌝ }
 {
     if alone.over == 0 {
         return turned(alone.ran, 0);
@@ -63,7 +65,11 @@ fn leap_on(
     left: u32,
 ) -> Turn
     requires { ⌜ length (now notes) ≡ length (now terminals) ⌝ }
-    ensures { λ r. ⌜ Turns left (kept bus (now (terminals .entry)) (now (images .entry)) (now (octets .entry)) (now (letters .entry)) (now (notes .entry))) (r .ran) (r .over) (kept (r .ran .bus) (now (terminals .exit)) (now (images .entry)) (now (octets .exit)) (now (letters .entry)) (now (notes .exit))) ⌝ }
+    ensures { λ r. ⌜ Turns left
+        (kept bus (now (terminals .entry)) (now (images .entry)) (now (octets .entry)) (now (letters .entry)) (now (notes .entry)))
+        (r .ran) (r .over)
+        (kept (r .ran .bus) (now (terminals .exit)) (now (images .entry)) (now (octets .exit)) (now (letters .entry))
+        (now (notes .exit))) ⌝ }
 {
     let over = reach(bus, terminals, left);
     let ran = step(leapt(bus, over), terminals, images, octets, letters, notes);
@@ -81,7 +87,11 @@ pub(crate) fn advance(
     left: u32,
 ) -> Turn
     requires { ⌜ length (now notes) ≡ length (now terminals) ⌝ }
-    ensures { λ r. ⌜ Turns left (kept bus (now (terminals .entry)) (now (images .entry)) (now (octets .entry)) (now (letters .entry)) (now (notes .entry))) (r .ran) (r .over) (kept (r .ran .bus) (now (terminals .exit)) (now (images .entry)) (now (octets .exit)) (now (letters .entry)) (now (notes .exit))) ⌝ }
+    ensures { λ r. ⌜ Turns left
+        (kept bus (now (terminals .entry)) (now (images .entry)) (now (octets .entry)) (now (letters .entry)) (now (notes .entry)))
+        (r .ran) (r .over)
+        (kept (r .ran .bus) (now (terminals .exit)) (now (images .entry)) (now (octets .exit)) (now (letters .entry))
+        (now (notes .exit))) ⌝ }
 {
     if in_vain(bus) {
         return leap_on(bus, terminals, images, octets, letters, notes, left);

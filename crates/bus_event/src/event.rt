@@ -91,8 +91,12 @@ pub fn first_reason(
 
 // The image of a body goes to the room of terminal i; its length in bits.
 fn put_image(images: &mut [u8], i: usize, value: &[u8]) -> u16
-    requires { ⌜ (i < terminals) × (length (now images) ≡ terminals * imageRoom) × (1 ≤ length (now value)) × (length (now value) ≤ longestBody) ⌝ }
-    ensures { λ r. ⌜ (r ≡ length (image (now (value .entry)))) × (now (images .exit) ≡ spec.imagePut i (now (value .entry)) (now (images .entry))) ⌝ }
+    requires { ⌜ i < terminals ⌝ }
+    requires { ⌜ length (now images) ≡ terminals * imageRoom ⌝ }
+    requires { ⌜ 1 ≤ length (now value) ⌝ }
+    requires { ⌜ length (now value) ≤ longestBody ⌝ }
+    ensures { λ r. ⌜ r ≡ length (image (now (value .entry))) ⌝ }
+    ensures { λ _. ⌜ now (images .exit) ≡ spec.imagePut i (now (value .entry)) (now (images .entry)) ⌝ }
 {
     let from = i * IMAGE_ROOM;
     let to = from + IMAGE_ROOM;
@@ -140,7 +144,8 @@ fn give_frame(
     class: Class,
     value: &[u8],
 ) -> TerminalStep
-    ensures { λ r. ⌜ (r ≡ spec.frameGiven class (now (images .entry)) i (now (value .entry)) terminal) × (now (images .exit) ≡ spec.imagesWith terminal i (now (value .entry)) (now (images .entry))) ⌝ }
+    ensures { λ r. ⌜ r ≡ spec.frameGiven class (now (images .entry)) i (now (value .entry)) terminal ⌝ }
+    ensures { λ _. ⌜ now (images .exit) ≡ spec.imagesWith terminal i (now (value .entry)) (now (images .entry)) ⌝ }
 {
     let reason = frame_reason(terminal, images.len(), i, value.len());
     if reason != 0 {
@@ -159,7 +164,8 @@ pub fn terminal_event(
     value: &[u8],
     period: Periods,
 ) -> TerminalStep
-    ensures { λ r. ⌜ (r ≡ spec.terminalTold event (now (images .entry)) i (now (value .entry)) period terminal) × (now (images .exit) ≡ spec.imagesAfter event terminal i (now (value .entry)) (now (images .entry))) ⌝ }
+    ensures { λ r. ⌜ r ≡ spec.terminalTold event (now (images .entry)) i (now (value .entry)) period terminal ⌝ }
+    ensures { λ _. ⌜ now (images .exit) ≡ spec.imagesAfter event terminal i (now (value .entry)) (now (images .entry)) ⌝ }
 {
     match event {
         ON => terminal.switch_on(period),

@@ -38,7 +38,8 @@ const NONE: UnitNotes = UnitNotes {
 
 // One D opportunity.
 pub fn opportunity(before: [Terminal; 8], images: &[u8], moment: Moment) -> HeldMoment
-    ensures { λ r. ⌜ (r .moment ≡ opportunities.momentAfter (now (images .entry)) moment before) × (r .terminals ≡ opportunities.terminalsAfter (now (images .entry)) moment before) ⌝ }
+    ensures { λ r. ⌜ r .moment ≡ opportunities.momentAfter (now (images .entry)) moment before ⌝ }
+    ensures { λ r. ⌜ r .terminals ≡ opportunities.terminalsAfter (now (images .entry)) moment before ⌝ }
 {
     let mut terminals = before;
     let after = exchange::opportunity::opportunity(&mut terminals, images, moment);
@@ -58,7 +59,13 @@ pub fn event(
     event: u8,
     value: &[u8],
 ) -> HeldEvent
-    ensures { λ r. ⌜ (r .told ≡ events.eventTold unit event (now (value .entry)) bus before (now (images .entry)) (now (letters .entry))) × (r .terminals ≡ events.terminalsAfter unit event (now (value .entry)) bus before (now (images .entry)) (now (letters .entry))) × (now (images .exit) ≡ events.imagesAfter unit event (now (value .entry)) bus before (now (images .entry)) (now (letters .entry))) × (now (letters .exit) ≡ events.lettersAfter unit event (now (value .entry)) bus before (now (images .entry)) (now (letters .entry))) ⌝ }
+    ensures { λ r. ⌜ r .told ≡ events.eventTold unit event (now (value .entry)) bus before (now (images .entry)) (now (letters .entry)) ⌝ }
+    ensures { λ r. ⌜ r .terminals
+        ≡ events.terminalsAfter unit event (now (value .entry)) bus before (now (images .entry)) (now (letters .entry)) ⌝ }
+    ensures { λ _. ⌜ now (images .exit)
+        ≡ events.imagesAfter unit event (now (value .entry)) bus before (now (images .entry)) (now (letters .entry)) ⌝ }
+    ensures { λ _. ⌜ now (letters .exit)
+        ≡ events.lettersAfter unit event (now (value .entry)) bus before (now (images .entry)) (now (letters .entry)) ⌝ }
 {
     let mut terminals = before;
     let told = bus_calls::event::event(bus, &mut terminals, images, letters, unit, event, value);
@@ -74,7 +81,13 @@ pub fn run(
     letters: &[u8],
     most: u32,
 ) -> HeldRun
-    ensures { λ r. ⌜ (let k = found bus before (now (images .entry)) (now (octets .entry)) (now (letters .entry)) in (r .ran ≡ ran most k) × (r .terminals ≡ keptAfter most k .terminals) × (r .notes ≡ keptAfter most k .notes) × (now (octets .exit) ≡ keptAfter most k .octets)) ⌝ }
+    ensures { λ r. ⌜ r .ran ≡ ran most (found bus before (now (images .entry)) (now (octets .entry)) (now (letters .entry))) ⌝ }
+    ensures { λ r. ⌜ r .terminals
+        ≡ keptAfter most (found bus before (now (images .entry)) (now (octets .entry)) (now (letters .entry))) .terminals ⌝ }
+    ensures { λ r. ⌜ r .notes
+        ≡ keptAfter most (found bus before (now (images .entry)) (now (octets .entry)) (now (letters .entry))) .notes ⌝ }
+    ensures { λ _. ⌜ now (octets .exit)
+        ≡ keptAfter most (found bus before (now (images .entry)) (now (octets .entry)) (now (letters .entry))) .octets ⌝ }
 {
     let mut terminals = before;
     let mut notes = [NONE; 8];

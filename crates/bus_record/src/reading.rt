@@ -1,6 +1,7 @@
 // The network end reads the four D of a period.
 ghost use mathlib.Core.Path.{_≡_};
-ghost use Rattle.bus_record.specs.Reading.{quietReading, spokenTo, octetsTo, readerWaits, spokenToFour, octetsToFour, readIn, octetsIn};
+ghost use Rattle.bus_record.specs.Reading.{quietReading, spokenTo, octetsTo, readerWaits};
+ghost use Rattle.bus_record.specs.Reading.{spokenToFour, octetsToFour, readIn, octetsIn};
 use cells::notes::HEARD;
 use cells::notes::TORN;
 use frame::fields::Four;
@@ -29,7 +30,8 @@ fn quiet(reader: Reader) -> Spoken
 impl Spoken {
     // One bit more.
     fn read_on(self, bit: bool, octets: &mut [u8]) -> Self
-        ensures { λ r. ⌜ (r ≡ spokenTo bit (now (octets .entry)) self) × (now (octets .exit) ≡ octetsTo bit self (now (octets .entry))) ⌝ }
+        ensures { λ r. ⌜ r ≡ spokenTo bit (now (octets .entry)) self ⌝ }
+        ensures { λ _. ⌜ now (octets .exit) ≡ octetsTo bit self (now (octets .entry)) ⌝ }
     {
         let read = self.reader.read(bit, octets);
         let reader = read.reader;
@@ -63,7 +65,8 @@ pub fn waits(reader: Reader) -> bool
 
 // The four D of a period.
 fn read_four(start: Spoken, ds: Four, octets: &mut [u8]) -> Spoken
-    ensures { λ r. ⌜ (r ≡ spokenToFour ds (now (octets .entry)) start) × (now (octets .exit) ≡ octetsToFour ds start (now (octets .entry))) ⌝ }
+    ensures { λ r. ⌜ r ≡ spokenToFour ds (now (octets .entry)) start ⌝ }
+    ensures { λ _. ⌜ now (octets .exit) ≡ octetsToFour ds start (now (octets .entry)) ⌝ }
 {
     let first = start.read_on(ds.first, octets);
     let second = first.read_on(ds.second, octets);
@@ -73,7 +76,8 @@ fn read_four(start: Spoken, ds: Four, octets: &mut [u8]) -> Spoken
 
 // In G3 the four D of a period are read.
 pub fn read_in(state: u8, reader: Reader, ds: Four, octets: &mut [u8]) -> Spoken
-    ensures { λ r. ⌜ (r ≡ readIn state ds (now (octets .entry)) reader) × (now (octets .exit) ≡ octetsIn state ds reader (now (octets .entry))) ⌝ }
+    ensures { λ r. ⌜ r ≡ readIn state ds (now (octets .entry)) reader ⌝ }
+    ensures { λ _. ⌜ now (octets .exit) ≡ octetsIn state ds reader (now (octets .entry)) ⌝ }
 {
     let start = quiet(reader);
     if state != G3 {

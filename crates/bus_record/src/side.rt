@@ -1,7 +1,8 @@
 // The network end's side of a period: it reads D, hears the upward line, and then come the timers due at the next one's start.
 ghost use mathlib.Core.Path.{_≡_};
 ghost use Rattle.bus.specs.Quick.{shownFrom};
-ghost use Rattle.bus_record.specs.NetworkSide.{readerAfter, networkRests, networkListens, countedAfter, ranWith, ranAfter, octetsAfter, refusedRun};
+ghost use Rattle.bus_record.specs.NetworkSide.{readerAfter, networkRests, networkListens, countedAfter};
+ghost use Rattle.bus_record.specs.NetworkSide.{ranWith, ranAfter, octetsAfter, refusedRun};
 use super::reading::Spoken;
 use super::reading::read_in;
 use super::record::BusRecord;
@@ -152,7 +153,8 @@ fn ran_with(bus: BusRecord, moment: Moment, spoken: Spoken, side: NetworkHeard, 
 
 // The network end's side of a period, after the exchange and the terminals' hearing.
 pub fn network_side(bus: BusRecord, moment: Moment, octets: &mut [u8], told: bool) -> Ran
-    ensures { λ r. ⌜ (r ≡ ranAfter bus moment (now (octets .entry)) told) × (now (octets .exit) ≡ octetsAfter bus moment (now (octets .entry))) ⌝ }
+    ensures { λ r. ⌜ r ≡ ranAfter bus moment (now (octets .entry)) told ⌝ }
+    ensures { λ _. ⌜ now (octets .exit) ≡ octetsAfter bus moment (now (octets .entry)) ⌝ }
 {
     let spoken = read_in(bus.network.state, bus.reader, moment.ds, octets);
     let side = network_listens(

@@ -61,7 +61,8 @@ fn resolve(out: &mut [u8])
 fn gather(lines: &[u8], out: &mut [u8])
     requires { ⌜ length (now lines) ≡ linesLength ⌝ }
     requires { ⌜ length (now out) ≡ lineLength ⌝ }
-    ensures { λ _. ⌜ now (out .exit) ≡ lineBy (λ i. gathered (getD (now (out .entry)) i none) (column i (rows terminals (now (lines .entry))))) ⌝ }
+    ensures { λ _. ⌜ now (out .exit)
+        ≡ lineBy (λ i. gathered (getD (now (out .entry)) i none) (column i (rows terminals (now (lines .entry))))) ⌝ }
 {
     let mut n: usize = 0;
     while n < TERMINALS {
@@ -75,7 +76,8 @@ fn gather(lines: &[u8], out: &mut [u8])
 // Combines the eight terminals' lines, lent as 8 times 48 octets, or replies 2 for a wrong length or code.
 pub fn combine(lines: &[u8], out: &mut [u8]) -> Combined
     ensures reply { λ r. ⌜ r ≡ combinedReply (combineFits (now (lines .entry)) (now (out .entry))) ⌝ }
-    ensures octets { λ _. ⌜ now (out .exit) ≡ leaves (combineFits (now (lines .entry)) (now (out .entry))) (eight (now (lines .entry))) (now (out .entry)) ⌝ }
+    ensures octets { λ _. ⌜ now (out .exit)
+        ≡ leaves (combineFits (now (lines .entry)) (now (out .entry))) (eight (now (lines .entry))) (now (out .entry)) ⌝ }
 {
     if out.len() != LINE_LENGTH {
         return Combined::Refused(2);

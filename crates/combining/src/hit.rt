@@ -49,7 +49,8 @@ fn strike(line: &mut [u8], letters: &[u8])
 // Applies a hit: 0, or 2 where what is lent is no line or not 48 letters.
 pub fn apply_hit(line: &mut [u8], letters: &[u8]) -> u8
     ensures reply { λ r. ⌜ r ≡ reply (hitFits (now (letters .entry)) (now (line .entry))) ⌝ }
-    ensures octets { λ _. ⌜ now (line .exit) ≡ leaves (hitFits (now (letters .entry)) (now (line .entry))) (hit (now (letters .entry)) (now (line .entry))) (now (line .entry)) ⌝ }
+    ensures octets { λ _. ⌜ now (line .exit) ≡ leaves (hitFits (now (letters .entry)) (now (line .entry)))
+        (hit (now (letters .entry)) (now (line .entry))) (now (line .entry)) ⌝ }
 {
     if fits(line, LINE_LENGTH, MINUS) {
         if fits(letters, LINE_LENGTH, NONE_LETTER) {

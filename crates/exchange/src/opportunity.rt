@@ -8,7 +8,8 @@ use terminal::Terminal;
 
 // One D opportunity: an E that all terminals in F7 hear, and the D after it.
 pub fn opportunity(terminals: &mut [Terminal], images: &[u8], before: Moment) -> Moment
-    ensures { λ r. ⌜ (r ≡ momentAfter (now (images .entry)) before (now (terminals .entry))) × (now (terminals .exit) ≡ terminalsAfter (now (images .entry)) before (now (terminals .entry))) ⌝ }
+    ensures { λ r. ⌜ r ≡ momentAfter (now (images .entry)) before (now (terminals .entry)) ⌝ }
+    ensures { λ _. ⌜ now (terminals .exit) ≡ terminalsAfter (now (images .entry)) before (now (terminals .entry)) ⌝ }
 {
     let mut moment = before.begun();
     let mut i: usize = 0;
@@ -24,7 +25,8 @@ pub fn opportunity(terminals: &mut [Terminal], images: &[u8], before: Moment) ->
 
 // The four D opportunities of a period, one after the other.
 fn four_turns(terminals: &mut [Terminal], images: &[u8], first: Moment) -> Moment
-    ensures { λ r. ⌜ (r ≡ momentAfterFour (now (images .entry)) first (now (terminals .entry))) × (now (terminals .exit) ≡ terminalsAfterFour (now (images .entry)) first (now (terminals .entry))) ⌝ }
+    ensures { λ r. ⌜ r ≡ momentAfterFour (now (images .entry)) first (now (terminals .entry)) ⌝ }
+    ensures { λ _. ⌜ now (terminals .exit) ≡ terminalsAfterFour (now (images .entry)) first (now (terminals .entry)) ⌝ }
 {
     let second = opportunity(terminals, images, first);
     let third = opportunity(terminals, images, second);
@@ -34,7 +36,8 @@ fn four_turns(terminals: &mut [Terminal], images: &[u8], first: Moment) -> Momen
 
 // The four D opportunities of a period. Where the E are 1 and no terminal takes part, nothing changes.
 pub fn exchange(terminals: &mut [Terminal], images: &[u8], first: Moment) -> Moment
-    ensures { λ r. ⌜ (r ≡ momentAfterFour (now (images .entry)) first (now (terminals .entry))) × (now (terminals .exit) ≡ terminalsAfterFour (now (images .entry)) first (now (terminals .entry))) ⌝ }
+    ensures { λ r. ⌜ r ≡ momentAfterFour (now (images .entry)) first (now (terminals .entry)) ⌝ }
+    ensures { λ _. ⌜ now (terminals .exit) ≡ terminalsAfterFour (now (images .entry)) first (now (terminals .entry)) ⌝ }
 {
     if first.must_turn() {
         return four_turns(terminals, images, first);

@@ -11,21 +11,24 @@ use super::fields::DownFields;
 use super::fields::UpFields;
 
 fn bit(b: bool) -> u64
-    ensures { λ r. ⌜ (r ≡ bit b) × (r < 2) ⌝ }
+    ensures { λ r. ⌜ r ≡ bit b ⌝ }
+    ensures { λ r. ⌜ r < 2 ⌝ }
 {
     if b { 1 } else { 0 }
 }
 
 // An octet and the three bits after it.
 fn part(octet: u8, x: bool, y: bool, z: bool) -> u64
-    ensures { λ r. ⌜ (r ≡ numberHighFirst (octetBits octet ++ (x ∷ y ∷ z ∷ []))) × (r < 2048) ⌝ }
+    ensures { λ r. ⌜ r ≡ numberHighFirst (octetBits octet ++ (x ∷ y ∷ z ∷ [])) ⌝ }
+    ensures { λ r. ⌜ r < 2048 ⌝ }
 {
     (octet as u64) * 8 + bit(x) * 4 + bit(y) * 2 + bit(z)
 }
 
 // An octet with its L, and a D bit with its L. Of an octet's eight bits an even number is 1 exactly if an even number is 0.
 fn group(octet: u8, d: bool) -> u64
-    ensures { λ r. ⌜ (r ≡ numberHighFirst (balanced (octetBits octet) ++ single d)) × (r < 2048) ⌝ }
+    ensures { λ r. ⌜ r ≡ numberHighFirst (balanced (octetBits octet) ++ single d) ⌝ }
+    ensures { λ r. ⌜ r < 2048 ⌝ }
 {
     part(octet, u8::count_ones(octet) % 2 == 0, d, d)
 }

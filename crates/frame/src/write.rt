@@ -30,7 +30,8 @@ fn symbol(b: bool, next: u8) -> u8
 // The polarity of the next pulse after that bit.
 fn turned(b: bool, next: u8) -> u8
     requires { ⌜ next < 4 ⌝ }
-    ensures { λ r. ⌜ (r ≡ cond b next (opposite next)) × (r < 4) ⌝ }
+    ensures { λ r. ⌜ r ≡ cond b next (opposite next) ⌝ }
+    ensures { λ r. ⌜ r < 4 ⌝ }
 {
     if b { next } else { 3 - next }
 }
@@ -38,7 +39,8 @@ fn turned(b: bool, next: u8) -> u8
 // Writes the line of a frame whose bits 3 to 48 are w's 46 bits, the highest first.
 fn emit(w: u64, out: &mut [u8]) -> u8
     ensures reply { λ r. ⌜ r ≡ reply (hasLineLength (now (out .entry))) ⌝ }
-    ensures octets { λ _. ⌜ now (out .exit) ≡ leaves (hasLineLength (now (out .entry))) (symbols (false ∷ false ∷ topBits 46 w)) (now (out .entry)) ⌝ }
+    ensures octets { λ _. ⌜ now (out .exit)
+        ≡ leaves (hasLineLength (now (out .entry))) (symbols (false ∷ false ∷ topBits 46 w)) (now (out .entry)) ⌝ }
 {
     if out.len() != LINE_LENGTH {
         return 2;

@@ -56,7 +56,10 @@ fn octet_at(line: &[u8], at: usize) -> u8
 
 // The bits at four indices.
 fn four_at(line: &[u8], i: usize, j: usize, k: usize, l: usize) -> Four
-    requires { ⌜ (i < length (now line)) × (j < length (now line)) × (k < length (now line)) × (l < length (now line)) ⌝ }
+    requires { ⌜ i < length (now line) ⌝ }
+    requires { ⌜ j < length (now line) ⌝ }
+    requires { ⌜ k < length (now line) ⌝ }
+    requires { ⌜ l < length (now line) ⌝ }
     ensures { λ r. ⌜ r ≡ fourAt (i + 1) (j + 1) (k + 1) (l + 1) (levels (now (line .entry))) ⌝ }
 {
     Four {

@@ -22,8 +22,8 @@ pub extern "C" fn sbus_book_length() -> usize
 // A book of which nothing has been read, on a fresh bus: 0, or 1 where what is lent has not the length of a book.
 #[no_mangle]
 pub extern "C" fn sbus_book_fresh(book: &mut [u8]) -> u32
-    ensures { λ r. ⌜ (r ≡ cond (eqb (length (now (book .entry))) bookLength) 0 1)
-        × (now (book .exit) ≡ cond (eqb (length (now (book .entry))) bookLength) freshBook (now (book .entry))) ⌝ }
+    ensures { λ r. ⌜ r ≡ cond (eqb (length (now (book .entry))) bookLength) 0 1 ⌝ }
+    ensures { λ _. ⌜ now (book .exit) ≡ cond (eqb (length (now (book .entry))) bookLength) freshBook (now (book .entry)) ⌝ }
 {
     if book.len() != BOOK_LENGTH {
         return 1;

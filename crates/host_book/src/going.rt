@@ -94,8 +94,8 @@ fn going_reason(book: &[u8], went: usize) -> u32
     }
 }
 
-// Goes on with a book in lent text, its report in lent room, until it needs more text or room, or is finished; `whole` other than 0 says that the
-// text reaches to the book's end.
+// Goes on with a book in lent text, its report in lent room, until it needs more text or room, or
+// is finished; `whole` other than 0 says that the text reaches to the book's end.
 #[no_mangle]
 pub extern "C" fn sbus_book_go_on(
     book: &mut [u8],

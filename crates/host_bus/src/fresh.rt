@@ -24,8 +24,8 @@ pub extern "C" fn sbus_bus_length() -> usize
 // A fresh bus: 0, or 1 where what is lent has not the length of a bus.
 #[no_mangle]
 pub extern "C" fn sbus_fresh(bus: &mut [u8]) -> u32
-    ensures { λ r. ⌜ (r ≡ cond (eqb (length (now (bus .entry))) busLength) 0 1)
-        × (now (bus .exit) ≡ cond (eqb (length (now (bus .entry))) busLength) freshOctets (now (bus .entry))) ⌝ }
+    ensures { λ r. ⌜ r ≡ cond (eqb (length (now (bus .entry))) busLength) 0 1 ⌝ }
+    ensures { λ _. ⌜ now (bus .exit) ≡ cond (eqb (length (now (bus .entry))) busLength) freshOctets (now (bus .entry)) ⌝ }
 {
     if bus.len() != BUS_LENGTH {
         return 1;

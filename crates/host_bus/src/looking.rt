@@ -24,8 +24,8 @@ const LAST_UNIT: u32 = TERMINALS as u32;
 // Periods run and D opportunities run: 0, or 1 or 2 where less than eight octets are lent for them.
 #[no_mangle]
 pub extern "C" fn sbus_counts(bus: &[u8], counts: &mut [u8]) -> u32
-    ensures { λ r. ⌜ (r ≡ countsReply (now (bus .entry)) (now (counts .entry)))
-        × (now (counts .exit) ≡ countsAfter (now (bus .entry)) (now (counts .entry))) ⌝ }
+    ensures { λ r. ⌜ r ≡ countsReply (now (bus .entry)) (now (counts .entry)) ⌝ }
+    ensures { λ _. ⌜ now (counts .exit) ≡ countsAfter (now (bus .entry)) (now (counts .entry)) ⌝ }
 {
     let reason = lent_reason(bus, counts.len(), COUNTS);
     if reason != 0 {
@@ -75,8 +75,8 @@ fn unit_seen(bus: &[u8], unit: u32) -> [u8; SEEN]
 // A unit's state, alignment and held frame: 0, or 1, 2 where less than seven octets are lent for them, or 3.
 #[no_mangle]
 pub extern "C" fn sbus_unit(bus: &[u8], unit: u32, seen: &mut [u8]) -> u32
-    ensures { λ r. ⌜ (r ≡ unitReply unit (now (bus .entry)) (now (seen .entry)))
-        × (now (seen .exit) ≡ unitAfter unit (now (bus .entry)) (now (seen .entry))) ⌝ }
+    ensures { λ r. ⌜ r ≡ unitReply unit (now (bus .entry)) (now (seen .entry)) ⌝ }
+    ensures { λ _. ⌜ now (seen .exit) ≡ unitAfter unit (now (bus .entry)) (now (seen .entry)) ⌝ }
 {
     let reason = lent_reason(bus, seen.len(), SEEN);
     if reason != 0 {

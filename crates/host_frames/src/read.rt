@@ -26,7 +26,8 @@ fn read_as(up: u32, symbols: &[u8]) -> ReadDown
 #[no_mangle]
 pub extern "C" fn sbus_read_frame(up: u32, symbols: &[u8], fields: &mut [u8]) -> u32
     ensures reply { λ r. ⌜ r ≡ replyOf (frameRead up (now (symbols .entry)) (now (fields .entry))) ⌝ }
-    ensures octets { λ _. ⌜ now (fields .exit) ≡ leftOf (frameRead up (now (symbols .entry)) (now (fields .entry))) (now (fields .entry)) ⌝ }
+    ensures octets { λ _. ⌜ now (fields .exit)
+        ≡ leftOf (frameRead up (now (symbols .entry)) (now (fields .entry))) (now (fields .entry)) ⌝ }
 {
     if fields.len() != FIELDS {
         return 2;

@@ -28,7 +28,8 @@ fn accepts(up: u32, fields: &[u8]) -> bool
 #[no_mangle]
 pub extern "C" fn sbus_write_frame(up: u32, fields: &[u8], symbols: &mut [u8]) -> u32
     ensures reply { λ r. ⌜ r ≡ replyOf (frameWritten up (now (fields .entry)) (now (symbols .entry))) ⌝ }
-    ensures octets { λ _. ⌜ now (symbols .exit) ≡ leftOf (frameWritten up (now (fields .entry)) (now (symbols .entry))) (now (symbols .entry)) ⌝ }
+    ensures octets { λ _. ⌜ now (symbols .exit)
+        ≡ leftOf (frameWritten up (now (fields .entry)) (now (symbols .entry))) (now (symbols .entry)) ⌝ }
 {
     if !accepts(up, fields) {
         return 2;

@@ -16,20 +16,20 @@ use Rattle.host_steps.specs.Stepping.{notesOctets, reason, replyWith, bu
 
 module _ (s room : List ℕ) (reply : ℕ) (left : Kept) (notes : List Note) where
   abbrev pub Answered : ℕ → List ℕ → List ℕ → Type 0
-  Answered r s′ room′ = (r ≡ replyWith s room reply) × (s′ ≡ busWith s room left) × (room′ ≡ notesWith s room reply notes)
+  Answered r s′ room′ = (r ≡ replyWith s room reply) × ((s′ ≡ busWith s room left) × (room′ ≡ notesWith s room reply notes))
 
   pub not-lent : (r : ℕ) → r ≡ reason s room → (r ≡ 0 → ⊥) → Answered r s room
   unfolding replyWith busWith notesWith
-  not-lent r e n = let f = ne-eqb r 0 n in (rw (← e, f), rw (← e, f), rw (← e, f, f))
+  not-lent r e n = let f = ne-eqb r 0 n in (rw (← e, f), (rw (← e, f), rw (← e, f, f)))
 
   module _ (r : ℕ) (e : r ≡ reason s room) (z : r ≡ 0) where
     pub turned-down : (reply ≡ 0 → ⊥) → Answered reply (busOctets left) room
     unfolding replyWith busWith notesWith
-    turned-down n = let f = eq-eqb r 0 z in (rw (← e, f), rw (← e, f), rw (← e, f, ne-eqb reply 0 n))
+    turned-down n = let f = eq-eqb r 0 z in (rw (← e, f), (rw (← e, f), rw (← e, f, ne-eqb reply 0 n)))
 
     pub stepped : reply ≡ 0 → Answered 0 (busOctets left) (laid room 0 (notesOctets notes))
     unfolding replyWith busWith notesWith
-    stepped y = let f = eq-eqb r 0 z in (rw (← e, f, y), rw (← e, f), rw (← e, f, y))
+    stepped y = let f = eq-eqb r 0 z in (rw (← e, f, y), (rw (← e, f), rw (← e, f, y)))
 
 -- ---- What is lent is a bus, where neither 1 nor 2 holds.
 pub lent-bus : (s : List ℕ) (room needed r : ℕ) → r ≡ lentReason s room needed → r ≡ 0 → isBus s ≡ true

@@ -24,7 +24,7 @@ use Rattle.host_steps.proofs.Answers.{not-lent, turned-down, stepped, l
 module _ (s room : List ℕ) where
   -- ---- An event or a period.
   abbrev Ended : Call → ℕ → List ℕ → List ℕ → Type 0
-  Ended c r s′ room′ = (r ≡ hostReply s room c) × (s′ ≡ hostBus s room c) × (room′ ≡ hostNotes s room c)
+  Ended c r s′ room′ = (r ≡ hostReply s room c) × ((s′ ≡ hostBus s room c) × (room′ ≡ hostNotes s room c))
 
   pub event-not-lent : (c : Call) (r : ℕ) → r ≡ reason s room → (r ≡ 0 → ⊥) → Ended c r s room
   unfolding hostReply hostBus hostNotes
@@ -63,7 +63,7 @@ module _ (s room : List ℕ) where
   -- ---- A run.
   module _ (most : ℕ) where
     abbrev pub Ran-to : ℕ → List ℕ → List ℕ → Type 0
-    Ran-to r s′ room′ = (r ≡ hostRunReply s room most) × (s′ ≡ hostRunBus s room most) × (room′ ≡ hostRunNotes s room most)
+    Ran-to r s′ room′ = (r ≡ hostRunReply s room most) × ((s′ ≡ hostRunBus s room most) × (room′ ≡ hostRunNotes s room most))
 
     pub run-not-lent : (r : ℕ) → r ≡ reason s room → (r ≡ 0 → ⊥) → Ran-to r s room
     unfolding hostRunReply hostRunBus hostRunNotes
@@ -94,4 +94,4 @@ module _ (s room : List ℕ) where
   -- a run of one period is a period
   pub period-ended : (r : ℕ) (s′ room′ : List ℕ) → Ran-to 1 r s′ room′ → Ended period r s′ room′
   unfolding hostRunReply hostRunBus hostRunNotes hostReply hostBus hostNotes replied called
-  period-ended r s′ room′ h = (h .0, h .1, h .2 ∙ rw (one-told (shown s)))
+  period-ended r s′ room′ h = (h .0, (h .1 .0, h .1 .1 ∙ rw (one-told (shown s))))

@@ -106,7 +106,7 @@ module _ (s : List ℕ) (h : isBus s ≡ true) where
       pub went : r .ran ≡ ran most from → r .terminals ≡ keptAfter most from .terminals → r .notes ≡ keptAfter most from .notes
           → octets′ ≡ keptAfter most from .octets
           → s′ ≡ laid s 0 (headOctets (r .ran .bus) (r .terminals) ++ (letters ++ octets′))
-          → (r .ran ≡ ran most (shown s)) × (r .notes ≡ ended .notes) × (s′ ≡ busOctets ended)
+          → (r .ran ≡ ran most (shown s)) × ((r .notes ≡ ended .notes) × (s′ ≡ busOctets ended))
       unfolding shown
       went a t n o e =
           let l = run-left most (shown s) order in
@@ -117,8 +117,10 @@ module _ (s : List ℕ) (h : isBus s ≡ true) where
           let o′ : octets′ ≡ ended .octets = o ∙ rw from-is in
           let letters′ : letters ≡ ended .letters = letters-is ∙ (letters-are ∙ sym (stays .letters-stay)) in (
             a′,
-            n ∙ rw from-is,
-            e ∙ (rw (bus′, t′, o′, letters′)
-                (stored-over s ended (l .order .eight) (letters-long ended (l .order)) (l .octets-long ∙ exact s h .octets-fit) (omega (arith, long))
-                (sym (stays .images-stay)))),
+            (
+              n ∙ rw from-is,
+              e ∙ (rw (bus′, t′, o′, letters′)
+                  (stored-over s ended (l .order .eight) (letters-long ended (l .order)) (l .octets-long ∙ exact s h .octets-fit) (omega (arith, long))
+                  (sym (stays .images-stay)))),
+            ),
           )

@@ -1,5 +1,6 @@
-// A bus lent as octets is taken apart, stepped and laid again. The images stay where they are; the letters and the reader's octets go through arrays,
-// since no two parts of one slice are lent to one call.
+// A bus lent as octets is taken apart, stepped and laid again. The images stay where they are; the
+// letters and the reader's octets go through arrays, since no two parts of one slice are lent to
+// one call.
 ghost use mathlib.Core.Bool.{true};
 ghost use mathlib.Core.Path.{_≡_};
 ghost use Rattle.bus.specs.Calls.Call.{event as eventCall};
@@ -18,8 +19,8 @@ use bus_octets::shown::terminals_in;
 // An event.
 pub(crate) fn give(s: &mut [u8], unit: u32, event: u8, value: &[u8]) -> Told
     requires { ⌜ isBus (now s) ≡ true ⌝ }
-    ensures { λ r. ⌜ (r ≡ told unit event (now (value .entry)) (shown (now (s .entry))))
-        × (now (s .exit) ≡ busOctets (called (shown (now (s .entry))) (eventCall unit event (now (value .entry))))) ⌝ }
+    ensures { λ r. ⌜ r ≡ told unit event (now (value .entry)) (shown (now (s .entry))) ⌝ }
+    ensures { λ _. ⌜ now (s .exit) ≡ busOctets (called (shown (now (s .entry))) (eventCall unit event (now (value .entry)))) ⌝ }
 {
     let bus = record_in(s);
     let before = terminals_in(s);
@@ -37,8 +38,9 @@ pub(crate) fn give(s: &mut [u8], unit: u32, event: u8, value: &[u8]) -> Told
 // A run of periods.
 pub(crate) fn go(s: &mut [u8], most: u32) -> HeldRun
     requires { ⌜ isBus (now s) ≡ true ⌝ }
-    ensures { λ r. ⌜ (r .ran ≡ ran most (shown (now (s .entry)))) × (r .notes ≡ keptAfter most (shown (now (s .entry))) .notes)
-        × (now (s .exit) ≡ busOctets (keptAfter most (shown (now (s .entry))))) ⌝ }
+    ensures { λ r. ⌜ r .ran ≡ ran most (shown (now (s .entry))) ⌝ }
+    ensures { λ r. ⌜ r .notes ≡ keptAfter most (shown (now (s .entry))) .notes ⌝ }
+    ensures { λ _. ⌜ now (s .exit) ≡ busOctets (keptAfter most (shown (now (s .entry)))) ⌝ }
 {
     let bus = record_in(s);
     let before = terminals_in(s);

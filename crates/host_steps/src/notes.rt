@@ -41,7 +41,8 @@ pub(crate) fn less(a: u32, b: u32) -> u32
 
 // The notes of a run: those of its last period.
 pub(crate) fn put_ran(room: &mut [u8], ran: Ran, notes: [UnitNotes; 8], octets: &[u8])
-    ensures { λ _. ⌜ now (room .exit) ≡ laid (now (room .entry)) 0 (notesOctets (periodTold (ran .bus .periods .0 - 1) ran notes (now (octets .entry)))) ⌝ }
+    ensures { λ _. ⌜ now (room .exit)
+        ≡ laid (now (room .entry)) 0 (notesOctets (periodTold (ran .bus .periods .0 - 1) ran notes (now (octets .entry)))) ⌝ }
 {
     let last = less(ran.bus.periods.0, 1);
     let wrote = put_period(Form::Octets, room, 0, last, ran, notes, octets);

@@ -36,9 +36,10 @@ pub extern "C" fn sbus_event(
     event: u32,
     value: &[u8],
 ) -> u32
-    ensures { λ r. ⌜ (r ≡ spec.hostReply (now (bus .entry)) (now (notes .entry)) (eventCall unit event (now (value .entry))))
-        × (now (bus .exit) ≡ spec.hostBus (now (bus .entry)) (now (notes .entry)) (eventCall unit event (now (value .entry))))
-        × (now (notes .exit) ≡ spec.hostNotes (now (bus .entry)) (now (notes .entry)) (eventCall unit event (now (value .entry)))) ⌝ }
+    ensures { λ r. ⌜ r ≡ spec.hostReply (now (bus .entry)) (now (notes .entry)) (eventCall unit event (now (value .entry))) ⌝ }
+    ensures { λ _. ⌜ now (bus .exit) ≡ spec.hostBus (now (bus .entry)) (now (notes .entry)) (eventCall unit event (now (value .entry))) ⌝ }
+    ensures { λ _. ⌜ now (notes .exit)
+        ≡ spec.hostNotes (now (bus .entry)) (now (notes .entry)) (eventCall unit event (now (value .entry))) ⌝ }
 {
     let reason = lent_reason(bus, notes.len(), NOTES_LENGTH);
     if reason != 0 {
@@ -55,9 +56,9 @@ pub extern "C" fn sbus_event(
 
 // Runs at most so many periods.
 fn run_most(bus: &mut [u8], notes: &mut [u8], most: u32) -> u32
-    ensures { λ r. ⌜ (r ≡ spec.hostRunReply (now (bus .entry)) (now (notes .entry)) most)
-        × (now (bus .exit) ≡ spec.hostRunBus (now (bus .entry)) (now (notes .entry)) most)
-        × (now (notes .exit) ≡ spec.hostRunNotes (now (bus .entry)) (now (notes .entry)) most) ⌝ }
+    ensures { λ r. ⌜ r ≡ spec.hostRunReply (now (bus .entry)) (now (notes .entry)) most ⌝ }
+    ensures { λ _. ⌜ now (bus .exit) ≡ spec.hostRunBus (now (bus .entry)) (now (notes .entry)) most ⌝ }
+    ensures { λ _. ⌜ now (notes .exit) ≡ spec.hostRunNotes (now (bus .entry)) (now (notes .entry)) most ⌝ }
 {
     let reason = lent_reason(bus, notes.len(), NOTES_LENGTH);
     if reason != 0 {
@@ -76,9 +77,9 @@ fn run_most(bus: &mut [u8], notes: &mut [u8], most: u32) -> u32
 // Runs one period.
 #[no_mangle]
 pub extern "C" fn sbus_period(bus: &mut [u8], notes: &mut [u8]) -> u32
-    ensures { λ r. ⌜ (r ≡ spec.hostReply (now (bus .entry)) (now (notes .entry)) periodCall)
-        × (now (bus .exit) ≡ spec.hostBus (now (bus .entry)) (now (notes .entry)) periodCall)
-        × (now (notes .exit) ≡ spec.hostNotes (now (bus .entry)) (now (notes .entry)) periodCall) ⌝ }
+    ensures { λ r. ⌜ r ≡ spec.hostReply (now (bus .entry)) (now (notes .entry)) periodCall ⌝ }
+    ensures { λ _. ⌜ now (bus .exit) ≡ spec.hostBus (now (bus .entry)) (now (notes .entry)) periodCall ⌝ }
+    ensures { λ _. ⌜ now (notes .exit) ≡ spec.hostNotes (now (bus .entry)) (now (notes .entry)) periodCall ⌝ }
 {
     run_most(bus, notes, 1)
 }
@@ -86,9 +87,10 @@ pub extern "C" fn sbus_period(bus: &mut [u8], notes: &mut [u8]) -> u32
 // Runs periods until so many have been run since the bus was fresh or one hands back notes.
 #[no_mangle]
 pub extern "C" fn sbus_run(bus: &mut [u8], notes: &mut [u8], until: u32) -> u32
-    ensures { λ r. ⌜ (r ≡ spec.hostRunReply (now (bus .entry)) (now (notes .entry)) (spec.mostTo until (now (bus .entry))))
-        × (now (bus .exit) ≡ spec.hostRunBus (now (bus .entry)) (now (notes .entry)) (spec.mostTo until (now (bus .entry))))
-        × (now (notes .exit) ≡ spec.hostRunNotes (now (bus .entry)) (now (notes .entry)) (spec.mostTo until (now (bus .entry)))) ⌝ }
+    ensures { λ r. ⌜ r ≡ spec.hostRunReply (now (bus .entry)) (now (notes .entry)) (spec.mostTo until (now (bus .entry))) ⌝ }
+    ensures { λ _. ⌜ now (bus .exit) ≡ spec.hostRunBus (now (bus .entry)) (now (notes .entry)) (spec.mostTo until (now (bus .entry))) ⌝ }
+    ensures { λ _. ⌜ now (notes .exit)
+        ≡ spec.hostRunNotes (now (bus .entry)) (now (notes .entry)) (spec.mostTo until (now (bus .entry))) ⌝ }
 {
     let run = record_in(bus).periods.0;
     run_most(bus, notes, less(until, run))

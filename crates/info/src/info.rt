@@ -119,7 +119,8 @@ fn echo(e: bool, last: u8) -> u8
 // The first pulse behind that E.
 fn behind_echo(e: bool, last: u8) -> u8
     requires { ⌜ last < 4 ⌝ }
-    ensures { λ r. ⌜ (r ≡ cond e (opposite last) last) × (r < 4) ⌝ }
+    ensures { λ r. ⌜ r ≡ cond e (opposite last) last ⌝ }
+    ensures { λ r. ⌜ r < 4 ⌝ }
 {
     if e { 3 - last } else { last }
 }

@@ -15,7 +15,9 @@ pub fn listen(
     line: Downward,
     period: Periods,
 ) -> bool
-    ensures { λ r. ⌜ (r ≡ allTold line period (now (notes .entry)) (now (terminals .entry))) × (now (terminals .exit) ≡ allTerminals line period (now (notes .entry)) (now (terminals .entry))) × (now (notes .exit) ≡ allNotes line period (now (notes .entry)) (now (terminals .entry))) ⌝ }
+    ensures { λ r. ⌜ r ≡ allTold line period (now (notes .entry)) (now (terminals .entry)) ⌝ }
+    ensures { λ _. ⌜ now (terminals .exit) ≡ allTerminals line period (now (notes .entry)) (now (terminals .entry)) ⌝ }
+    ensures { λ _. ⌜ now (notes .exit) ≡ allNotes line period (now (notes .entry)) (now (terminals .entry)) ⌝ }
 {
     if notes.len() != terminals.len() {
         return false;

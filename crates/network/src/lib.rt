@@ -190,7 +190,9 @@ impl Network {
 
     // The event of a timer at the record with other timers, where it is due.
     fn expires(self, expired: bool, t1: u64, t2: u64, event: u8, now: Periods) -> NetworkStep
-        ensures { λ r. ⌜ r ≡ cond expired (spec.happens event (now .0) (record { t1 = t1; t2 = t2; state = self .state; alignment = self .alignment })) (spec.unchanged 0 self) ⌝ }
+        ensures { λ r. ⌜ r ≡ cond expired
+            (spec.happens event (now .0) (record { t1 = t1; t2 = t2; state = self .state; alignment = self .alignment }))
+            (spec.unchanged 0 self) ⌝ }
     {
         if expired {
             let alignment = self.alignment;

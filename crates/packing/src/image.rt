@@ -37,7 +37,9 @@ struct Packer {
 
 // Packs a body's image into a buffer that has room for the longest.
 pub fn image(body: &[u8], out: &mut [u8]) -> Imaged
-    ensures { λ r. ⌜ (r ≡ imaged (now (body .entry)) (now (out .entry))) × (now (out .exit) ≡ imagedOctets (now (body .entry)) (now (out .entry))) × (imageMeaning r (now (out .exit)) ≡ imageOr (now (body .entry)) (now (out .entry))) ⌝ }
+    ensures { λ r. ⌜ r ≡ imaged (now (body .entry)) (now (out .entry)) ⌝ }
+    ensures { λ _. ⌜ now (out .exit) ≡ imagedOctets (now (body .entry)) (now (out .entry)) ⌝ }
+    ensures { λ r. ⌜ imageMeaning r (now (out .exit)) ≡ imageOr (now (body .entry)) (now (out .entry)) ⌝ }
 {
     if out.len() < IMAGE_ROOM {
         return Imaged::Refused(2);
@@ -68,8 +70,11 @@ pub fn packed_bit(octets: &[u8], i: u16) -> bool
 impl Packer {
     // One bit is put; an octet goes to its place with its eighth bit.
     fn put_bit(self, bit: bool, out: &mut [u8]) -> Self
-        requires { ⌜ (self .at < 8 * imageRoom) × (self .ones < 255) × (imageRoom ≤ length (now out)) ⌝ }
-        ensures { λ r. ⌜ (r ≡ putBit bit self) × (now (out .exit) ≡ putBitOctets bit self (now (out .entry))) ⌝ }
+        requires { ⌜ self .at < 8 * imageRoom ⌝ }
+        requires { ⌜ self .ones < 255 ⌝ }
+        requires { ⌜ imageRoom ≤ length (now out) ⌝ }
+        ensures { λ r. ⌜ r ≡ putBit bit self ⌝ }
+        ensures { λ _. ⌜ now (out .exit) ≡ putBitOctets bit self (now (out .entry)) ⌝ }
     {
         let octet = bits::shifted(self.octet, bit);
         if self.at % 8 == 7 {
@@ -86,8 +91,12 @@ impl Packer {
 
     // The first bits of octets are put as they are.
     fn put_plain(self, octets: &[u8], count: u16, out: &mut [u8]) -> Self
-        requires { ⌜ (self .at + count ≤ 8 * imageRoom) × (self .ones + count ≤ 255) × (imageRoom ≤ length (now out)) × (count ≤ 8 * length (now octets)) ⌝ }
-        ensures { λ r. ⌜ (r ≡ putBits (take count (bodyBits (now (octets .entry)))) self) × (now (out .exit) ≡ putBitsOctets (take count (bodyBits (now (octets .entry)))) self (now (out .entry))) ⌝ }
+        requires { ⌜ self .at + count ≤ 8 * imageRoom ⌝ }
+        requires { ⌜ self .ones + count ≤ 255 ⌝ }
+        requires { ⌜ imageRoom ≤ length (now out) ⌝ }
+        requires { ⌜ count ≤ 8 * length (now octets) ⌝ }
+        ensures { λ r. ⌜ r ≡ putBits (take count (bodyBits (now (octets .entry)))) self ⌝ }
+        ensures { λ _. ⌜ now (out .exit) ≡ putBitsOctets (take count (bodyBits (now (octets .entry)))) self (now (out .entry)) ⌝ }
     {
         let mut packer = self;
         let mut i: u16 = 0;
@@ -100,8 +109,11 @@ impl Packer {
 
     // The bits of a body, or of a part of it, are put, with a 0 after each fifth 1.
     fn put_body(self, body: &[u8], out: &mut [u8]) -> Self
-        requires { ⌜ (self .at + length (stuff (self .ones) (bodyBits (now body))) ≤ 8 * imageRoom) × (self .ones < 5) × (imageRoom ≤ length (now out)) ⌝ }
-        ensures { λ r. ⌜ (r ≡ putBits (stuff (self .ones) (bodyBits (now (body .entry)))) self) × (now (out .exit) ≡ putBitsOctets (stuff (self .ones) (bodyBits (now (body .entry)))) self (now (out .entry))) ⌝ }
+        requires { ⌜ self .at + length (stuff (self .ones) (bodyBits (now body))) ≤ 8 * imageRoom ⌝ }
+        requires { ⌜ self .ones < 5 ⌝ }
+        requires { ⌜ imageRoom ≤ length (now out) ⌝ }
+        ensures { λ r. ⌜ r ≡ putBits (stuff (self .ones) (bodyBits (now (body .entry)))) self ⌝ }
+        ensures { λ _. ⌜ now (out .exit) ≡ putBitsOctets (stuff (self .ones) (bodyBits (now (body .entry)))) self (now (out .entry)) ⌝ }
     {
         let count = 8 * (body.len() as u16);
         let mut packer = self;
@@ -119,8 +131,10 @@ impl Packer {
 
 // The image of a body, with 0s up to a whole octet, and its length in bits.
 fn pack_image(body: &[u8], out: &mut [u8]) -> u16
-    requires { ⌜ (imageRoom ≤ length (now out)) × (length (now body) ≤ longestBody) ⌝ }
-    ensures { λ r. ⌜ (r ≡ length (image (now (body .entry)))) × (now (out .exit) ≡ onto (filledOctets (image (now (body .entry)))) (now (out .entry))) ⌝ }
+    requires { ⌜ imageRoom ≤ length (now out) ⌝ }
+    requires { ⌜ length (now body) ≤ longestBody ⌝ }
+    ensures { λ r. ⌜ r ≡ length (image (now (body .entry))) ⌝ }
+    ensures { λ _. ⌜ now (out .exit) ≡ onto (filledOctets (image (now (body .entry)))) (now (out .entry)) ⌝ }
 {
     out[0] = FLAG;
     let opened = Packer {

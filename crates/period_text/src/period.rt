@@ -71,7 +71,8 @@ fn put_heard(
     done2: bool,
     notes: Notes,
 ) -> usize
-    ensures { λ r. ⌜ Put (now (room .entry)) wrote (notesIn form (notesOf period unit (doneNotes done1 done2 ++ noted notes))) r (now (room .exit)) ⌝ }
+    ensures { λ r. ⌜ Put (now (room .entry)) wrote (notesIn form (notesOf period unit (doneNotes done1 done2 ++ noted notes))) r
+        (now (room .exit)) ⌝ }
 {
     let done = done_notes(done1, done2);
     let a = put_notes(form, room, wrote, period, unit, done);
@@ -144,7 +145,8 @@ pub fn put_period(
     notes: [UnitNotes; 8],
     octets: &[u8],
 ) -> usize
-    ensures { λ r. ⌜ Put (now (room .entry)) wrote (notesIn form (periodTold period ran notes (now (octets .entry)))) r (now (room .exit)) ⌝ }
+    ensures { λ r. ⌜ Put (now (room .entry)) wrote (notesIn form (periodTold period ran notes (now (octets .entry)))) r
+        (now (room .exit)) ⌝ }
 {
     let this = period as u64;
     let next = this + 1;

@@ -320,8 +320,8 @@ reads-on r buf b after left e f s long h =
 
 -- what the call ensures
 pub reads : (r : Reader) (buf : List ℕ) (b : Bool) (after : Read) (left : List ℕ) → after ≡ readBit b buf r → left ≡ readOctets b r buf
-    → (after ≡ readBit b buf r) × (left ≡ readOctets b r buf) × ReadsOn r buf b after left
-reads r buf b after left e f = (e, f, reads-on r buf b after left e f)
+    → (after ≡ readBit b buf r) × ((left ≡ readOctets b r buf) × ReadsOn r buf b after left)
+reads r buf b after left e f = (e, (f, reads-on r buf b after left e f))
 
 -- Calls one after the other, from any record and octets that stand for a reading.
 pub stands-after : (bs : List Bool) (r : Reader) (buf : List ℕ) (s : Reading) → longestBody ≤ length buf → StandsFor r buf s

@@ -50,7 +50,8 @@ pub struct Read {
 impl Reader {
     // A reader that waits for a flag and has read nothing, whatever the buffer holds.
     pub fn fresh() -> Self
-        ensures { λ r. ⌜ (r ≡ freshReader) × ((buf : List ℕ) → StandsFor r buf cleared) ⌝ }
+        ensures { λ r. ⌜ r ≡ freshReader ⌝ }
+        ensures { λ r. ⌜ ((buf : List ℕ) → StandsFor r buf cleared) ⌝ }
     {
         Reader {
             bits: 0,
@@ -63,7 +64,9 @@ impl Reader {
 
     // One bit is read; the frame's octets are in the lent buffer, which has room for the longest body.
     pub fn read(self, bit: bool, octets: &mut [u8]) -> Read
-        ensures { λ r. ⌜ (r ≡ readBit bit (now (octets .entry)) self) × (now (octets .exit) ≡ readOctets bit self (now (octets .entry))) × ReadsOn self (now (octets .entry)) bit r (now (octets .exit)) ⌝ }
+        ensures { λ r. ⌜ r ≡ readBit bit (now (octets .entry)) self ⌝ }
+        ensures { λ _. ⌜ now (octets .exit) ≡ readOctets bit self (now (octets .entry)) ⌝ }
+        ensures { λ r. ⌜ ReadsOn self (now (octets .entry)) bit r (now (octets .exit)) ⌝ }
     {
         if octets.len() < LONGEST_BODY {
             return Read {

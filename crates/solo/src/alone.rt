@@ -28,7 +28,8 @@ fn stays_alone(ran: Ran, solo: Solo, goes: bool) -> bool
 
 // Runs at most so many periods, as long as one terminal sends alone and nothing is told.
 pub fn run_alone(bus: BusRecord, images: &[u8], octets: &mut [u8], solo: Solo, most: u32) -> Alone
-    ensures { λ r. ⌜ (r ≡ aloneRun (now (images .entry)) most bus solo (now (octets .entry))) × (now (octets .exit) ≡ aloneRunOctets (now (images .entry)) most bus solo (now (octets .entry))) ⌝ }
+    ensures { λ r. ⌜ r ≡ aloneRun (now (images .entry)) most bus solo (now (octets .entry)) ⌝ }
+    ensures { λ _. ⌜ now (octets .exit) ≡ aloneRunOctets (now (images .entry)) most bus solo (now (octets .entry)) ⌝ }
 {
     let mut ran = refused_run(bus, 0);
     let mut sender = solo;

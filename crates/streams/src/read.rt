@@ -19,8 +19,8 @@ fn read_once(part: &mut [u8]) -> Moved
     }
 }
 
-// Reads into the part, from its front on: how many octets have come, 0 where the input has ended, or where the read has failed, which is said
-// on standard error.
+// Reads into the part, from its front on: how many octets have come, 0 where the input has ended,
+// or where the read has failed, which is said on standard error.
 pub fn read_in(part: &mut [u8]) -> usize
     ensures { λ r. ⌜ Counts r (now (part .exit)) ⌝ }
 {

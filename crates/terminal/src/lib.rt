@@ -153,7 +153,13 @@ impl Terminal {
         event: u8,
         now: Periods,
     ) -> TerminalStep
-        ensures { λ r. ⌜ r ≡ calls.checked (λ p t. cond holds (cond (isVoid (cellOf table62 event (t .state))) (spec.unchanged barred (record { t3 = t3; access = t .access; state = t .state; alignment = alignment })) (spec.happens event p (record { t3 = t3; access = t .access; state = t .state; alignment = alignment }))) (spec.unchanged reply t)) now self ⌝ }
+        ensures { λ r. ⌜ r ≡ calls.checked
+            (λ p t. cond holds
+            (cond (isVoid (cellOf table62 event (t .state)))
+            (spec.unchanged barred (record { t3 = t3; access = t .access; state = t .state; alignment = alignment }))
+            (spec.happens event p (record { t3 = t3; access = t .access; state = t .state; alignment = alignment })))
+            (spec.unchanged reply t))
+            now self ⌝ }
     {
         if self.in_range() & now.in_range() {
             if holds {

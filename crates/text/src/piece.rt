@@ -40,7 +40,8 @@ fn is_one_piece(text: &[u8], sep: u8) -> bool
 
 // Whether a whole block stands at a place, and no separator in it.
 fn passes(text: &[u8], at: usize, sep: u8) -> bool
-    ensures { λ r. ⌜ (r ≡ true → (at + 16 ≤ length (now (text .entry))) × (16 ≤ upto sep (drop at (now (text .entry))))) ⌝ }
+    ensures { λ r. ⌜ (r ≡ true → at + 16 ≤ length (now (text .entry))) ⌝ }
+    ensures { λ r. ⌜ (r ≡ true → 16 ≤ upto sep (drop at (now (text .entry)))) ⌝ }
 {
     if text.len() < BLOCK {
         return false;

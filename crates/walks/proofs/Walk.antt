@@ -43,5 +43,6 @@ pub use Rattle.walks.proofs.Calls.{calls-fn, calls-plain, calls-lending
 pub use Rattle.walks.proofs.Passing.{Spot, spot, word, lends-at, shows-at, hands-at, Param, lends, shows, hands, plain-of, lfts-at, shares-at, args-at, vals-of, lfts-of, shares-of, args-of, itemsOf}
 pub use Rattle.walks.proofs.Giving.{reborrows, Call, calls-giving, calls-giving-last, enters-with, returns-with, returns-at}
 pub use Rattle.walks.proofs.Ways.{mut-way, shr-way, plain-way, Ways-of, stays-of, meets-by}
+pub use Rattle.walks.proofs.Clauses.{says-two, says-three, says-four, learn-two, learn-three, learn-four, claims}
 pub use Rattle.walks.proofs.Loop.{whiles, whiles-by, index-fits, next-fits}
 pub use Rattle.walks.proofs.Arrays.{array-kind, array-of, array-into, array-spot, lends-array, takes-back}

@@ -1,5 +1,5 @@
 -- `bus_held::event` meets its contract: a walk of its MIR with the lemmas of crate `walks`. The array is copied to a local, lent to the call on a slice, and taken back; images and letters are lent again. All that it knows of the call is its contract. Assumes nothing.
-use Rattle.walks.proofs.Walk.{_≡_, refl, ℕ, _<_, _^_, List, [], _∷_, lit<, length, URA, GName, w8, w32, Val, vint, SProp, ent, emp, via, id⊢, fst∗, Memory, Routine, Heap, Tables, WpFn, Atoms, Fun, factI, givenOf, tables, tablesOf, Given, ⋆, _$_, !, of-opd, no-more, and-then, agg, Is, u8, u32, Room, onEntry, Meets, tripleOf, Contract, Triple, entered, cited, walkOf, loc, sets, leaves, uint-kind, typed, Spot, spot, word, lends-at, hands-at, Param, plain-of, lfts-at, shares-at, args-at, vals-of, lfts-of, shares-of, args-of, itemsOf, reborrows, Call, calls-giving, enters-with, returns-at, mut-way, shr-way, plain-way, Ways-of, stays-of, meets-by, array-into, array-spot, lends-array, takes-back}
+use Rattle.walks.proofs.Walk.{_≡_, refl, ℕ, _<_, _^_, List, [], _∷_, lit<, length, URA, GName, w8, w32, Val, vint, SProp, ent, emp, via, id⊢, fst∗, Memory, Routine, Heap, Tables, WpFn, Atoms, Fun, givenOf, tables, tablesOf, Given, ⋆, _$_, !, of-opd, no-more, and-then, agg, Is, u8, u32, Room, onEntry, Meets, tripleOf, Contract, Triple, entered, cited, walkOf, loc, sets, leaves, uint-kind, typed, Spot, spot, word, lends-at, hands-at, Param, plain-of, lfts-at, shares-at, args-at, vals-of, lfts-of, shares-of, args-of, itemsOf, reborrows, Call, calls-giving, enters-with, returns-at, mut-way, shr-way, plain-way, Ways-of, stays-of, meets-by, array-into, array-spot, lends-array, takes-back, says-four, learn-four}
 use mir.Val.{vstruct, vnil, vcons}
 use denote.Array.{Array}
 use Rattle.terminal.specs.declared.Terminal.{Terminal}
@@ -58,7 +58,7 @@ module _ {M : Type 1} (𝓤 : URA M) (H : Heap 𝓤) (A : Atoms 𝓤) (W : Given
 
   exits : (r : Told) (zs : List Terminal) (is ls : List ℕ) → length is ≡ length images → length ls ≡ length letters → Said r zs is ls → Is HE.the-row (made r zs) (together r zs ∷ []) → ent 𝓤 (⋆ 𝓤 H A (itemsOf W (params is ls))) (Post (together r zs))
   exits r zs is ls l₁ l₂ so g =
-      returns-at W (params is ls) all.ended (stays-of all.ended ways) (all.clauses 𝓤 H A mem run) bound held-events (made r zs) (tt, (tt, (is, (ls, (tt, (tt, (tt, tt))))))) (together r zs) (tt, (tt, (l₁, (l₂, (tt, (tt, (tt, tt))))))) g (id⊢ 𝓤 _) (factI 𝓤 _ (emp 𝓤) so)
+      returns-at W (params is ls) all.ended (stays-of all.ended ways) (all.clauses 𝓤 H A mem run) bound held-events (made r zs) (tt, (tt, (is, (ls, (tt, (tt, (tt, tt))))))) (together r zs) (tt, (tt, (l₁, (l₂, (tt, (tt, (tt, tt))))))) g (id⊢ 𝓤 _) (says-four 𝓤 so)
 
   -- the array in the block b, lent for the lifetime ν under the name δ
   module _ (ν : ℕ) (δ : GName) (b : ℕ) where
@@ -75,7 +75,7 @@ module _ {M : Type 1} (𝓤 : URA M) (H : Heap 𝓤) (A : Atoms 𝓤) (W : Given
       finals = λ ns ws. id⊢ 𝓤 _;
       result = λ ns. tolds;
       Said = λ ns r ws. Said r (ws .1 .0) (ws .1 .1 .0) (ws .1 .1 .1 .0);
-      ensured = λ ns r ws. id⊢ 𝓤 _;
+      ensured = λ ns r ws. learn-four 𝓤;
     }
 
   walk : (𝓣 : Tables 𝓤 H) → Triple 𝓤 (𝓣 .C #slice) (Slice 𝓤 H A mem run) → ent 𝓤 (onEntry 𝓤 H A all.signature (bound .0 .0) (bound .0 .1) (bound .0 .3) (bound .0 .4)) (WpFn 𝓤 H (𝓣 .C) (𝓣 .Λ) code.function words Post)

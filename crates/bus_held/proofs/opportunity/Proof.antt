@@ -1,5 +1,5 @@
 -- `bus_held::opportunity` meets its contract: a walk of its MIR with the lemmas of crate `walks`. The array is copied to a local, lent to the call on a slice, and taken back. All that it knows of the call is its contract. Assumes nothing.
-use Rattle.walks.proofs.Walk.{_≡_, refl, ℕ, List, [], _∷_, lit<, length, URA, GName, Val, SProp, ent, emp, via, id⊢, fst∗, Memory, Routine, Heap, Tables, WpFn, Atoms, Fun, factI, givenOf, tables, tablesOf, Given, ⋆, _$_, !, of-opd, no-more, and-then, agg, Is, u8, Room, onEntry, Meets, tripleOf, Contract, Triple, entered, cited, walkOf, loc, sets, leaves, typed, Spot, spot, word, lends-at, hands-at, Param, plain-of, lfts-at, shares-at, args-at, vals-of, lfts-of, shares-of, args-of, itemsOf, Call, calls-giving, enters-with, returns-at, shr-way, plain-way, Ways-of, stays-of, meets-by, array-into, array-spot, lends-array, takes-back}
+use Rattle.walks.proofs.Walk.{_≡_, refl, ℕ, List, [], _∷_, lit<, length, URA, GName, Val, SProp, ent, emp, via, id⊢, fst∗, Memory, Routine, Heap, Tables, WpFn, Atoms, Fun, givenOf, tables, tablesOf, Given, ⋆, _$_, !, of-opd, no-more, and-then, agg, Is, u8, Room, onEntry, Meets, tripleOf, Contract, Triple, entered, cited, walkOf, loc, sets, leaves, typed, Spot, spot, word, lends-at, hands-at, Param, plain-of, lfts-at, shares-at, args-at, vals-of, lfts-of, shares-of, args-of, itemsOf, Call, calls-giving, enters-with, returns-at, shr-way, plain-way, Ways-of, stays-of, meets-by, array-into, array-spot, lends-array, takes-back, says-two, learn-two}
 use mir.Val.{vstruct, vnil, vcons}
 use denote.Array.{Array}
 use Rattle.terminal.specs.declared.Terminal.{Terminal}
@@ -52,7 +52,7 @@ module _ {M : Type 1} (𝓤 : URA M) (H : Heap 𝓤) (A : Atoms 𝓤) (W : Given
   made-is zs r gz gr = ((eight .val zs ∷ [], (moments .val r ∷ [], tt)), (refl, (array-into T.the-type 8 zs _ gz, (gr, tt))))
 
   exits : (zs : List Terminal) (r : Moment) → Said r zs → Is HM.the-row (made zs r) (value zs r ∷ []) → ent 𝓤 (⋆ 𝓤 H A (itemsOf W params)) (Post (value zs r))
-  exits zs r is g = returns-at W params all.ended (stays-of all.ended ways) (all.clauses 𝓤 H A mem run) bound held-moments (made zs r) (tt, (tt, (tt, tt))) (value zs r) (tt, (tt, (tt, tt))) g (id⊢ 𝓤 _) (factI 𝓤 _ (emp 𝓤) is)
+  exits zs r is g = returns-at W params all.ended (stays-of all.ended ways) (all.clauses 𝓤 H A mem run) bound held-moments (made zs r) (tt, (tt, (tt, tt))) (value zs r) (tt, (tt, (tt, tt))) g (id⊢ 𝓤 _) (says-two 𝓤 is)
 
   -- the array in the block b, lent for the lifetime ν under the name δ
   module _ (ν : ℕ) (δ : GName) (b : ℕ) where
@@ -69,7 +69,7 @@ module _ {M : Type 1} (𝓤 : URA M) (H : Heap 𝓤) (A : Atoms 𝓤) (W : Given
       finals = λ ns ws. id⊢ 𝓤 _;
       result = λ ns. moments;
       Said = λ ns r ws. Said r (ws .0);
-      ensured = λ ns r ws. id⊢ 𝓤 _;
+      ensured = λ ns r ws. learn-two 𝓤;
     }
 
   walk : (𝓣 : Tables 𝓤 H) → Triple 𝓤 (𝓣 .C #slice) (Slice 𝓤 H A mem run)

@@ -1,5 +1,5 @@
 -- `bus_held::run` meets its contract: a walk of its MIR with the lemmas of crate `walks`. The terminals and the notes, which are none yet, are two local arrays; both are lent to the call on slices, and taken back; the octets are lent again. All that it knows of the call is its contract. Assumes nothing.
-use Rattle.walks.proofs.Walk.{_≡_, refl, ℕ, _<_, _^_, List, [], _∷_, lit<, length, URA, GName, w32, Val, vint, SProp, ent, emp, via, id⊢, fst∗, Memory, Routine, Heap, Tables, WpFn, Atoms, Fun, factI, givenOf, tables, tablesOf, Given, ⋆, _$_, !, lit, of-opd, no-more, and-then, agg, rep, Is, u8, u32, Room, onEntry, Meets, tripleOf, Contract, Triple, entered, cited, walkOf, loc, sets, leaves, uint-kind, typed, Spot, spot, word, lends-at, hands-at, Param, plain-of, lfts-at, shares-at, args-at, vals-of, lfts-of, shares-of, args-of, itemsOf, reborrows, Call, calls-giving, enters-with, returns-at, mut-way, shr-way, plain-way, Ways-of, stays-of, meets-by, array-of, array-into, array-spot, lends-array, takes-back}
+use Rattle.walks.proofs.Walk.{_≡_, refl, ℕ, _<_, _^_, List, [], _∷_, lit<, length, URA, GName, w32, Val, vint, SProp, ent, emp, via, id⊢, fst∗, Memory, Routine, Heap, Tables, WpFn, Atoms, Fun, givenOf, tables, tablesOf, Given, ⋆, _$_, !, lit, of-opd, no-more, and-then, agg, rep, Is, u8, u32, Room, onEntry, Meets, tripleOf, Contract, Triple, entered, cited, walkOf, loc, sets, leaves, uint-kind, typed, Spot, spot, word, lends-at, hands-at, Param, plain-of, lfts-at, shares-at, args-at, vals-of, lfts-of, shares-of, args-of, itemsOf, reborrows, Call, calls-giving, enters-with, returns-at, mut-way, shr-way, plain-way, Ways-of, stays-of, meets-by, array-of, array-into, array-spot, lends-array, takes-back, says-four, learn-four}
 use lib.ListN.{replicate}
 use mir.Val.{vstruct, vnil, vcons}
 use denote.Array.{Array}
@@ -86,7 +86,7 @@ module _ {M : Type 1} (𝓤 : URA M) (H : Heap 𝓤) (A : Atoms 𝓤) (W : Given
 
   exits : (r : Ran) (zs : List Terminal) (os : List ℕ) (ns : List UnitNotes) → length os ≡ length octets → Said r zs os ns → Is HR.the-row (made r zs ns) (together r zs ns ∷ []) → ent 𝓤 (⋆ 𝓤 H A (itemsOf W (params os))) (Post (together r zs ns))
   exits r zs os ns l so g =
-      returns-at W (params os) all.ended (stays-of all.ended ways) (all.clauses 𝓤 H A mem run) bound held-runs (made r zs ns) (tt, (tt, (tt, (os, (tt, (tt, tt)))))) (together r zs ns) (tt, (tt, (tt, (l, (tt, (tt, tt)))))) g (id⊢ 𝓤 _) (factI 𝓤 _ (emp 𝓤) (so .0, so .1, so .3, so .2))
+      returns-at W (params os) all.ended (stays-of all.ended ways) (all.clauses 𝓤 H A mem run) bound held-runs (made r zs ns) (tt, (tt, (tt, (os, (tt, (tt, tt)))))) (together r zs ns) (tt, (tt, (tt, (l, (tt, (tt, tt)))))) g (id⊢ 𝓤 _) (says-four 𝓤 (so .0, so .1, so .3, so .2))
 
   -- the arrays in the blocks b and b′, lent for the lifetimes ν and ν′ under the names δ and δ′
   module _ (ν : ℕ) (δ : GName) (b : ℕ) (ν′ : ℕ) (δ′ : GName) (b′ : ℕ) where
@@ -104,7 +104,7 @@ module _ {M : Type 1} (𝓤 : URA M) (H : Heap 𝓤) (A : Atoms 𝓤) (W : Given
       finals = λ ns ws. id⊢ 𝓤 _;
       result = λ ns. runs;
       Said = λ ns r ws. Said r (ws .1 .0) (ws .1 .1 .1 .0) (ws .1 .1 .1 .1 .1 .0);
-      ensured = λ ns r ws. id⊢ 𝓤 _;
+      ensured = λ ns r ws. learn-four 𝓤;
     }
 
   walk : (𝓣 : Tables 𝓤 H) → Triple 𝓤 (𝓣 .C #slice) (Slice 𝓤 H A mem run) → ent 𝓤 (onEntry 𝓤 H A all.signature (bound .0 .0) (bound .0 .1) (bound .0 .3) (bound .0 .4)) (WpFn 𝓤 H (𝓣 .C) (𝓣 .Λ) code.function words Post)

@@ -41,8 +41,8 @@ returns c =
     .before .before .octets2 in
     let e = c .before .before .before .before .before .before .before .before .before .before .before .before .event in
     gave (a .u .bus) (a .u .terminals) (a .images .now) (a .letters .now) (a .unit) (a .event) (a .value .now) (a .room .now) (a .u .wrote)
-    (p .0) (start .fits .unit .fits) (p .2) _ (laid-octets (o .ensures) (p .1))
-    (e .result) _ _ (e .ensures .0) (e .ensures .1) (e .ensures .2) (e .ensures .3) _ _ (c .before .before .put-event .ensures)
+    (p .0) (start .fits .unit .fits) (p .1 .1) _ (laid-octets (o .ensures) (p .1 .0))
+    (e .result) _ _ (e .ensures .0) (e .ensures .1 .0) (e .ensures .1 .1 .0) (e .ensures .1 .1 .1) _ _ (c .before .before .put-event .ensures)
 
 pub give-spec : {M : Type 1} → statement M
 give-spec =

@@ -14,7 +14,7 @@ returns : tie.Need-returns
 returns c =
     let a = c .before .before .before .before .before .before .before .before .args in
     let r = c .before .before .run in
-    checked-run (a .progress) (a .images .now) (a .octets .now) (a .letters .now) _ (r .ensures .0) _ (r .ensures .3)
+    checked-run (a .progress) (a .images .now) (a .octets .now) (a .letters .now) _ (r .ensures .0) _ (r .ensures .1 .1 .1)
 
 pub reason-spec : {M : Type 1} → statement M
 reason-spec = tie.close (tie.spec run-requires same-length returns)

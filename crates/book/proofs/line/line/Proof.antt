@@ -42,7 +42,7 @@ returns c =
     let ran = c .before .before .before .before .before .before .before .run-to in
     let r = c .before .before .has-room in
     full-line (a .w) (a .images .now) (a .octets .now) (a .letters .now) (a .value .now) (a .room .now) (a .period) (a .unit) (a .event) (a .size)
-    (p .1) (p .2) (ran .result) _ _ (ran .ensures .0)
+    (p .1 .0) (p .1 .1 .0) (ran .result) _ _ (ran .ensures .0)
     (sym (r .ensures) ∙ not-true (r .result) (c .before .if1 .taken)) (c .reached .result) (c .reached .ensures)
 
 is-end-requires : tie.Need-is-end-requires
@@ -70,7 +70,7 @@ returns-2 c =
     let ran = c .before .before .before .before .before .before .before .before .before .run-to in
     let r = c .before .before .before .before .has-room in
     end-line (a .w) (a .images .now) (a .octets .now) (a .letters .now) (a .value .now) (a .room .now) (a .period) (a .unit) (a .event) (a .size)
-    (p .1) (p .2) (ran .result) _ _ (ran .ensures .0)
+    (p .1 .0) (p .1 .1 .0) (ran .result) _ _ (ran .ensures .0)
     (ran .ensures .1) (sym (r .ensures) ∙ not-false (r .result) (c .before .before .before .if1 .left))
     (sym (c .before .before .is-end .ensures) ∙ c .before .if2 .taken) (c .reached2 .result) (c .reached2 .ensures)
 
@@ -79,9 +79,8 @@ give-requires c κs =
     let p = c .before .before .before .before .before .before .before .before .before .before .before .before .before .before .before .before .before .before .before .before .before .pre in
     let ran = c .before .before .before .before .before .before .before .before .before .before .before .run-to in
     let r = c .before .before .before .before .before .before .has-room in (
-      omega (arith, ran .ensures .0 .up-to, p .4),
-      p .5,
-      leb-true _ _ (sym (r .ensures) ∙ not-false (r .result) (c .before .before .before .before .before .if1 .left)),
+      omega (arith, ran .ensures .0 .up-to, p .1 .1 .1 .1 .0),
+      (p .1 .1 .1 .1 .1, leb-true _ _ (sym (r .ensures) ∙ not-false (r .result) (c .before .before .before .before .before .if1 .left))),
     )
 
 reached-requires-3 : tie.Need-reached-requires-3
@@ -109,7 +108,7 @@ returns-3 c =
     let r = c .before .before .before .before .before .before .before .before .before .before .before .before .before .before .has-room in
     let g = c .before .before .before .before .before .before .before .give in
     given-line (a .w) (a .images .now) (a .octets .now) (a .letters .now) (a .value .now) (a .room .now) (a .period) (a .unit) (a .event) (a .size)
-    (p .1) (p .2) (ran .result) _ _ (ran .ensures .0)
+    (p .1 .0) (p .1 .1 .0) (ran .result) _ _ (ran .ensures .0)
     (ran .ensures .1) (sym (r .ensures) ∙ not-false (r .result) (c .before .before .before .before .before .before .before .before .before .before .before .before .before .if1 .left))
     (sym (c .before .before .before .before .before .before .before .before .before .before .before .before .is-end .ensures) ∙ c .before .before .before .before .before .before .before .before .before .before .before .if2 .left) (g .result) _ _ _ (g .ensures) (c .reached3 .result) (c .reached3 .ensures)
 

@@ -1,6 +1,6 @@
 -- `book::reading::read_on` meets its contract: a walk of its MIR with the lemmas of crate `walks`, and those of crate `book_reader` for a reader that is
 -- asked in a walk. What holds before each turn is `GoesFrom` (ReadOn.antt). All that it knows of what it calls are their contracts. Assumes nothing.
-use Rattle.walks.proofs.Walk.{_≡_, refl, sym, _∙_, ℕ, _+_, _<_, _^_, Bool, List, [], _∷_, eqb, length, set, URA, w8, w32, w64, Val, vbool, vint, SProp, ent, emp, id⊢, Memory, Routine, Heap, Tables, WpFn, Atoms, Fun, factI, givenOf, tables, tablesOf, Given, Item, ⋆, _$_, !, move, of-opd, no-more, and-then, Is, u8, u32, usize, bool, Room, onEntry, Meets, tripleOf, Contract, Triple, entered, cited, walkOf, needs, Holds, free, has, loc, sets, leaves, blurs, bool-kind, uint-kind, typed, at-list, shown, Spot, spot, word, lends-at, hands-at, Param, plain-of, lfts-at, shares-at, args-at, vals-of, lfts-of, shares-of, args-of, itemsOf, reborrows, calls-plain, Call, calls-giving, calls-giving-last, enters-with, returns-with, mut-way, shr-way, plain-way, Ways-of, stays-of, meets-by, whiles-by}
+use Rattle.walks.proofs.Walk.{_≡_, refl, sym, _∙_, ℕ, _+_, _<_, _^_, Bool, List, [], _∷_, eqb, length, set, URA, w8, w32, w64, Val, vbool, vint, SProp, ent, emp, id⊢, Memory, Routine, Heap, Tables, WpFn, Atoms, Fun, givenOf, tables, tablesOf, Given, Item, ⋆, _$_, !, move, of-opd, no-more, and-then, Is, u8, u32, usize, bool, Room, onEntry, Meets, tripleOf, Contract, Triple, entered, cited, walkOf, needs, Holds, free, has, loc, sets, leaves, blurs, bool-kind, uint-kind, typed, at-list, shown, Spot, spot, word, lends-at, hands-at, Param, plain-of, lfts-at, shares-at, args-at, vals-of, lfts-of, shares-of, args-of, itemsOf, reborrows, calls-plain, Call, calls-giving, calls-giving-last, enters-with, returns-with, mut-way, shr-way, plain-way, Ways-of, stays-of, meets-by, whiles-by, says-two, learn-two}
 use lib.Dec.{T as Holds-of}
 use mir.Syntax.{named, erased}
 use mir.Val.{WT, hasTy}
@@ -188,7 +188,7 @@ module _ {M : Type 1} (𝓤 : URA M) (H : Heap 𝓤) (A : Atoms 𝓤) (W : Given
 
   exits : (x : Went) (is os ls rs : List ℕ) → length is ≡ length images → length os ≡ length octets → length ls ≡ length letters → length rs ≡ length room → Promised x is os ls rs → Is Wn.the-row x (wents .val x ∷ []) → ent 𝓤 (⋆ 𝓤 H A (itemsOf W (params is os ls rs))) (Post (wents .val x))
   exits x is os ls rs l₁ l₂ l₃ l₄ so gx =
-      returns-with W (params is os ls rs) all.ended (stays-of all.ended ways) (all.clauses 𝓤 H A mem run) bound wents x (tt, (is, (os, (ls, (tt, (rs, (tt, tt))))))) (tt, (l₁, (l₂, (l₃, (tt, (l₄, (tt, tt))))))) gx (id⊢ 𝓤 _) (factI 𝓤 _ (emp 𝓤) so)
+      returns-with W (params is os ls rs) all.ended (stays-of all.ended ways) (all.clauses 𝓤 H A mem run) bound wents x (tt, (is, (os, (ls, (tt, (rs, (tt, tt))))))) (tt, (l₁, (l₂, (l₃, (tt, (l₄, (tt, tt))))))) gx (id⊢ 𝓤 _) (says-two 𝓤 so)
 
   -- ---- The calls with slices, and those that stand last.
   abbrev to-goes : (w : Went) → Is Wn.the-row w (wents .val w ∷ []) → List Param
@@ -217,14 +217,14 @@ module _ {M : Type 1} (𝓤 : URA M) (H : Heap 𝓤) (A : Atoms 𝓤) (W : Given
   the-step s i said gs part needs-so = record {
     bound = λ ns. ((lfts-of (to-step s i said gs part) ns, shares-of (to-step s i said gs part), tt, args-of (to-step s i said gs part) ns, vals-of (to-step s i said gs part)), tt);
     asks = λ ns. id⊢ 𝓤 _;
-    needed = λ ns. factI 𝓤 _ (emp 𝓤) needs-so;
+    needed = λ ns. says-two 𝓤 needs-so;
     tokens = λ ns. id⊢ 𝓤 _;
     last = λ ns ws. ws;
     finals = λ ns ws. id⊢ 𝓤 _;
     result = λ ns. wents;
     Said = λ ns x ws. StepsBy said (now part) (standOf (s .w .progress) (s .images) (s .octets) (s .letters)) (s .room) (s .w .wrote)
         (standOf (x .progress) (ws .1 .0) (ws .1 .1 .0) (ws .1 .1 .1 .0)) (x .taken) (ws .1 .1 .1 .1 .1 .1 .0) (x .wrote) (x .why) × (x .reply ≡ 0);
-    ensured = λ ns x ws. id⊢ 𝓤 _;
+    ensured = λ ns x ws. learn-two 𝓤;
   }
 
   -- ---- The calls of the reader: what each is given, and that it is what the callee asks.
@@ -298,7 +298,7 @@ module _ {M : Type 1} (𝓤 : URA M) (H : Heap 𝓤) (A : Atoms 𝓤) (W : Given
       calls-plain ! 𝓣 untaken.ended (untaken.clauses 𝓤 H A mem run) (known .knows-untaken) ((tt, tt, tt, (p, tt), (progresses .val p ∷ [], tt)), tt) (id⊢ 𝓤 _) (id⊢ 𝓤 _)
       (progresses .makes 𝓤 H A W, tt) (gp, tt) wents (λ w. w ≡ spec.untaken p) (λ w ws. id⊢ 𝓤 _) (λ Δ. and-then ! (loc ! tt refl) (no-more !)) tt refl (λ w is-w gw.
       move ! (0 ∷ 4 ∷ []) $
-      asks-on 𝓣 new.ended (new.clauses 𝓤 H A mem run) (known .knows-new) to-new asks-new (id⊢ 𝓤 _) ! (λ r. r) (λ r v g. g) (λ m. m ≡ 0) (λ r ws. id⊢ 𝓤 _)
+      asks-on 𝓣 new.ended (new.clauses 𝓤 H A mem run) (known .knows-new) to-new asks-new (id⊢ 𝓤 _) ! (λ r. r) (λ r v g. g) (λ m. m ≡ 0) (λ r ws. learn-two 𝓤)
       (λ Δ. and-then ! (loc ! tt refl) (no-more !)) tt refl (λ m is-m gm.
       -- goes_on(w)
       calls-giving (the-goes w gw) [] ! refl 𝓣 (known .knows-goes) (λ ns Θ. and-then ! (loc ! tt refl) (no-more !)) tt (λ ns. refl) (λ ns g _ _ is-g _.
@@ -326,7 +326,7 @@ module _ {M : Type 1} (𝓤 : URA M) (H : Heap 𝓤) (A : Atoms 𝓤) (W : Given
       sets ! (of-opd ! (loc ! tt refl)) tt (reader-typed (s .at) (i .at-fits)) $
       calls-plain ! 𝓣 taken.ended (taken.clauses 𝓤 H A mem run) (known .knows-taken) (of-went w′) (id⊢ 𝓤 _) (id⊢ 𝓤 _)
       (wents .makes 𝓤 H A W, tt) (gw′, tt) (uint-kind w64) (λ n. n ≡ w′ .taken) (λ n ws. id⊢ 𝓤 _) (λ Δ. and-then ! (loc ! tt refl) (no-more !)) tt refl (λ tk is-tk gtk.
-      asks-on 𝓣 next.ended (next.clauses 𝓤 H A mem run) (known .knows-next) (to-next (s .at) (i .at-fits) tk) (asks-next (s .at) (i .at-fits) tk (gtk .1)) (id⊢ 𝓤 _) ! (λ r. r) (λ r v g. g) (λ k. k ≡ movedOn (s .at) tk (length text)) (λ r ws. id⊢ 𝓤 _)
+      asks-on 𝓣 next.ended (next.clauses 𝓤 H A mem run) (known .knows-next) (to-next (s .at) (i .at-fits) tk) (asks-next (s .at) (i .at-fits) tk (gtk .1)) (id⊢ 𝓤 _) ! (λ r. r) (λ r v g. g) (λ k. k ≡ movedOn (s .at) tk (length text)) (λ r ws. learn-two 𝓤)
       (λ Δ. and-then ! (loc ! tt refl) (and-then ! (loc ! tt refl) (no-more !))) tt refl (λ k is-k gk.
       -- going = goes_on(w)
       calls-giving-last (the-goes w′ gw′) [] ! refl 𝓣 (known .knows-goes) (λ ns Θ. and-then ! (loc ! tt refl) (no-more !)) tt (λ ns. refl) (λ ns g′ _ _ is-g′ _.

@@ -51,10 +51,11 @@ line-requires c κs =
     let a = c .before .before .before .before .before .before .before .before .before .before .before .before .args in
     let p = c .before .before .before .before .before .before .before .before .before .before .before .before .pre in
     let g = a .w .progress in
-    let i = p .1 in
+    let i = p .1 .0 in
     let q = c .before .before .before .before .before .said .given .1 in
     let e = entered (i .text) (i .at) (g .stage) (g .bus .periods .0) (i .whole) _ _ _ _ _ (i .reads .says ∙ q) in
-    (p .0, p .3, p .4, e .after, e .most, few _ _ _ (short-value e) (ap (valueAt (i .text) (i .at)) (sym q) ∙ i .reads .value-is))
+    let short = few _ _ _ (short-value e) (ap (valueAt (i .text) (i .at)) (sym q) ∙ i .reads .value-is) in
+    (p .0, (p .1 .1 .1 .0, (p .1 .1 .1 .1, (e .after, (e .most, short)))))
 
 enum-told-2 : tie.Need-enum-told-2
 enum-told-2 c = search needs
@@ -88,7 +89,7 @@ returns c =
     turns (a .w) (a .images .now) (a .octets .now) (a .letters .now) (a .room .now) (a .said) (a .value .now) AT-LINES (g .begun) (g .over) _ (a .w .wrote) 0 _
     (λ text at whole q. steps-at _
     (step-first text whole (found (g .bus) (g .terminals) (a .images .now) (a .octets .now) (a .letters .now)) (g .stage) (g .begun) (g .over) at
-    (a .room .now) (a .w .wrote) (p .0 .fits) (p .3) (p .4) (q ∙ e)) (ap (λ (k : ℕ). at + k) (sym n))) (c .stays .result) (c .stays .ensures)
+    (a .room .now) (a .w .wrote) (p .0 .fits) (p .1 .1 .1 .0) (p .1 .1 .1 .1) (q ∙ e)) (ap (λ (k : ℕ). at + k) (sym n))) (c .stays .result) (c .stays .ensures)
 
 same-length : tie.Need-same-length
 same-length c = search needs
@@ -117,7 +118,7 @@ returns-3 c =
     turns (a .w) (a .images .now) (a .octets .now) (a .letters .now) (a .room .now) (a .said) (a .value .now) (g .stage) (g .begun) true 0 (a .w .wrote) OVER _
     (λ text at whole q. steps-at 0
     (step-done text whole (found (g .bus) (g .terminals) (a .images .now) (a .octets .now) (a .letters .now)) (g .stage) (g .begun) (g .over) at
-    (a .room .now) (a .w .wrote) (p .0 .fits) (p .3) (p .4) (q ∙ e)) (omega arith)) (c .turned .result) (c .turned .ensures)
+    (a .room .now) (a .w .wrote) (p .0 .fits) (p .1 .1 .1 .0) (p .1 .1 .1 .1) (q ∙ e)) (omega arith)) (c .turned .result) (c .turned .ensures)
 
 same-length-5 : tie.Need-same-length-5
 same-length-5 c = search needs
@@ -131,7 +132,7 @@ returns-4 c =
     turns (a .w) (a .images .now) (a .octets .now) (a .letters .now) (a .room .now) (a .said) (a .value .now) (g .stage) (g .begun) true 0 _ OVER _
     (λ text at whole q. steps-at 0
     (step-fault text whole (found (g .bus) (g .terminals) (a .images .now) (a .octets .now) (a .letters .now)) (g .stage) (g .begun) (g .over) at
-    (a .room .now) (a .w .wrote) (p .0 .fits) (p .3) (p .4) _ (c .before .before .before .before .before .known-told2 .given .0 .1) (q ∙ e) (p .2) _ _ (c .before .before .before .put-stopped .ensures)) (omega arith)) (c .turned2 .result) (c .turned2 .ensures)
+    (a .room .now) (a .w .wrote) (p .0 .fits) (p .1 .1 .1 .0) (p .1 .1 .1 .1) _ (c .before .before .before .before .before .known-told2 .given .0 .1) (q ∙ e) (p .1 .1 .0) _ _ (c .before .before .before .put-stopped .ensures)) (omega arith)) (c .turned2 .result) (c .turned2 .ensures)
 
 returns-5 : tie.Need-returns-5
 returns-5 c =
@@ -142,7 +143,7 @@ returns-5 c =
     turns (a .w) (a .images .now) (a .octets .now) (a .letters .now) (a .room .now) (a .said) (a .value .now) (g .stage) (g .begun) (g .over) 0 (a .w .wrote) TEXT _
     (λ text at whole q. steps-at 0
     (step-more text whole (found (g .bus) (g .terminals) (a .images .now) (a .octets .now) (a .letters .now)) (g .stage) (g .begun) (g .over) at
-    (a .room .now) (a .w .wrote) (p .0 .fits) (p .3) (p .4) (q ∙ e)) (omega arith)) (c .stays2 .result) (c .stays2 .ensures)
+    (a .room .now) (a .w .wrote) (p .0 .fits) (p .1 .1 .1 .0) (p .1 .1 .1 .1) (q ∙ e)) (omega arith)) (c .stays2 .result) (c .stays2 .ensures)
 
 pub carry-out-spec : {M : Type 1} → statement M
 carry-out-spec =

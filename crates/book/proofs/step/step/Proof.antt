@@ -72,13 +72,11 @@ returns-3 c =
 carry-out-requires : tie.Need-carry-out-requires
 carry-out-requires c κs =
     let p = c .before .before .before .before .before .before .before .before .before .before .before .before .before .before .pre in
-    let r = c .before .before .before .before .before .before .before .has-room in (
-      p .0,
-      p .1,
-      leb-true _ _ (sym (r .ensures) ∙ not-false (r .result) (c .before .before .before .before .before .before .if2 .left)),
-      not-false (c .before .before .before .before .before .before .before .before .before .before .before .before .before .before .args .w .progress .begun) (c .before .before .before .before .if3 .left),
-      c .before .before .before .before .before .before .before .before .if1 .left,
-    )
+    let r = c .before .before .before .before .before .before .before .has-room in
+    let fits = leb-true _ _ (sym (r .ensures) ∙ not-false (r .result) (c .before .before .before .before .before .before .if2 .left)) in
+    let begun =
+    not-false (c .before .before .before .before .before .before .before .before .before .before .before .before .before .before .args .w .progress .begun) (c .before .before .before .before .if3 .left) in
+    (p .0, (p .1, (fits, (begun, c .before .before .before .before .before .before .before .before .if1 .left))))
 
 same-length-2 : tie.Need-same-length-2
 same-length-2 c = search needs

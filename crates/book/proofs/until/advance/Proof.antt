@@ -24,9 +24,9 @@ returns c =
     let a = start .args in
     let p = start .pre in
     let r = held .run in
-    advanced-quiet (a .u .bus) (a .u .terminals) (a .images .now) (a .octets .now) (a .letters .now) (a .to) (a .room .now) (a .u .wrote) (p .0) (p .1)
-    (p .2) (p .3)
-    (r .result) _ (r .ensures .0) (r .ensures .1) (r .ensures .2) (r .ensures .3) (not-true (r .result .ran .told) (c .if1 .taken))
+    advanced-quiet (a .u .bus) (a .u .terminals) (a .images .now) (a .octets .now) (a .letters .now) (a .to) (a .room .now) (a .u .wrote) (p .0) (p .1 .0)
+    (p .1 .1 .0) (p .1 .1 .1)
+    (r .result) _ (r .ensures .0) (r .ensures .1 .0) (r .ensures .1 .1 .0) (r .ensures .1 .1 .1) (not-true (r .result .ran .told) (c .if1 .taken))
 
 sub-put-period : tie.Need-sub-put-period
 sub-put-period c =
@@ -37,8 +37,8 @@ sub-put-period c =
     omega (
       arith,
       ap (λ (x : Ran). x .bus .periods .0) (held .run .ensures .0),
-      ran-some (a .u .bus) (a .u .terminals) (a .images .now) (a .octets .now) (a .letters .now) (a .to) (a .room .now) (a .u .wrote) (p .0) (p .1)
-          (p .2),
+      ran-some (a .u .bus) (a .u .terminals) (a .images .now) (a .octets .now) (a .letters .now) (a .to) (a .room .now) (a .u .wrote) (p .0) (p .1 .0)
+          (p .1 .1 .0),
     )
 
 put-period-requires : tie.Need-put-period-requires
@@ -58,9 +58,9 @@ returns-2 c =
     let a = start .args in
     let p = start .pre in
     let r = held .run in
-    advanced (a .u .bus) (a .u .terminals) (a .images .now) (a .octets .now) (a .letters .now) (a .to) (a .room .now) (a .u .wrote) (p .0) (p .1)
-    (p .2) (p .3)
-    (r .result) _ (r .ensures .0) (r .ensures .1) (r .ensures .2) (r .ensures .3) _ _ (put .put-period .ensures)
+    advanced (a .u .bus) (a .u .terminals) (a .images .now) (a .octets .now) (a .letters .now) (a .to) (a .room .now) (a .u .wrote) (p .0) (p .1 .0)
+    (p .1 .1 .0) (p .1 .1 .1)
+    (r .result) _ (r .ensures .0) (r .ensures .1 .0) (r .ensures .1 .1 .0) (r .ensures .1 .1 .1) _ _ (put .put-period .ensures)
 
 pub advance-spec : {M : Type 1} → statement M
 advance-spec =

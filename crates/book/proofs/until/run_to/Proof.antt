@@ -22,7 +22,7 @@ abbrev μ-loop : tie.MeasureT-loop
 μ-loop images octets₀ letters room₀ to u₀ octets room u = to - u .bus .periods .0
 
 loop-holds : tie.Need-loop-holds Inv-loop μ-loop
-loop-holds c = let p = c .before .before .before .before .before .before .before .pre in (ran-none _ _ _ _ (p .1) (p .3), refl)
+loop-holds c = let p = c .before .before .before .before .before .before .before .pre in (ran-none _ _ _ _ (p .1 .0) (p .1 .1 .1), refl)
 
 has-room-requires : tie.Need-has-room-requires Inv-loop μ-loop
 has-room-requires c κs = search needs
@@ -32,7 +32,7 @@ advance-requires c κs =
     let p = c .before .before .before .before .before .before .before .before .before .before .before .before .before .pre in
     let i = c .before .before .before .before .before .loop .inv in
     let g = goes-on _ _ _ _ _ (c .before .before .before .has-room .ensures) (c .before .before .if1 .taken) in
-    (ran-ready (i .0) (p .0), g .0, p .2, g .1)
+    (ran-ready (i .0) (p .0), (g .0, (p .1 .1 .0, g .1)))
 
 loop-less : tie.Need-loop-less Inv-loop μ-loop
 loop-less c = let a = c .before .before .before .before .advance .ensures in omega (arith, a .1, a .0 .up-to)

@@ -3,7 +3,7 @@
 use Rattle.walks.proofs.Walk.{refl, ℕ, List, [], _∷_, lit<, URA, named, w64, Val, SProp, ent, emp, via, fst∗, Lft, Share, ftrue, flft}
 use Rattle.walks.proofs.Walk.{Memory, Routine, Heap, Tables, WpFn, Atoms, Fun, givenOf, tables, tablesOf, Given, ‵, raw, _⊛_, _$_, _∵_, !, qed}
 use Rattle.walks.proofs.Walk.{by, move, use1, split, fsplit, fjoin, suffices, frame, agg, lit, no-more, and-then, owns, Is, uint-makes, u8, usize, ShrSlice}
-use Rattle.walks.proofs.Walk.{owned, nothing, Vals, onEntry, Meets, tripleOf, entered, says, walkOf, ends-at, loc, sets, enters, leaves}
+use Rattle.walks.proofs.Walk.{owned, nothing, Vals, onEntry, Meets, tripleOf, entered, says-two, claims, walkOf, ends-at, loc, sets, enters, leaves}
 use Rattle.walks.proofs.Walk.{shr-way, Ways-of, stays-of, meets-by}
 use denote.Ref.{RefT, NamedLft}
 use denote.Signature.{namedLft}
@@ -42,7 +42,7 @@ module _ {M : Type 1} (𝓤 : URA M) (H : Heap 𝓤) (A : Atoms 𝓤) (W : Given
   exits =
       qed W ((‵ (flft κ q) ⊛ ‵ ftrue) ∷ ‵ (owns (ShrSlice (named 0) κ u8 ∷ []) (s, tt) at) ∷ []) ∵
       suffices ! _ (ends-at 𝓤 H A new.ended (stays-of new.ended ways) (new.clauses 𝓤 H A mem run) W bound (T′.lowered made) made (tt, tt)
-      (tt, tt)) $ says ! (refl, refl) $
+      (tt, tt)) $ claims ! (says-two 𝓤 (refl, refl)) $
       frame ! $ fsplit ! $ use1 W (‵ (Text κ s) ⊛ ‵ (Text κ s)) (shr-slice-copy 𝓤 H A W (named 0) κ u8 .twice s (lent s ∷ [])) $ split ! $
       move ! (0 ∷ 2 ∷ []) $ fjoin ! $ frame ! $
       -- [what text owns]: what the fields own together, of it and of at's facts, is what the struct owns

@@ -4,7 +4,7 @@
 use Rattle.walks.proofs.Walk.{_≡_, refl, ℕ, _<_, _^_, [], _∷_, length, URA, named, w64, Val, vint, SProp, ent, emp, via, id⊢, fst∗, Lft, Share, ftrue, flft}
 use Rattle.walks.proofs.Walk.{Memory, Routine, Heap, Tables, WpFn, Atoms, Fun, givenOf, tables, tablesOf, Given, ‵, raw, _⊛_, _$_, _∵_, !, qed}
 use Rattle.walks.proofs.Walk.{by, move, use1, split, fsplit, fjoin, suffices, frame, agg, of-opd, no-more, and-then, owns, Is, uint-makes, usize}
-use Rattle.walks.proofs.Walk.{owned, Vals, onEntry, Meets, tripleOf, Contract, Triple, entered, cited, says, walkOf, ends-at, uint-kind, loc, part}
+use Rattle.walks.proofs.Walk.{owned, Vals, onEntry, Meets, tripleOf, Contract, Triple, entered, cited, says-two, claims, walkOf, ends-at, uint-kind, loc, part}
 use Rattle.walks.proofs.Walk.{sets, enters, leaves, calls-plain, Ways-of, stays-of, meets-by}
 use denote.Struct.Laws as LL
 use denote.Struct.Rest.{own-put}
@@ -61,7 +61,7 @@ module _ {M : Type 1} (𝓤 : URA M) (H : Heap 𝓤) (A : Atoms 𝓤) (W : Given
   exits n fits e =
       qed W ((‵ (flft κ q) ⊛ ‵ ftrue) ∷ ‵ (owns (B (κ, tt) ∷ usize ∷ []) (d, (octets, tt)) at) ∷ []) ∵
       suffices ! _ (ends-at 𝓤 H A next.ended (stays-of next.ended ways) (next.clauses 𝓤 H A mem run) W bound (T′.lowered (on n)) (on n) (tt, (tt, tt))
-      (tt, (tt, tt))) $ says ! (refl, e) $
+      (tt, (tt, tt))) $ claims ! (says-two 𝓤 (refl, e)) $
       frame ! $ fsplit ! $
       use1 W (‵ Own ⊛ ‵ Own) (LL.copy (T.the-type (namedLft 1 0 tt (κ, tt))) (T′.the-copy (namedLft 1 0 tt (κ, tt))) 𝓤 H A W .twice d (mach ∷ [])) $
       split ! $ move ! (0 ∷ 2 ∷ []) $ fjoin ! $ frame ! $

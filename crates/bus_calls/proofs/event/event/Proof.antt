@@ -1,5 +1,5 @@
 -- `bus_calls::event::event` meets its contract: a walk of its MIR with the lemmas of crate `walks`. All that it knows of the functions it calls are their contracts. Assumes nothing.
-use Rattle.walks.proofs.Walk.{_≡_, refl, sym, _∙_, ap, subst, ℕ, _<_, _^_, Bool, List, [], _∷_, eqb, length, getD, set, length-set, URA, w8, w32, w64, Val, vint, SProp, ent, emp, via, id⊢, fst∗, Memory, Routine, Heap, Tables, WpFn, Atoms, Fun, factI, givenOf, tables, tablesOf, Given, ⋆, _$_, !, lit, of-opd, no-more, and-then, bin, Is, u8, u32, usize, bool, Room, onEntry, Meets, tripleOf, Contract, Triple, entered, cited, walkOf, loc, part, sets, leaves, returns-if, bool-kind, uint-kind, typed, loads, stores, Spot, spot, word, lends-at, shows-at, hands-at, Param, plain-of, lfts-at, shares-at, args-at, vals-of, lfts-of, shares-of, args-of, itemsOf, reborrows, Call, calls-giving, enters-with, returns-with, mut-way, shr-way, plain-way, Ways-of, stays-of, meets-by}
+use Rattle.walks.proofs.Walk.{_≡_, refl, sym, _∙_, ap, subst, ℕ, _<_, _^_, Bool, List, [], _∷_, eqb, length, getD, set, length-set, URA, w8, w32, w64, Val, vint, SProp, ent, emp, via, id⊢, fst∗, Memory, Routine, Heap, Tables, WpFn, Atoms, Fun, givenOf, tables, tablesOf, Given, ⋆, _$_, !, lit, of-opd, no-more, and-then, bin, Is, u8, u32, usize, bool, Room, onEntry, Meets, tripleOf, Contract, Triple, entered, cited, walkOf, loc, part, sets, leaves, returns-if, bool-kind, uint-kind, typed, loads, stores, Spot, spot, word, lends-at, shows-at, hands-at, Param, plain-of, lfts-at, shares-at, args-at, vals-of, lfts-of, shares-of, args-of, itemsOf, reborrows, Call, calls-giving, enters-with, returns-with, mut-way, shr-way, plain-way, Ways-of, stays-of, meets-by, says-four, learn-two}
 use borrow.Author.Tests.{not-true, not-false}
 use Prim.Native.Nat.{_-_}
 use Rattle.cells.specs.Notes.{packedNotes}
@@ -121,7 +121,7 @@ module _ {M : Type 1} (𝓤 : URA M) (H : Heap 𝓤) (A : Atoms 𝓤) (W : Given
   Owed = Promised unit number value bus ys images letters
 
   exits : (r : Told) (ts : List Terminal) (is ls : List ℕ) → length ts ≡ length ys → length is ≡ length images → length ls ≡ length letters → Owed r ts is ls → Is D.the-row r (tolds .val r ∷ []) → ent 𝓤 (⋆ 𝓤 H A (itemsOf W (params ts is ls))) (Post (tolds .val r))
-  exits r ts is ls l₁ l₂ l₃ so gr = returns-with W (params ts is ls) all.ended (stays-of all.ended ways) (all.clauses 𝓤 H A mem run) bound tolds r (tt, (ts, (is, (ls, (tt, (tt, (tt, tt))))))) (tt, (l₁, (l₂, (l₃, (tt, (tt, (tt, tt))))))) gr (id⊢ 𝓤 _) (factI 𝓤 _ (emp 𝓤) so)
+  exits r ts is ls l₁ l₂ l₃ so gr = returns-with W (params ts is ls) all.ended (stays-of all.ended ways) (all.clauses 𝓤 H A mem run) bound tolds r (tt, (ts, (is, (ls, (tt, (tt, (tt, tt))))))) (tt, (l₁, (l₂, (l₃, (tt, (tt, (tt, tt))))))) gr (id⊢ 𝓤 _) (says-four 𝓤 so)
 
   -- the calls: what each is given, and what it says
   abbrev to-ranges : List Param
@@ -185,7 +185,7 @@ module _ {M : Type 1} (𝓤 : URA M) (H : Heap 𝓤) (A : Atoms 𝓤) (W : Given
     finals = λ ns ws. id⊢ 𝓤 _;
     result = λ ns. tolds;
     Said = λ ns r ws. (r ≡ networkTold number bus) × (ws .1 .0 ≡ lettersAfter number value letters);
-    ensured = λ ns r ws. id⊢ 𝓤 _;
+    ensured = λ ns r ws. learn-two 𝓤;
   }
 
   abbrev to-index : List Param
@@ -233,7 +233,7 @@ module _ {M : Type 1} (𝓤 : URA M) (H : Heap 𝓤) (A : Atoms 𝓤) (W : Given
     finals = λ ns ws. id⊢ 𝓤 _;
     result = λ ns. terminal-steps;
     Said = λ ns r ws. (r ≡ terminalTold number images i value p t) × (ws .1 .0 ≡ imagesAfter number t i value images);
-    ensured = λ ns r ws. id⊢ 𝓤 _;
+    ensured = λ ns r ws. learn-two 𝓤;
   }
 
   abbrev to-after : (s : TerminalStep) (gs : Is S.the-row s (terminal-steps .val s ∷ [])) → List Param

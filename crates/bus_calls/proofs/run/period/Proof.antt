@@ -1,5 +1,5 @@
 -- `bus_calls::run::period` meets its contract: a walk of its MIR with the lemmas of crate `walks`. All that it knows of `run` is its contract. Assumes nothing.
-use Rattle.walks.proofs.Walk.{_≡_, refl, ℕ, List, [], _∷_, lit<, length, URA, w32, Val, SProp, ent, emp, via, id⊢, fst∗, Memory, Routine, Heap, Tables, WpFn, Atoms, Fun, factI, givenOf, tables, tablesOf, Given, ⋆, _$_, !, lit, no-more, and-then, Is, u8, u32, Room, onEntry, Meets, tripleOf, Contract, Triple, entered, cited, walkOf, loc, leaves, uint-kind, typed, Spot, spot, word, lends-at, hands-at, Param, plain-of, lfts-at, shares-at, args-at, vals-of, lfts-of, shares-of, args-of, itemsOf, reborrows, Call, calls-giving, enters-with, returns-with, mut-way, shr-way, plain-way, Ways-of, stays-of, meets-by}
+use Rattle.walks.proofs.Walk.{_≡_, refl, ℕ, List, [], _∷_, lit<, length, URA, w32, Val, SProp, ent, emp, via, id⊢, fst∗, Memory, Routine, Heap, Tables, WpFn, Atoms, Fun, givenOf, tables, tablesOf, Given, ⋆, _$_, !, lit, no-more, and-then, Is, u8, u32, Room, onEntry, Meets, tripleOf, Contract, Triple, entered, cited, walkOf, loc, leaves, uint-kind, typed, Spot, spot, word, lends-at, hands-at, Param, plain-of, lfts-at, shares-at, args-at, vals-of, lfts-of, shares-of, args-of, itemsOf, reborrows, Call, calls-giving, enters-with, returns-with, mut-way, shr-way, plain-way, Ways-of, stays-of, meets-by, says-four, learn-four}
 use Rattle.terminal.specs.declared.Terminal.{Terminal}
 use Rattle.terminal.proofs.Terminal as T
 use Rattle.listening.specs.declared.hears.UnitNotes.{UnitNotes}
@@ -50,7 +50,7 @@ module _ {M : Type 1} (𝓤 : URA M) (H : Heap 𝓤) (A : Atoms 𝓤) (W : Given
 
   exits : (r : Ran) (ts : List Terminal) (octs : List ℕ) (ns : List UnitNotes) → length ts ≡ length ys → length octs ≡ length os → length ns ≡ length us → Promised r ts octs ns → Is R.the-row r (runs .val r ∷ []) → ent 𝓤 (⋆ 𝓤 H A (itemsOf W (params ts octs ns))) (Post (runs .val r))
   exits r ts octs ns l₁ l₃ l₅ so gr =
-      returns-with W (params ts octs ns) all.ended (stays-of all.ended ways) (all.clauses 𝓤 H A mem run) bound runs r (tt, (ts, (tt, (octs, (tt, (ns, tt)))))) (tt, (l₁, (tt, (l₃, (tt, (l₅, tt)))))) gr (id⊢ 𝓤 _) (factI 𝓤 _ (emp 𝓤) so)
+      returns-with W (params ts octs ns) all.ended (stays-of all.ended ways) (all.clauses 𝓤 H A mem run) bound runs r (tt, (ts, (tt, (octs, (tt, (ns, tt)))))) (tt, (l₁, (tt, (l₃, (tt, (l₅, tt)))))) gr (id⊢ 𝓤 _) (says-four 𝓤 so)
 
   -- the call: what it is given, and what it says
   abbrev to-run : List Param
@@ -67,7 +67,7 @@ module _ {M : Type 1} (𝓤 : URA M) (H : Heap 𝓤) (A : Atoms 𝓤) (W : Given
     finals = λ ns ws. id⊢ 𝓤 _;
     result = λ ns. runs;
     Said = λ ns r ws. Promised r (ws .1 .0) (ws .1 .1 .1 .0) (ws .1 .1 .1 .1 .1 .0);
-    ensured = λ ns r ws. id⊢ 𝓤 _;
+    ensured = λ ns r ws. learn-four 𝓤;
   }
 
   walk : (𝓣 : Tables 𝓤 H) → Triple 𝓤 (𝓣 .C #runs) (Runs 𝓤 H A mem run)

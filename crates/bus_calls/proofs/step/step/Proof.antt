@@ -1,6 +1,6 @@
 -- `bus_calls::step::step` meets its contract: a walk of its MIR with the lemmas of crate `walks`. The terminals are lent again to the exchange and,
 -- with the notes, to the hearing; the octets to the network end's side. All that it knows of what it calls are their contracts. Assumes nothing.
-use Rattle.walks.proofs.Walk.{_≡_, refl, sym, _∙_, ℕ, Bool, List, [], _∷_, length, URA, Val, SProp, ent, emp, id⊢, Memory, Routine, Heap, Tables, WpFn, Atoms, Fun, factI, givenOf, tables, tablesOf, Given, ⋆, _$_, !, no-more, and-then, Is, u8, bool, Room, onEntry, Meets, tripleOf, Contract, Triple, entered, cited, needs, walkOf, loc, leaves, bool-kind, typed, Spot, spot, word, lends-at, hands-at, Param, plain-of, lfts-at, shares-at, args-at, vals-of, lfts-of, shares-of, args-of, itemsOf, reborrows, Call, calls-giving, enters-with, returns-with, mut-way, shr-way, plain-way, Ways-of, stays-of, meets-by}
+use Rattle.walks.proofs.Walk.{_≡_, refl, sym, _∙_, ℕ, Bool, List, [], _∷_, length, URA, Val, SProp, ent, emp, id⊢, Memory, Routine, Heap, Tables, WpFn, Atoms, Fun, givenOf, tables, tablesOf, Given, ⋆, _$_, !, no-more, and-then, Is, u8, bool, Room, onEntry, Meets, tripleOf, Contract, Triple, entered, cited, needs, walkOf, loc, leaves, bool-kind, typed, Spot, spot, word, lends-at, hands-at, Param, plain-of, lfts-at, shares-at, args-at, vals-of, lfts-of, shares-of, args-of, itemsOf, reborrows, Call, calls-giving, enters-with, returns-with, mut-way, shr-way, plain-way, Ways-of, stays-of, meets-by, says-four, learn-two, learn-three}
 use borrow.Author.Tests.{eq-eqb}
 use Rattle.timing.specs.declared.counts.Periods.{Periods}
 use Rattle.timing.proofs.counts.Periods as P
@@ -111,7 +111,7 @@ module _ {M : Type 1} (𝓤 : URA M) (H : Heap 𝓤) (A : Atoms 𝓤) (W : Given
 
   exits : (r : Ran) (ts : List Terminal) (octs : List ℕ) (ns : List UnitNotes) → length ts ≡ length ys → length octs ≡ length os → length ns ≡ length us → Promised bus ys es os ls r ts octs ns → Is R.the-row r (runs .val r ∷ []) → ent 𝓤 (⋆ 𝓤 H A (itemsOf W (params ts octs ns))) (Post (runs .val r))
   exits r ts octs ns l₁ l₃ l₅ so gr =
-      returns-with W (params ts octs ns) all.ended (stays-of all.ended ways) (all.clauses 𝓤 H A mem run) bound runs r (tt, (ts, (tt, (octs, (tt, (ns, tt)))))) (tt, (l₁, (tt, (l₃, (tt, (l₅, tt)))))) gr (id⊢ 𝓤 _) (factI 𝓤 _ (emp 𝓤) so)
+      returns-with W (params ts octs ns) all.ended (stays-of all.ended ways) (all.clauses 𝓤 H A mem run) bound runs r (tt, (ts, (tt, (octs, (tt, (ns, tt)))))) (tt, (l₁, (tt, (l₃, (tt, (l₅, tt)))))) gr (id⊢ 𝓤 _) (says-four 𝓤 so)
 
   -- ---- The calls: what each is given, and what it says.
   abbrev to-first : List Param
@@ -143,7 +143,7 @@ module _ {M : Type 1} (𝓤 : URA M) (H : Heap 𝓤) (A : Atoms 𝓤) (W : Given
     finals = λ ns ws. id⊢ 𝓤 _;
     result = λ ns. moments;
     Said = λ ns r ws. Exchanged bus ys es os ls m r (ws .0);
-    ensured = λ ns r ws. id⊢ 𝓤 _;
+    ensured = λ ns r ws. learn-two 𝓤;
   }
 
   abbrev to-down : (m : Moment) → Is Mo.the-row m (moments .val m ∷ []) → List Param
@@ -191,7 +191,7 @@ module _ {M : Type 1} (𝓤 : URA M) (H : Heap 𝓤) (A : Atoms 𝓤) (W : Given
     finals = λ ns ws. id⊢ 𝓤 _;
     result = λ ns. bool-kind;
     Said = λ ns told ws. Listened bus ys es os ls p us ts line told (ws .0) (ws .1 .0);
-    ensured = λ ns told ws. id⊢ 𝓤 _;
+    ensured = λ ns told ws. learn-three 𝓤;
   }
 
   abbrev to-side : (m : Moment) → Is Mo.the-row m (moments .val m ∷ []) → Bool → List Param
@@ -207,7 +207,7 @@ module _ {M : Type 1} (𝓤 : URA M) (H : Heap 𝓤) (A : Atoms 𝓤) (W : Given
     finals = λ ns ws. id⊢ 𝓤 _;
     result = λ ns. runs;
     Said = λ ns r ws. Sided bus ys es os ls m told r (ws .1 .1 .0);
-    ensured = λ ns r ws. id⊢ 𝓤 _;
+    ensured = λ ns r ws. learn-two 𝓤;
   }
 
   walk : (𝓣 : Tables 𝓤 H) → Triple 𝓤 (𝓣 .C #first) (First 𝓤 H A mem run) → Triple 𝓤 (𝓣 .C #exch) (Exch 𝓤 H A mem run) → Triple 𝓤 (𝓣 .C #down) (Down 𝓤 H A mem run) → Triple 𝓤 (𝓣 .C #period) (Period 𝓤 H A mem run) → Triple 𝓤 (𝓣 .C #listen) (Listen 𝓤 H A mem run) → Triple 𝓤 (𝓣 .C #side) (Side 𝓤 H A mem run)

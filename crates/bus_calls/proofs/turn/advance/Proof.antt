@@ -1,6 +1,6 @@
 -- `bus_calls::turn::advance` meets its contract: a walk of its MIR with the lemmas of crate `walks`. All that it knows of the functions it calls are their contracts;
 -- that a run alone is a turn is the law `alone-turns`. Assumes nothing.
-use Rattle.walks.proofs.Walk.{_≡_, refl, sym, _∙_, ap, subst, ℕ, _<_, _^_, arith, true, false, List, [], _∷_, eqb, length, URA, w32, Val, vint, SProp, ent, emp, id⊢, Memory, Routine, Heap, Tables, WpFn, Atoms, Fun, factI, givenOf, tables, tablesOf, Given, ⋆, _$_, !, lit, no-more, and-then, bin, Is, u8, u32, Room, onEntry, Meets, tripleOf, Contract, Triple, entered, cited, walkOf, loc, sets, leaves, returns-if, typed, uint-kind, bool-kind, unit-kind, Spot, spot, word, lends-at, shows-at, hands-at, Param, plain-of, lfts-at, shares-at, args-at, vals-of, lfts-of, shares-of, args-of, itemsOf, reborrows, Call, calls-giving, enters-with, returns-with, mut-way, shr-way, plain-way, Ways-of, stays-of, meets-by, needs}
+use Rattle.walks.proofs.Walk.{_≡_, refl, sym, _∙_, ap, subst, ℕ, _<_, _^_, arith, true, false, List, [], _∷_, eqb, length, URA, w32, Val, vint, SProp, ent, emp, id⊢, Memory, Routine, Heap, Tables, WpFn, Atoms, Fun, factI, givenOf, tables, tablesOf, Given, ⋆, _$_, !, lit, no-more, and-then, bin, Is, u8, u32, Room, onEntry, Meets, tripleOf, Contract, Triple, entered, cited, walkOf, loc, sets, leaves, returns-if, typed, uint-kind, bool-kind, unit-kind, Spot, spot, word, lends-at, shows-at, hands-at, Param, plain-of, lfts-at, shares-at, args-at, vals-of, lfts-of, shares-of, args-of, itemsOf, reborrows, Call, calls-giving, enters-with, returns-with, mut-way, shr-way, plain-way, Ways-of, stays-of, meets-by, needs, learn-two}
 use Prim.Native.Nat.{_-_, _≤_}
 use borrow.Author.Tests.{eqb-true, eqb-false}
 use Rattle.walks.specs.Over.{mapFrom}
@@ -279,7 +279,7 @@ module _ {M : Type 1} (𝓤 : URA M) (H : Heap 𝓤) (A : Atoms 𝓤) (W : Given
     finals = λ ns ws. id⊢ 𝓤 _;
     result = λ ns. alones;
     Said = λ ns r ws. RunsAlone bus ys es os ls us left b m r (ws .1 .1 .0);
-    ensured = λ ns r ws. id⊢ 𝓤 _;
+    ensured = λ ns r ws. learn-two 𝓤;
   }
 
   abbrev to-none : (a : Alone) (ga : Is Al.the-row a (alones .val a ∷ [])) → List Param
@@ -359,7 +359,7 @@ module _ {M : Type 1} (𝓤 : URA M) (H : Heap 𝓤) (A : Atoms 𝓤) (W : Given
     finals = λ ns ws. id⊢ 𝓤 _;
     result = λ ns. turns;
     Said = λ ns t ws. (t .ran ≡ a .ran) × (t .over ≡ a .over - 1);
-    ensured = λ ns t ws. id⊢ 𝓤 _;
+    ensured = λ ns t ws. learn-two 𝓤;
   }
 
   abbrev to-leap : (octets : List ℕ) → List Param

@@ -1,6 +1,6 @@
 -- `bus_calls::turn::leap_on` meets its contract: a walk of its MIR with the lemmas of crate `walks`. All that it knows of the functions it calls are their contracts;
 -- that a leap and a period run on is the law `leap-turns`. Assumes nothing.
-use Rattle.walks.proofs.Walk.{_≡_, refl, ℕ, _<_, _^_, List, [], _∷_, length, URA, w32, Val, vint, SProp, ent, emp, id⊢, Memory, Routine, Heap, Tables, WpFn, Atoms, Fun, factI, givenOf, tables, tablesOf, Given, ⋆, _$_, !, no-more, and-then, Is, u8, u32, Room, onEntry, Meets, tripleOf, Contract, Triple, entered, cited, walkOf, loc, leaves, typed, uint-kind, Spot, spot, word, lends-at, shows-at, hands-at, Param, plain-of, lfts-at, shares-at, args-at, vals-of, lfts-of, shares-of, args-of, itemsOf, reborrows, Call, calls-giving, enters-with, returns-with, mut-way, shr-way, plain-way, Ways-of, stays-of, meets-by, needs}
+use Rattle.walks.proofs.Walk.{_≡_, refl, ℕ, _<_, _^_, List, [], _∷_, length, URA, w32, Val, vint, SProp, ent, emp, id⊢, Memory, Routine, Heap, Tables, WpFn, Atoms, Fun, factI, givenOf, tables, tablesOf, Given, ⋆, _$_, !, no-more, and-then, Is, u8, u32, Room, onEntry, Meets, tripleOf, Contract, Triple, entered, cited, walkOf, loc, leaves, typed, uint-kind, Spot, spot, word, lends-at, shows-at, hands-at, Param, plain-of, lfts-at, shares-at, args-at, vals-of, lfts-of, shares-of, args-of, itemsOf, reborrows, Call, calls-giving, enters-with, returns-with, mut-way, shr-way, plain-way, Ways-of, stays-of, meets-by, needs, learn-two, learn-four}
 use Rattle.terminal.specs.declared.Terminal.{Terminal}
 use Rattle.terminal.proofs.Terminal as T
 use Rattle.listening.specs.declared.hears.UnitNotes.{UnitNotes}
@@ -136,7 +136,7 @@ module _ {M : Type 1} (𝓤 : URA M) (H : Heap 𝓤) (A : Atoms 𝓤) (W : Given
     finals = λ ns ws. id⊢ 𝓤 _;
     result = λ ns. runs;
     Said = λ ns r ws. Stepped bus ys es os ls us left b r (ws .1 .0) (ws .1 .1 .1 .0) (ws .1 .1 .1 .1 .1 .0);
-    ensured = λ ns r ws. id⊢ 𝓤 _;
+    ensured = λ ns r ws. learn-four 𝓤;
   }
 
   abbrev to-made : (r : Ran) → Is R.the-row r (runs .val r ∷ []) → (far : ℕ) → far < 2 ^ 32 → List Param
@@ -152,7 +152,7 @@ module _ {M : Type 1} (𝓤 : URA M) (H : Heap 𝓤) (A : Atoms 𝓤) (W : Given
     finals = λ ns ws. id⊢ 𝓤 _;
     result = λ ns. turns;
     Said = λ ns t ws. (t .ran ≡ r) × (t .over ≡ far);
-    ensured = λ ns t ws. id⊢ 𝓤 _;
+    ensured = λ ns t ws. learn-two 𝓤;
   }
 
   walk : (𝓣 : Tables 𝓤 H) → Triple 𝓤 (𝓣 .C #reach) (Reaches 𝓤 H A mem run) → Triple 𝓤 (𝓣 .C #leap) (Leaps 𝓤 H A mem run) → Triple 𝓤 (𝓣 .C #step) (Steps 𝓤 H A mem run) → Triple 𝓤 (𝓣 .C #made) (Makes 𝓤 H A mem run)

@@ -22,7 +22,8 @@ put-image-requires : tie.Need-put-image-requires
 put-image-requires c κs =
     let asked = c .before .before in
     let a = asked .before .before .before .args in
-    no-reason (a .images .now) (a .i) (a .value .now) (a .terminal) (sym (asked .frame-reason .ensures) ∙ c .before .if1 .left)
+    let x = no-reason (a .images .now) (a .i) (a .value .now) (a .terminal) (sym (asked .frame-reason .ensures) ∙ c .before .if1 .left) in
+    (x .0, (x .1, (x .2, x .3)))
 
 hand-over-requires : tie.Need-hand-over-requires
 hand-over-requires c κs = search needs

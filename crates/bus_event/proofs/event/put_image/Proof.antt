@@ -38,8 +38,8 @@ returns c =
     let called = c .before .before .before .before .before in
     let start = called .before .before .before .before in
     let a = start .args in
-    put-bits (a .i) (a .value .now) (a .images .now) (start .pre .0) (start .pre .1) (start .pre .2) (start .pre .3) (a .i * 322 + 322 - a .i * 322) (omega arith)
-    (called .image .result) (called .image .ensures .0) (c .before .n .given .0 .0) (c .before .n .given .1) (called .image .last .1 .0) (called .image .ensures .1)
+    put-bits (a .i) (a .value .now) (a .images .now) (start .pre .0) (start .pre .1 .0) (start .pre .1 .1 .0) (start .pre .1 .1 .1) (a .i * 322 + 322 - a .i * 322) (omega arith)
+    (called .image .result) (called .image .ensures .0) (c .before .n .given .0 .0) (c .before .n .given .1) (called .image .last .1 .0) (called .image .ensures .1 .0)
 
 same-length-2 : tie.Need-same-length-2
 same-length-2 c = search needs
@@ -49,7 +49,7 @@ returns-2 c =
     let called = c .before .before .before .before in
     let start = called .before .before .before .before in
     let a = start .args in
-    absurd (never-refused (a .i) (a .value .now) (a .images .now) (start .pre .0) (start .pre .1) (start .pre .2) (start .pre .3) (a .i * 322 + 322 - a .i * 322) (omega arith)
+    absurd (never-refused (a .i) (a .value .now) (a .images .now) (start .pre .0) (start .pre .1 .0) (start .pre .1 .1 .0) (start .pre .1 .1 .1) (a .i * 322 + 322 - a .i * 322) (omega arith)
     (called .image .result) (called .image .ensures .0) (c .enum-told .given .0 .0) (c .enum-told .given .1))
 
 pub put-image-spec : {M : Type 1} → statement M

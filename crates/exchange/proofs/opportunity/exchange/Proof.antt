@@ -1,6 +1,6 @@
 -- `exchange::opportunity::exchange` meets its contract: a walk of its MIR with the lemmas of crate `walks`. All that it knows of the functions it calls are
 -- their contracts; that nothing changes where no terminal takes part is the law `left-at-rest`. Assumes nothing.
-use Rattle.walks.proofs.Walk.{_≡_, refl, sym, _∙_, ap, ℕ, Bool, true, false, not, List, [], _∷_, length, URA, Val, SProp, ent, emp, via, id⊢, fst∗, Memory, Routine, Heap, Tables, WpFn, Atoms, Fun, factI, givenOf, tables, tablesOf, Given, ⋆, _$_, !, no-more, and-then, Is, u8, bool, Room, onEntry, Meets, tripleOf, Contract, Triple, entered, cited, walkOf, loc, part, leaves, sets, of-opd, returns-if, typed, bool-kind, Spot, spot, word, lends-at, shows-at, hands-at, Param, plain-of, lfts-at, shares-at, args-at, vals-of, lfts-of, shares-of, args-of, itemsOf, reborrows, Call, calls-giving, enters-with, returns-with, mut-way, shr-way, plain-way, Ways-of, stays-of, meets-by}
+use Rattle.walks.proofs.Walk.{_≡_, refl, sym, _∙_, ap, ℕ, Bool, true, false, not, List, [], _∷_, length, URA, Val, SProp, ent, emp, via, id⊢, fst∗, Memory, Routine, Heap, Tables, WpFn, Atoms, Fun, givenOf, tables, tablesOf, Given, ⋆, _$_, !, no-more, and-then, Is, u8, bool, Room, onEntry, Meets, tripleOf, Contract, Triple, entered, cited, walkOf, loc, part, leaves, sets, of-opd, returns-if, typed, bool-kind, Spot, spot, word, lends-at, shows-at, hands-at, Param, plain-of, lfts-at, shares-at, args-at, vals-of, lfts-of, shares-of, args-of, itemsOf, reborrows, Call, calls-giving, enters-with, returns-with, mut-way, shr-way, plain-way, Ways-of, stays-of, meets-by, says-two, learn-two}
 use borrow.Author.Tests.{not-false}
 use denote.Struct.Laws as LL
 use Rattle.terminal.specs.declared.Terminal.{Terminal}
@@ -70,7 +70,7 @@ module _ {M : Type 1} (𝓤 : URA M) (H : Heap 𝓤) (A : Atoms 𝓤) (W : Given
   Promised r zs = (r ≡ momentAfterFour es first ys) × (zs ≡ terminalsAfterFour es first ys)
 
   exits : (r : Moment) (zs : List Terminal) → length zs ≡ n → Promised r zs → Is Mo.the-row r (moments .val r ∷ []) → ent 𝓤 (⋆ 𝓤 H A (itemsOf W (params zs))) (Post (moments .val r))
-  exits r zs same so gr = returns-with W (params zs) all.ended (stays-of all.ended ways) (all.clauses 𝓤 H A mem run) bound moments r (zs, (tt, (tt, tt))) (same, (tt, (tt, tt))) gr (id⊢ 𝓤 _) (factI 𝓤 _ (emp 𝓤) so)
+  exits r zs same so gr = returns-with W (params zs) all.ended (stays-of all.ended ways) (all.clauses 𝓤 H A mem run) bound moments r (zs, (tt, (tt, tt))) (same, (tt, (tt, tt))) gr (id⊢ 𝓤 _) (says-two 𝓤 so)
 
   -- ---- The calls: what each is given, and what it says.
   abbrev to-may : List Param
@@ -131,7 +131,7 @@ module _ {M : Type 1} (𝓤 : URA M) (H : Heap 𝓤) (A : Atoms 𝓤) (W : Given
     finals = λ ns ws. id⊢ 𝓤 _;
     result = λ ns. moments;
     Said = λ ns r ws. Promised r (ws .0);
-    ensured = λ ns r ws. id⊢ 𝓤 _;
+    ensured = λ ns r ws. learn-two 𝓤;
   }
 
   -- nothing changes

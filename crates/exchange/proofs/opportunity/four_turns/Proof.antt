@@ -1,6 +1,6 @@
 -- `exchange::opportunity::four_turns` meets its contract: a walk of its MIR with the lemmas of crate `walks`. Each call is lent the terminals again. All
 -- that it knows of `opportunity` is its contract. Assumes nothing.
-use Rattle.walks.proofs.Walk.{_≡_, refl, _∙_, ℕ, List, [], _∷_, length, URA, Val, SProp, ent, emp, via, id⊢, fst∗, Memory, Routine, Heap, Tables, WpFn, Atoms, Fun, factI, givenOf, tables, tablesOf, Given, ⋆, _$_, !, no-more, and-then, Is, u8, Room, onEntry, Meets, tripleOf, Contract, Triple, entered, cited, walkOf, loc, leaves, typed, Spot, spot, word, lends-at, hands-at, Param, plain-of, lfts-at, shares-at, args-at, vals-of, lfts-of, shares-of, args-of, itemsOf, reborrows, Call, calls-giving, enters-with, returns-with, mut-way, shr-way, plain-way, Ways-of, stays-of, meets-by}
+use Rattle.walks.proofs.Walk.{_≡_, refl, _∙_, ℕ, List, [], _∷_, length, URA, Val, SProp, ent, emp, via, id⊢, fst∗, Memory, Routine, Heap, Tables, WpFn, Atoms, Fun, givenOf, tables, tablesOf, Given, ⋆, _$_, !, no-more, and-then, Is, u8, Room, onEntry, Meets, tripleOf, Contract, Triple, entered, cited, walkOf, loc, leaves, typed, Spot, spot, word, lends-at, hands-at, Param, plain-of, lfts-at, shares-at, args-at, vals-of, lfts-of, shares-of, args-of, itemsOf, reborrows, Call, calls-giving, enters-with, returns-with, mut-way, shr-way, plain-way, Ways-of, stays-of, meets-by, says-two, learn-two}
 use Rattle.terminal.specs.declared.Terminal.{Terminal}
 use Rattle.terminal.proofs.Terminal as T
 use Rattle.exchange.specs.Opportunities.{momentAfter, terminalsAfter, momentAfterFour, terminalsAfterFour}
@@ -50,7 +50,7 @@ module _ {M : Type 1} (𝓤 : URA M) (H : Heap 𝓤) (A : Atoms 𝓤) (W : Given
   Post = walkOf 𝓤 H A all.ended (stays-of all.ended ways) (all.clauses 𝓤 H A mem run) .post bound
 
   exits : (r : Moment) (zs : List Terminal) → length zs ≡ n → Four es first ys r zs → Is Mo.the-row r (moments .val r ∷ []) → ent 𝓤 (⋆ 𝓤 H A (itemsOf W (params zs first gf))) (Post (moments .val r))
-  exits r zs same so gr = returns-with W (params zs first gf) all.ended (stays-of all.ended ways) (all.clauses 𝓤 H A mem run) bound moments r (zs, (tt, (tt, tt))) (same, (tt, (tt, tt))) gr (id⊢ 𝓤 _) (factI 𝓤 _ (emp 𝓤) so)
+  exits r zs same so gr = returns-with W (params zs first gf) all.ended (stays-of all.ended ways) (all.clauses 𝓤 H A mem run) bound moments r (zs, (tt, (tt, tt))) (same, (tt, (tt, tt))) gr (id⊢ 𝓤 _) (says-two 𝓤 so)
 
   abbrev the-opp : (zs : List Terminal) (m : Moment) (gm : Is Mo.the-row m (moments .val m ∷ [])) → Call W (params zs m gm) opp.ended (opp.clauses 𝓤 H A mem run)
   the-opp zs m gm = record {
@@ -62,7 +62,7 @@ module _ {M : Type 1} (𝓤 : URA M) (H : Heap 𝓤) (A : Atoms 𝓤) (W : Given
     finals = λ ns ws. id⊢ 𝓤 _;
     result = λ ns. moments;
     Said = λ ns r ws. Once es m zs r (ws .0);
-    ensured = λ ns r ws. id⊢ 𝓤 _;
+    ensured = λ ns r ws. learn-two 𝓤;
   }
 
   walk : (𝓣 : Tables 𝓤 H) → Triple 𝓤 (𝓣 .C #opp) (Opp 𝓤 H A mem run)

@@ -1,6 +1,6 @@
 -- `exchange::opportunity::opportunity` meets its contract: a walk of its MIR with the lemmas of crate `walks`. All that it knows of `begun`, `one_turn`
 -- and `ended` is their contracts. Assumes nothing.
-use Rattle.walks.proofs.Walk.{_≡_, refl, sym, _∙_, ap, subst, ℕ, suc, _+_, _<_, Bool, List, [], _∷_, lit<, length, getD, set, URA, named, w64, Val, vint, SProp, ent, emp, via, id⊢, fst∗, Memory, Routine, Heap, Tables, WpFn, Atoms, Fun, factI, givenOf, tables, tablesOf, Given, Item, ⋆, _$_, !, rewrite, lit, of-opd, no-more, and-then, bin, Is, u8, usize, Room, onEntry, Meets, tripleOf, Contract, Triple, entered, cited, walkOf, upto, upto-length, upto-within, upto-all, one-more, acc, acc-all, one-gathered, Holds, free, has, loc, part, sets, sets-last, leaves, blurs, uint-kind, typed, lent, loads, stores, calls-plain, Spot, spot, word, lends-at, hands-at, Param, plain-of, lfts-at, shares-at, args-at, vals-of, lfts-of, shares-of, args-of, itemsOf, Call, calls-giving, enters-with, returns-with, mut-way, shr-way, plain-way, Ways-of, stays-of, meets-by, whiles, index-fits, next-fits}
+use Rattle.walks.proofs.Walk.{_≡_, refl, sym, _∙_, ap, subst, ℕ, suc, _+_, _<_, Bool, List, [], _∷_, lit<, length, getD, set, URA, named, w64, Val, vint, SProp, ent, emp, via, id⊢, fst∗, Memory, Routine, Heap, Tables, WpFn, Atoms, Fun, givenOf, tables, tablesOf, Given, Item, ⋆, _$_, !, rewrite, lit, of-opd, no-more, and-then, bin, Is, u8, usize, Room, onEntry, Meets, tripleOf, Contract, Triple, entered, cited, walkOf, upto, upto-length, upto-within, upto-all, one-more, acc, acc-all, one-gathered, Holds, free, has, loc, part, sets, sets-last, leaves, blurs, uint-kind, typed, lent, loads, stores, calls-plain, Spot, spot, word, lends-at, hands-at, Param, plain-of, lfts-at, shares-at, args-at, vals-of, lfts-of, shares-of, args-of, itemsOf, Call, calls-giving, enters-with, returns-with, mut-way, shr-way, plain-way, Ways-of, stays-of, meets-by, whiles, index-fits, next-fits, says-two}
 use denote.Struct.Laws as LL
 use Rattle.terminal.specs.declared.Terminal.{Terminal}
 use Rattle.terminal.proofs.Terminal as T
@@ -91,7 +91,7 @@ module _ {M : Type 1} (𝓤 : URA M) (H : Heap 𝓤) (A : Atoms 𝓤) (W : Given
         (is ∙ ap ended (acc-all (goneThrough es) m 0 ys ∙ ap (λ (x : Moment). foldFrom (goneThrough es) 0 x ys) starts), upto-all (turnedIn es (m .e)) 0 ys ∙ ap (λ (x : Moment). mapFrom (turnedIn es (x .e)) 0 ys) starts)
 
     exits : (r : Moment) → r ≡ ended (gathered n) → Is Mo.the-row r (moments .val r ∷ []) → ent 𝓤 (⋆ 𝓤 H A (itemsOf W (params (list n)))) (Post (moments .val r))
-    exits r is gr = returns-with W (params (list n)) all.ended (stays-of all.ended ways) (all.clauses 𝓤 H A mem run) bound moments r (list n, (tt, (tt, tt))) (upto-length (turnedIn es (m .e)) n 0 ys, (tt, (tt, tt))) gr (id⊢ 𝓤 _) (factI 𝓤 _ (emp 𝓤) (promised r is))
+    exits r is gr = returns-with W (params (list n)) all.ended (stays-of all.ended ways) (all.clauses 𝓤 H A mem run) bound moments r (list n, (tt, (tt, tt))) (upto-length (turnedIn es (m .e)) n 0 ys, (tt, (tt, tt))) gr (id⊢ 𝓤 _) (says-two 𝓤 (promised r is))
 
     module _ (k : ℕ) (l : k < n) (g : Is T.the-row (elem k) (terminals .kind .val (elem k) ∷ [])) (ga : Known k) where
       abbrev to-step : List Param

@@ -11,7 +11,8 @@ fits-requires : tie.Need-fits-requires
 fits-requires c κs = search needs
 
 four-at-requires : tie.Need-four-at-requires
-four-at-requires c κs = let long = is-line _ (c .before .fits2 .ensures) (c .if1 .taken) in (omega (arith, long), omega (arith, long), omega (arith, long), omega (arith, long))
+four-at-requires c κs = let long = is-line _ (c .before .fits2 .ensures) (c .if1 .taken) in
+    (omega (arith, long), (omega (arith, long), (omega (arith, long), omega (arith, long))))
 
 returns : tie.Need-returns
 returns c = four-is _ (c .before .before .fits2 .ensures) (c .before .if1 .taken) dBits _ (c .four-at .ensures)

@@ -55,8 +55,8 @@ returns c =
     let start = bus .before .before .before .before in
     let a = start .args in
     gave (a .s .now) (start .pre) _ _ _ _ (bus .record-in .ensures) (terminals .terminals-in .ensures) (letters .letters-in .ensures)
-    (octets .octets-in .ensures) (a .unit) (a .event) (a .value .now) (event .event .result) _ _ _ (event .event .ensures .0) (event .event .ensures .1)
-    (event .event .ensures .2) (event .event .ensures .3) (lay .lay .ensures)
+    (octets .octets-in .ensures) (a .unit) (a .event) (a .value .now) (event .event .result) _ _ _ (event .event .ensures .0) (event .event .ensures .1 .0)
+    (event .event .ensures .1 .1 .0) (event .event .ensures .1 .1 .1) (lay .lay .ensures)
 
 pub give-spec : {M : Type 1} → statement M
 give-spec =

@@ -58,8 +58,8 @@ returns c =
     let start = bus .before .before .before in
     let a = start .args in
     went (a .s .now) (start .pre) _ _ _ _ (bus .record-in .ensures) (terminals .terminals-in .ensures) (letters .letters-in .ensures)
-    (octets .octets-in .ensures) (a .most) (run .run .result) _ _ (run .run .ensures .0) (run .run .ensures .1) (run .run .ensures .2)
-    (run .run .ensures .3) (lay .lay .ensures)
+    (octets .octets-in .ensures) (a .most) (run .run .result) _ _ (run .run .ensures .0) (run .run .ensures .1 .0) (run .run .ensures .1 .1 .0)
+    (run .run .ensures .1 .1 .1) (lay .lay .ensures)
 
 pub go-spec : {M : Type 1} → statement M
 go-spec =

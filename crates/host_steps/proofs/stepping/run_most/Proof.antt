@@ -33,7 +33,7 @@ returns-2 c =
     let left = go .before .before in
     let a = left .before .before .before .before .before .args in
     run-refused (a .bus .now) (a .notes .now) (a .most) _ (left .before .lent-reason .ensures) (left .if1 .left) _ _ _ (go .go .ensures .0)
-    (go .go .ensures .1) (go .go .ensures .2) _ (c .number .ensures) (c .before .if2 .taken)
+    (go .go .ensures .1 .0) (go .go .ensures .1 .1) _ (c .number .ensures) (c .before .if2 .taken)
 
 sub-put-ran : tie.Need-sub-put-ran
 sub-put-ran c = search needs
@@ -47,7 +47,7 @@ part-put-ran-end c =
     let left = go .before .before in
     let a = left .before .before .before .before .before .args in
     let h = lent-bus (a .bus .now) _ _ _ (left .before .lent-reason .ensures) (left .if1 .left) in
-    omega (arith, ap length (go .go .ensures .2), left-long (a .bus .now) h (a .most))
+    omega (arith, ap length (go .go .ensures .1 .1), left-long (a .bus .now) h (a .most))
 
 put-ran-requires : tie.Need-put-ran-requires
 put-ran-requires c κs = search needs
@@ -66,7 +66,7 @@ returns-3 c =
     let left = go .before .before in
     let a = left .before .before .before .before .before .args in
     run-ended (a .bus .now) (a .notes .now) (a .most) _ (left .before .lent-reason .ensures) (left .if1 .left) _ _ _ (go .go .ensures .0)
-    (go .go .ensures .1) (go .go .ensures .2) (told .if2 .left) _ (notes .put-ran .ensures)
+    (go .go .ensures .1 .0) (go .go .ensures .1 .1) (told .if2 .left) _ (notes .put-ran .ensures)
 
 pub run-most-spec : {M : Type 1} → statement M
 run-most-spec =

@@ -1,5 +1,5 @@
 -- `listening::listen::listen` meets its contract: a walk of its MIR with the lemmas of crate `walks`, over two slices of structs, with a bool gathered. All that it knows of `hear_one` is its contract. Assumes nothing.
-use Rattle.walks.proofs.Walk.{_≡_, refl, sym, _∙_, ap, subst, ℕ, _+_, _<_, Bool, true, false, not, List, [], _∷_, eqb, lit<, length, getD, set, URA, named, w64, Val, vbool, vint, SProp, ent, emp, via, id⊢, fst∗, Memory, Routine, Heap, Tables, WpFn, Atoms, Fun, factI, givenOf, tables, tablesOf, Given, ⋆, _$_, !, move, rewrite, lit, false-lit, of-opd, no-more, and-then, bin, Is, Room, onEntry, Meets, tripleOf, Contract, Triple, entered, cited, walkOf, upto, upto-length, upto-within, upto-all, one-more, acc, acc-all, one-gathered, filled, filled-length, filled-all, one-filled, Holds, free, has, loc, part, sets, sets-last, leaves, returns-if, blurs, bool-kind, typed, lent, loads, stores, Spot, spot, word, lends-at, Param, plain-of, lfts-at, shares-at, args-at, vals-of, lfts-of, shares-of, args-of, itemsOf, Call, calls-giving, enters-with, returns-with, mut-way, plain-way, Ways-of, stays-of, meets-by, whiles, next-fits}
+use Rattle.walks.proofs.Walk.{_≡_, refl, sym, _∙_, ap, subst, ℕ, _+_, _<_, Bool, true, false, not, List, [], _∷_, eqb, lit<, length, getD, set, URA, named, w64, Val, vbool, vint, SProp, ent, emp, via, id⊢, fst∗, Memory, Routine, Heap, Tables, WpFn, Atoms, Fun, givenOf, tables, tablesOf, Given, ⋆, _$_, !, move, rewrite, lit, false-lit, of-opd, no-more, and-then, bin, Is, Room, onEntry, Meets, tripleOf, Contract, Triple, entered, cited, walkOf, upto, upto-length, upto-within, upto-all, one-more, acc, acc-all, one-gathered, filled, filled-length, filled-all, one-filled, Holds, free, has, loc, part, sets, sets-last, leaves, returns-if, blurs, bool-kind, typed, lent, loads, stores, Spot, spot, word, lends-at, Param, plain-of, lfts-at, shares-at, args-at, vals-of, lfts-of, shares-of, args-of, itemsOf, Call, calls-giving, enters-with, returns-with, mut-way, plain-way, Ways-of, stays-of, meets-by, whiles, next-fits, says-three}
 use mathlib.Core.Bool.{_||_}
 use borrow.Author.Tests.{eqb-true, not-true, not-false}
 use denote.Struct.Laws as LL
@@ -72,7 +72,7 @@ module _ {M : Type 1} (𝓤 : URA M) (H : Heap 𝓤) (A : Atoms 𝓤) (W : Given
   Post = walkOf 𝓤 H A all.ended (stays-of all.ended ways) (all.clauses 𝓤 H A mem run) .post bound
 
   exits : (r : Bool) (ts : List Terminal) (ns : List UnitNotes) → length ts ≡ length ys → length ns ≡ length zs → Promised line period ys zs r ts ns → ent 𝓤 (⋆ 𝓤 H A (itemsOf W (params ts ns))) (Post (vbool r))
-  exits r ts ns l₁ l₂ so = returns-with W (params ts ns) all.ended (stays-of all.ended ways) (all.clauses 𝓤 H A mem run) bound bool-kind r (ts, (ns, (tt, (tt, tt)))) (l₁, (l₂, (tt, (tt, tt)))) refl (id⊢ 𝓤 _) (factI 𝓤 _ (emp 𝓤) so)
+  exits r ts ns l₁ l₂ so = returns-with W (params ts ns) all.ended (stays-of all.ended ways) (all.clauses 𝓤 H A mem run) bound bool-kind r (ts, (ns, (tt, (tt, tt)))) (l₁, (l₂, (tt, (tt, tt)))) refl (id⊢ 𝓤 _) (says-three 𝓤 so)
 
   abbrev elem : ℕ → Terminal
   elem k = getD (list line period ys zs k) k (terminals .blank)

@@ -10,14 +10,14 @@ returns : tie.Need-returns
 unfolding imaged imagedOctets imageMeaning imageOr
 returns c =
     let short = lt-ltb _ _ (c .if1 .taken) in
-    (simp short, simp short, simp short)
+    (simp short, (simp short, simp short))
 
 returns-2 : tie.Need-returns-2
 unfolding imaged imagedOctets imageMeaning imageOr isBodyLength
 returns-2 c =
     let room = le-ltb _ _ (c .before .if1 .left) in
     let none = eq-eqb _ _ (c .if2 .taken) in
-    (simp (room, none), simp (room, none), simp (room, none))
+    (simp (room, none), (simp (room, none), simp (room, none)))
 
 pack-image-requires : tie.Need-pack-image-requires
 pack-image-requires c κs = search needs
@@ -35,8 +35,10 @@ returns-3 c =
     let pack-image = c .before .before .pack-image in
     let args = else2 .before .before .before .before .args in (
       simp (room, some, few, pack-image .ensures .0),
-      simp (room, some, few) (pack-image .ensures .1),
-      simp (room, some, few, pack-image .ensures .0, pack-image .ensures .1, taken-bits (image (args .body .now)) (args .out .now)),
+      (
+        simp (room, some, few) (pack-image .ensures .1),
+        simp (room, some, few, pack-image .ensures .0, pack-image .ensures .1, taken-bits (image (args .body .now)) (args .out .now)),
+      ),
     )
 
 returns-4 : tie.Need-returns-4
@@ -45,7 +47,7 @@ returns-4 c =
     let room = le-ltb _ _ (c .before .before .if1 .left) in
     let some = ne-eqb _ _ (c .before .if2 .left) in
     let many = lt-leb _ _ (c .if3 .left) in
-    (simp (room, some, many), simp (room, some, many), simp (room, some, many))
+    (simp (room, some, many), (simp (room, some, many), simp (room, some, many)))
 
 pub image-spec : {M : Type 1} → statement M
 image-spec =

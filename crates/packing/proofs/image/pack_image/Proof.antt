@@ -13,7 +13,8 @@ slice-write-out c = search needs
 put-body-requires : tie.Need-put-body-requires
 put-body-requires c κs =
     let start = c .before .before .before in
-    after-flag (start .args .body .now) (start .args .out .now) (start .pre .1) (start .pre .0)
+    let x = after-flag (start .args .body .now) (start .args .out .now) (start .pre .1) (start .pre .0) in
+    (x .0, (x .1, x .2))
 
 add-end : tie.Need-add-end
 add-end c =
@@ -36,7 +37,7 @@ put-plain-requires c κs =
     let start = c .before .before .before .before .before .before .before .before .before in
     let put-body = c .before .before .before .before .before .put-body in
     let x = after-body (start .args .body .now) (start .args .out .now) (start .pre .1) (start .pre .0) _ _ (put-body .ensures .0) (put-body .ensures .1) in
-    (omega (arith, x .0), omega (arith, x .1), x .2, omega arith)
+    (omega (arith, x .0), (omega (arith, x .1), (x .2, omega arith)))
 
 same-length : tie.Need-same-length
 same-length c =

@@ -22,13 +22,13 @@ passes-requires : tie.Need-passes-requires Inv-loop μ-loop
 passes-requires c κs = search needs
 
 add-i : tie.Need-add-i Inv-loop μ-loop
-add-i c = let on = c .before .passes .ensures (c .if1 .taken) in omega arith
+add-i c = let on = c .before .passes .ensures .0 (c .if1 .taken) in omega arith
 
 loop-less : tie.Need-loop-less Inv-loop μ-loop
-loop-less c = let on = c .before .passes .ensures (c .if1 .taken) in omega arith
+loop-less c = let on = c .before .passes .ensures .0 (c .if1 .taken) in omega arith
 
 loop-again : tie.Need-loop-again Inv-loop μ-loop
-loop-again c = upto-skip _ 16 _ _ (c .before .passes .ensures (c .if1 .taken) .1) ∙ c .before .before .loop .inv
+loop-again c = upto-skip _ 16 _ _ (c .before .passes .ensures .1 (c .if1 .taken)) ∙ c .before .before .loop .inv
 
 piece-end-requires : tie.Need-piece-end-requires Inv-loop μ-loop
 piece-end-requires c κs = search needs

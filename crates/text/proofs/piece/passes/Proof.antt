@@ -10,13 +10,13 @@ use Rattle.text.proofs.piece.passes.Statement.{statement}
 use Rattle.text.proofs.piece.passes.Tie as tie
 
 returns : tie.Need-returns
-returns c = λ e. absurd (false≢true e)
+returns c = (λ e. absurd (false≢true e), λ e. absurd (false≢true e))
 
 sub-if2 : tie.Need-sub-if2
 sub-if2 c = search needs
 
 returns-2 : tie.Need-returns-2
-returns-2 c = λ e. absurd (false≢true e)
+returns-2 c = (λ e. absurd (false≢true e), λ e. absurd (false≢true e))
 
 add-is-one-piece : tie.Need-add-is-one-piece
 add-is-one-piece c = search needs
@@ -34,12 +34,12 @@ is-one-piece-requires : tie.Need-is-one-piece-requires
 is-one-piece-requires c κs = search needs
 
 returns-3 : tie.Need-returns-3
-returns-3 c = λ e.
+returns-3 c =
     let args = c .before .before .before .before .before .args in
     let text = args .text .now in
     let w : args .at + 16 - args .at ≡ 16 = omega arith in (
-      omega arith,
-      upto-past (args .sep) 16 (drop (args .at) text) (omega (arith, length-drop (args .at) text))
+      λ e. omega arith,
+      λ e. upto-past (args .sep) 16 (drop (args .at) text) (omega (arith, length-drop (args .at) text))
           (rw w at (sym (c .is-one-piece .ensures) ∙ e)),
     )
 

@@ -42,10 +42,9 @@ put-bit-requires c κs =
     let args = start .args in
     let loop = c .before .before .before .loop in
     let packed-bit = c .before .packed-bit in
-    let room = body-room (args .body .now) (loop .i) (args .self) (loop .packer) (omega arith) (start .pre .1) (loop .inv .1) _ (packed-bit .ensures) in (
+    let room = body-room (args .body .now) (loop .i) (args .self) (loop .packer) (omega arith) (start .pre .1 .0) (loop .inv .1) _ (packed-bit .ensures) in (
       omega (arith, room .0, length-stuff-least (packed-bit .result ∷ []) (loop .packer .ones)),
-      omega (arith, room .1),
-      room-kept _ _ _ _ (loop .inv .2) (start .pre .2),
+      (omega (arith, room .1), room-kept _ _ _ _ (loop .inv .2) (start .pre .1 .1)),
     )
 
 put-bit-requires-2 : tie.Need-put-bit-requires-2 Inv-loop μ-loop
@@ -56,11 +55,10 @@ put-bit-requires-2 c κs =
     let loop = c .before .before .before .before .before .before .before .before .before .loop in
     let packed-bit = c .before .before .before .before .before .before .before .packed-bit in
     let put-bit = c .before .before .before .before .before .put-bit in
-    let room = body-room (args .body .now) (loop .i) (args .self) (loop .packer) (omega arith) (start .pre .1) (loop .inv .1) _ (packed-bit .ensures) in
+    let room = body-room (args .body .now) (loop .i) (args .self) (loop .packer) (omega arith) (start .pre .1 .0) (loop .inv .1) _ (packed-bit .ensures) in
     let two = two-bits (packed-bit .result) (loop .packer) _ (put-bit .ensures .0) (c .before .if1 .taken) in (
       omega (arith, room .0, two, ap (λ (p : Packer). p .at) (put-bit .ensures .0)),
-      omega arith,
-      omega (arith, put-bit .kept .1 .1 .0, room-kept _ _ _ _ (loop .inv .2) (start .pre .2)),
+      (omega arith, omega (arith, put-bit .kept .1 .1 .0, room-kept _ _ _ _ (loop .inv .2) (start .pre .1 .1))),
     )
 
 add-i : tie.Need-add-i Inv-loop μ-loop
@@ -78,7 +76,7 @@ loop-again c =
     let loop = c .before .before .before .before .before .before .before .before .loop in
     let packed-bit = c .before .before .before .before .before .before .packed-bit in
     let put-bit = c .before .before .before .before .put-bit in
-    let again = body-again (args .body .now) (loop .i) (args .self) (loop .packer) (omega arith) (start .pre .1) (loop .inv .1) _ (packed-bit .ensures) in
+    let again = body-again (args .body .now) (loop .i) (args .self) (loop .packer) (omega arith) (start .pre .1 .0) (loop .inv .1) _ (packed-bit .ensures) in
     ⊎-elim
     (λ w.
     let y = put-two _ _ _ _ _ (put-bit .ensures .0) (put-bit .ensures .1) _ _ (w .0 .taken) (w .6 ∙ w .2 .ensures .0) (w .5 ∙ w .2 .ensures .1) in

@@ -29,7 +29,7 @@ put-bit-requires c κs =
     let start = c .before .before .before .before .before .before in
     let loop = c .before .before .before .loop in
     let room = plain-room (start .args .octets .now) (loop .i) (start .args .self) (loop .packer) (omega arith) (loop .inv .1) in
-    (omega (arith, room .0), omega (arith, room .1), room-kept _ _ _ _ (loop .inv .2) (start .pre .2))
+    (omega (arith, room .0), (omega (arith, room .1), room-kept _ _ _ _ (loop .inv .2) (start .pre .1 .1 .0)))
 
 add-i : tie.Need-add-i Inv-loop μ-loop
 add-i c = search needs
