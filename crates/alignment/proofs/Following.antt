@@ -5,8 +5,8 @@ use Prim.Native.Nat.{ℕ, _+_, _<_}
 use native.Mathlib.Omega.{arith}
 use lib.Dec.{ltb}
 use borrow.Author.Tests.{ltb-true, ltb-false, lt-ltb, le-ltb}
-use Rattle.cases.proofs.ByCases.{by-test}
-use Rattle.alignment.specs.Alignment.{gained, lost, framedPeriod, unframedPeriod, followed}
+use Rattle.test_lemmas.proofs.ByCases.{by-test}
+use Rattle.alignment.specs.Alignment.{framedToGain, unframedToLose, framedPeriod, unframedPeriod, followed}
 
 -- A framed period counts while unaligned, an unframed one with a pulse while aligned.
 abbrev pub counts : Bool → Bool → Bool → Bool
@@ -38,14 +38,14 @@ pub followed-is : (pulse framed aligned : Bool) (run n : ℕ) → n ≡ counted 
         run = n;
       };
       lost = (counts pulse framed aligned && not (short aligned run)) && aligned;
-    } ≡ followed gained lost pulse framed (record { aligned = aligned; run = run })
+    } ≡ followed framedToGain unframedToLose pulse framed (record { aligned = aligned; run = run })
 unfolding followed framedPeriod unframedPeriod
 followed-is false framed aligned run n e = rw e
 followed-is true true true run n e = rw e
 followed-is true true false run n e =
-    by-test (ltb run 2) (λ u. simp (e, u, lt-ltb (run + 1) gained (omega (arith, ltb-true run 2 u))))
-    (λ u. simp (e, u, le-ltb (run + 1) gained (omega (arith, ltb-false run 2 u))))
+    by-test (ltb run 2) (λ u. simp (e, u, lt-ltb (run + 1) framedToGain (omega (arith, ltb-true run 2 u))))
+    (λ u. simp (e, u, le-ltb (run + 1) framedToGain (omega (arith, ltb-false run 2 u))))
 followed-is true false true run n e =
-    by-test (ltb run 1) (λ u. simp (e, u, lt-ltb (run + 1) lost (omega (arith, ltb-true run 1 u))))
-    (λ u. simp (e, u, le-ltb (run + 1) lost (omega (arith, ltb-false run 1 u))))
+    by-test (ltb run 1) (λ u. simp (e, u, lt-ltb (run + 1) unframedToLose (omega (arith, ltb-true run 1 u))))
+    (λ u. simp (e, u, le-ltb (run + 1) unframedToLose (omega (arith, ltb-false run 1 u))))
 followed-is true false false run n e = rw e

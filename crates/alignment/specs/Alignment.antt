@@ -7,11 +7,11 @@ use Rattle.alignment.specs.declared.Alignment.{Alignment}
 use Rattle.alignment.specs.declared.Followed.{Followed}
 
 -- "Three framed periods running give alignment. Two unframed periods running, each with a pulse, lose it, at both ends."
-abbrev pub gained : ℕ
-gained = 3
+abbrev pub framedToGain : ℕ
+framedToGain = 3
 
-abbrev pub lost : ℕ
-lost = 2
+abbrev pub unframedToLose : ℕ
+unframedToLose = 2
 
 -- Not aligned, or aligned, with a run of so many periods: framed ones, or unframed ones with a pulse.
 abbrev pub unaligned : ℕ → Alignment
@@ -47,4 +47,4 @@ followed gain lose pulse framed a = cond pulse (cond framed (framedPeriod gain a
 
 -- Refusal 1: a run of 0 to 2 periods.
 abbrev pub alignmentInRange : Alignment → Bool
-alignmentInRange a = ltb (a .run) gained
+alignmentInRange a = ltb (a .run) framedToGain

@@ -3,9 +3,9 @@ ghost use mathlib.Core.Path.{_≡_};
 ghost use Rattle.alignment.specs.Alignment as spec;
 
 // Framed periods running that give alignment, and unframed ones running, each with a pulse, that lose it.
-const GAINED: u8 = 3;
+const FRAMED_TO_GAIN: u8 = 3;
 
-const LOST: u8 = 2;
+const UNFRAMED_TO_LOSE: u8 = 2;
 
 pub struct Alignment {
     pub aligned: bool,
@@ -33,17 +33,17 @@ impl Alignment {
     pub fn in_range(self) -> bool
         ensures { λ r. ⌜ r ≡ spec.alignmentInRange self ⌝ }
     {
-        self.run < GAINED
+        self.run < FRAMED_TO_GAIN
     }
 
     // A period passes, with or without a pulse, framed or not. A framed one counts while unaligned, an unframed one with a pulse while
     // aligned; the run stays short of what changes alignment, or alignment changes.
     pub fn follow(self, pulse: bool, framed: bool) -> Followed
-        ensures { λ r. ⌜ r ≡ spec.followed spec.gained spec.lost pulse framed self ⌝ }
+        ensures { λ r. ⌜ r ≡ spec.followed spec.framedToGain spec.unframedToLose pulse framed self ⌝ }
     {
         let counts = pulse & (framed != self.aligned);
-        let short = (self.aligned & (self.run < LOST - 1))
-            | (!self.aligned & (self.run < GAINED - 1));
+        let short = (self.aligned & (self.run < UNFRAMED_TO_LOSE - 1))
+            | (!self.aligned & (self.run < FRAMED_TO_GAIN - 1));
         let changes = counts & !short;
         Followed {
             alignment: Alignment {

@@ -46,7 +46,7 @@ fn echo(low: bool, sent: bool) {
 fn mismatch(k: u8, low: bool, last: bool) {
     number(b"\nIV.2.2 a class ", k);
     echo(low, last);
-    let turn = holding(k, low, 9, 0, last).turn(!last, false);
+    let turn = holding(k, low, 9, 0, last).access_step(!last, false);
     number(b" D ", turn.d as u8);
 }
 
@@ -54,7 +54,7 @@ fn mismatch(k: u8, low: bool, last: bool) {
 fn starts_over(k: u8, sent: u16, count: u8, last: bool) {
     number(b"\nIV.2.2 b class ", k);
     echo(false, last);
-    let turn = holding(k, false, sent, count, last).turn(!last, false);
+    let turn = holding(k, false, sent, count, last).access_step(!last, false);
     settles(b" starts after ", turn.access);
 }
 
@@ -75,7 +75,7 @@ fn returns(k: u8) {
 
 // The record after a frame of class k has been sent: the echo of its last bit, a 0, agrees.
 fn done(k: u8) -> Access {
-    let turn = holding(k, false, 24, 0, false).turn(false, false);
+    let turn = holding(k, false, 24, 0, false).access_step(false, false);
     turn.access
 }
 
@@ -88,7 +88,7 @@ fn settles(text: &[u8], access: Access) {
         if (0 < a.sent) | !((a.held != 0) | a.low1 | a.low2) {
             break;
         }
-        let turn = a.turn(true, false);
+        let turn = a.access_step(true, false);
         a = turn.access;
         n += 1;
     }

@@ -7,33 +7,51 @@ use super::print::outcome;
 use super::print::timer;
 use super::tests;
 use alignment::Alignment;
-use hearing::heard::Upward;
-use hearing::sensing::SensedUp;
-use hearing::sensing::sense_up;
+use heard_line::heard::Upward;
+use heard_line::sensing::SensedUp;
+use heard_line::sensing::sense_up;
 use info::info::info1;
 use info::info::info3;
 use network::Network;
 use network::NetworkStep;
-use table_6_3::AR;
-use table_6_3::DR;
-use table_6_3::INFO_0;
-use table_6_3::INFO_1;
-use table_6_3::INFO_3;
-use table_6_3::LOSS;
-use table_6_3::T1_DUE;
-use table_6_3::T2_DUE;
+use table_6_3::AR_ROW;
+use table_6_3::DR_ROW;
+use table_6_3::INFO_0_ROW;
+use table_6_3::INFO_1_ROW;
+use table_6_3::INFO_3_ROW;
+use table_6_3::LOSS_ROW;
+use table_6_3::T1_ROW;
+use table_6_3::T2_ROW;
 use table_6_3::info_sent;
 use timing::counts::Periods;
 
 pub(crate) fn rows() {
-    tests(2, 1, 1, &[AR, T1_DUE, T2_DUE, INFO_0, INFO_1]);
-    tests(2, 6, 2, &[DR, T1_DUE, T2_DUE, INFO_0, INFO_1, INFO_3]);
-    tests(2, 12, 3, &[DR, T2_DUE, INFO_0, INFO_3, LOSS]);
+    tests(2, 1, 1, &[AR_ROW, T1_ROW, T2_ROW, INFO_0_ROW, INFO_1_ROW]);
+    tests(
+        2,
+        6,
+        2,
+        &[DR_ROW, T1_ROW, T2_ROW, INFO_0_ROW, INFO_1_ROW, INFO_3_ROW],
+    );
+    tests(
+        2,
+        12,
+        3,
+        &[DR_ROW, T2_ROW, INFO_0_ROW, INFO_3_ROW, LOSS_ROW],
+    );
     tests(
         2,
         17,
         4,
-        &[AR, T1_DUE, T2_DUE, INFO_0, INFO_1, INFO_3, LOSS],
+        &[
+            AR_ROW,
+            T1_ROW,
+            T2_ROW,
+            INFO_0_ROW,
+            INFO_1_ROW,
+            INFO_3_ROW,
+            LOSS_ROW,
+        ],
     );
 }
 
@@ -47,10 +65,10 @@ pub(crate) fn test(state: u8, event: u8) {
 
 // The stimulus, given to a unit.
 fn meets(unit: Network, event: u8) -> NetworkStep {
-    if event <= DR {
+    if event <= DR_ROW {
         return unit.request(event, Periods(NOW));
     }
-    if event <= T2_DUE {
+    if event <= T2_ROW {
         return unit.timer_due(Periods(NOW));
     }
     unit.hear(upward(event), Periods(NOW))
@@ -59,10 +77,10 @@ fn meets(unit: Network, event: u8) -> NetworkStep {
 // Before the stimulus both timers run; to hear INFO 0, INFO 3 or a loss, the unit is in alignment and one unframed period short of
 // losing it.
 fn unit(state: u8, event: u8) -> Network {
-    let aligned = (event == INFO_0) | (event == INFO_3) | (event == LOSS);
+    let aligned = (event == INFO_0_ROW) | (event == INFO_3_ROW) | (event == LOSS_ROW);
     Network {
-        t1: due(event == T1_DUE, true, 50_000),
-        t2: due(event == T2_DUE, true, 60_000),
+        t1: due(event == T1_ROW, true, 50_000),
+        t2: due(event == T2_ROW, true, 60_000),
         state,
         alignment: Alignment {
             aligned,
@@ -75,13 +93,13 @@ fn unit(state: u8, event: u8) -> Network {
 fn upward(event: u8) -> Upward {
     let mut line = [0u8; 48];
     match event {
-        INFO_1 => {
+        INFO_1_ROW => {
             info1(&mut line);
         }
-        INFO_3 => {
+        INFO_3_ROW => {
             info3(ONES, &mut line);
         }
-        LOSS => {
+        LOSS_ROW => {
             line[4] = 1;
         }
         _ => {}

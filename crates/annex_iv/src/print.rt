@@ -1,8 +1,8 @@
 // Printing.
 ghost use Prim.Native.Nat.{_≤_, _+_, _*_};
 ghost use lib.ListN.{length};
-use cells::notes::Notes;
 use libc::STDOUT_FILENO;
+use notes_and_cells::notes::Notes;
 
 pub(crate) fn say(text: &[u8]) {
     io::write_all(STDOUT_FILENO, text);

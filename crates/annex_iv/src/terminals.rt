@@ -8,34 +8,114 @@ use super::print::timer;
 use super::tests;
 use alignment::Alignment;
 use dchannel::access::Access;
-use hearing::heard::Downward;
-use hearing::sensing::SensedDown;
-use hearing::sensing::sense_down;
+use heard_line::heard::Downward;
+use heard_line::sensing::SensedDown;
+use heard_line::sensing::sense_down;
 use info::info::info2;
 use info::info::info4;
-use table_6_2::AR;
-use table_6_2::INFO_0;
-use table_6_2::INFO_2;
-use table_6_2::INFO_4;
-use table_6_2::LOSS;
-use table_6_2::OFF;
-use table_6_2::ON;
-use table_6_2::SIGNAL;
-use table_6_2::T3_DUE;
+use table_6_2::AR_ROW;
+use table_6_2::INFO_0_ROW;
+use table_6_2::INFO_2_ROW;
+use table_6_2::INFO_4_ROW;
+use table_6_2::LOSS_ROW;
+use table_6_2::OFF_ROW;
+use table_6_2::ON_ROW;
+use table_6_2::SIGNAL_ROW;
+use table_6_2::T3_ROW;
 use table_6_2::info_sent;
 use terminal::Terminal;
 use terminal::TerminalStep;
 use timing::counts::Periods;
 
 pub(crate) fn rows() {
-    tests(3, 1, 1, &[ON, T3_DUE]);
-    tests(3, 3, 2, &[OFF, INFO_0, INFO_2, INFO_4, SIGNAL, T3_DUE]);
-    tests(3, 9, 3, &[OFF, AR, INFO_0, INFO_2, INFO_4, SIGNAL, T3_DUE]);
-    tests(3, 16, 4, &[OFF, INFO_0, INFO_2, INFO_4, SIGNAL, T3_DUE]);
-    tests(3, 22, 5, &[OFF, INFO_0, INFO_2, INFO_4, SIGNAL, T3_DUE]);
-    tests(3, 28, 6, &[OFF, LOSS, AR, INFO_0, INFO_2, INFO_4, T3_DUE]);
-    tests(3, 35, 7, &[OFF, LOSS, INFO_0, INFO_2, INFO_4]);
-    tests(3, 41, 8, &[OFF, AR, INFO_0, INFO_2, INFO_4, SIGNAL, T3_DUE]);
+    tests(3, 1, 1, &[ON_ROW, T3_ROW]);
+    tests(
+        3,
+        3,
+        2,
+        &[
+            OFF_ROW,
+            INFO_0_ROW,
+            INFO_2_ROW,
+            INFO_4_ROW,
+            SIGNAL_ROW,
+            T3_ROW,
+        ],
+    );
+    tests(
+        3,
+        9,
+        3,
+        &[
+            OFF_ROW,
+            AR_ROW,
+            INFO_0_ROW,
+            INFO_2_ROW,
+            INFO_4_ROW,
+            SIGNAL_ROW,
+            T3_ROW,
+        ],
+    );
+    tests(
+        3,
+        16,
+        4,
+        &[
+            OFF_ROW,
+            INFO_0_ROW,
+            INFO_2_ROW,
+            INFO_4_ROW,
+            SIGNAL_ROW,
+            T3_ROW,
+        ],
+    );
+    tests(
+        3,
+        22,
+        5,
+        &[
+            OFF_ROW,
+            INFO_0_ROW,
+            INFO_2_ROW,
+            INFO_4_ROW,
+            SIGNAL_ROW,
+            T3_ROW,
+        ],
+    );
+    tests(
+        3,
+        28,
+        6,
+        &[
+            OFF_ROW,
+            LOSS_ROW,
+            AR_ROW,
+            INFO_0_ROW,
+            INFO_2_ROW,
+            INFO_4_ROW,
+            T3_ROW,
+        ],
+    );
+    tests(
+        3,
+        35,
+        7,
+        &[OFF_ROW, LOSS_ROW, INFO_0_ROW, INFO_2_ROW, INFO_4_ROW],
+    );
+    tests(
+        3,
+        41,
+        8,
+        &[
+            OFF_ROW,
+            AR_ROW,
+            INFO_0_ROW,
+            INFO_2_ROW,
+            INFO_4_ROW,
+            SIGNAL_ROW,
+            T3_ROW,
+        ],
+    );
 }
 
 pub(crate) fn test(state: u8, event: u8) {
@@ -47,16 +127,16 @@ pub(crate) fn test(state: u8, event: u8) {
 
 // The stimulus, given to a unit.
 fn meets(unit: Terminal, event: u8) -> TerminalStep {
-    if event == ON {
+    if event == ON_ROW {
         return unit.switch_on(Periods(NOW));
     }
-    if event == OFF {
+    if event == OFF_ROW {
         return unit.switch_off(Periods(NOW));
     }
-    if event == AR {
+    if event == AR_ROW {
         return unit.request(Periods(NOW));
     }
-    if event == T3_DUE {
+    if event == T3_ROW {
         return unit.timer_due(Periods(NOW));
     }
     unit.hear(downward(event), Periods(NOW))
@@ -65,10 +145,10 @@ fn meets(unit: Terminal, event: u8) -> TerminalStep {
 // Before the stimulus T3 runs in every state in which it may run; to hear an INFO or a loss, the unit is in alignment and one unframed
 // period short of losing it.
 fn unit(state: u8, event: u8) -> Terminal {
-    let aligned = (event == INFO_0) | (INFO_2 <= event);
+    let aligned = (event == INFO_0_ROW) | (INFO_2_ROW <= event);
     let runs = (2 < state) & (state != 7);
     Terminal {
-        t3: due(event == T3_DUE, runs, 50_000),
+        t3: due(event == T3_ROW, runs, 50_000),
         access: Access::fresh(),
         state,
         alignment: Alignment {
@@ -82,11 +162,11 @@ fn unit(state: u8, event: u8) -> Terminal {
 fn downward(event: u8) -> Downward {
     let mut line = [0u8; 48];
     match event {
-        INFO_0 => {}
-        INFO_2 => {
+        INFO_0_ROW => {}
+        INFO_2_ROW => {
             info2(&mut line);
         }
-        INFO_4 => {
+        INFO_4_ROW => {
             info4(ONES, &mut line);
         }
         _ => {

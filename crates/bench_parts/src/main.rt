@@ -1,6 +1,6 @@
 // The bench in parts, for tests: the book is read in parts of at most so many octets as the first argument says, and the room holds the
 // notes of one period, so that calls stop for text and for room as often as they can. The report is the same.
-use book::progress::PERIOD_ROOM;
+use book_go_on::progress::PERIOD_ROOM;
 use book_line::number::Number;
 use book_line::number::digits;
 

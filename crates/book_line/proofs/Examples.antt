@@ -5,12 +5,12 @@ use Prim.Native.Nat.{ℕ}
 use Prim.Native.String.{String}
 use lib.ListN.{replicate}
 use Rattle.symbols.specs.Symbols.{sameSymbols}
-use Rattle.cells.specs.Names.{ascii}
+use Rattle.notes_and_cells.specs.Names.{ascii}
 use Rattle.text.specs.Text.{split, onto, upto, all, onward}
 use Rattle.text.specs.Fields.{fieldStart}
 use Rattle.text.specs.declared.field.Ends.{Ends}
 use Rattle.book_line.specs.Line.{eventNamed, isNumber, isAbsent, isBody, isHit, valueFits, formed}
-use Rattle.cells.specs.Events.{ON, AR, DR, D1, D2, HIT, END}
+use Rattle.notes_and_cells.specs.Events.{ON, AR, DR, D1, D2, HIT, END}
 use Rattle.book_line.specs.Judging.{judged}
 use Rattle.book_line.specs.Value.{hexDigit, pairs, bodyOf, letterCode, valueOctets}
 use Rattle.book_line.specs.declared.line.Judged.{Judged}

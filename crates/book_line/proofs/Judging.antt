@@ -7,7 +7,7 @@ use native.Mathlib.Omega.{arith}
 use lib.Dec.{eqb, ltb}
 use lib.ListN.{length}
 use borrow.Author.Tests.{eqb-true, eqb-false, ne-eqb, ltb-true, lt-ltb, le-ltb, not-true, not-false}
-use Rattle.cases.proofs.ByCases.{by-test, and-left, and-right, and-right-false}
+use Rattle.test_lemmas.proofs.ByCases.{by-test, and-left, and-right, and-right-false}
 use Rattle.text.specs.Text.{fields, field, number}
 use Rattle.text.specs.Fields.{endsOf}
 use Rattle.text.specs.declared.field.Ends.{Ends}

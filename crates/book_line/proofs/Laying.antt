@@ -8,7 +8,7 @@ use lib.Dec.{ltb}
 use lib.ListN.{length, getD, set, take, drop, drop-of-length-le, length-set}
 use lib.Seq.{paste-suc, take-all, take-nil}
 use borrow.Author.Tests.{ltb-true, ltb-false}
-use Rattle.cases.proofs.ByCases.{by-test}
+use Rattle.test_lemmas.proofs.ByCases.{by-test}
 use Rattle.book_line.specs.Value.{Laid}
 
 -- n octets have been laid

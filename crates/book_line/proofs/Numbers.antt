@@ -10,8 +10,8 @@ use lib.Dec.{leb}
 use lib.ListN.{length, getD, drop, drop-of-length-le}
 use lib.Seq.{drop-cons}
 use borrow.Author.Tests.{leb-true, not-true, not-false}
-use Rattle.cases.proofs.ByCases.{and-right-false}
-use Rattle.cases.proofs.Operators.{and-both}
+use Rattle.test_lemmas.proofs.ByCases.{and-right-false}
+use Rattle.test_lemmas.proofs.Operators.{and-both}
 use Rattle.symbols.proofs.Scan.{Rest, rest-start}
 use Rattle.text.specs.Text.{all, isDigit, onward, number}
 use Rattle.text.proofs.Pieces.{all-go}

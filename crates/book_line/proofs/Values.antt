@@ -8,13 +8,13 @@ use native.Mathlib.Omega.{arith}
 use lib.Dec.{eqb, leb}
 use lib.ListN.{length, getD, length-map}
 use borrow.Author.Tests.{eqb-true, eq-eqb, le-leb}
-use Rattle.cases.proofs.ByCases.{by-test, and-left}
+use Rattle.test_lemmas.proofs.ByCases.{by-test, and-left}
 use Rattle.symbols.specs.Symbols.{lineLength, within, fits}
-use Rattle.cells.specs.Names.{ascii}
+use Rattle.notes_and_cells.specs.Names.{ascii}
 use Rattle.text.specs.Text.{space, all, isLetter}
 use Rattle.text.proofs.Pieces.{piece-le, same-length}
 use Rattle.book_line.specs.Line.{longestLine, isAbsent, isHit, valueFits, eventOf, valueOf, formed}
-use Rattle.cells.specs.Events.{D1, D2, HIT}
+use Rattle.notes_and_cells.specs.Events.{D1, D2, HIT}
 use Rattle.book_line.specs.Value.{hexDigit, pairs, bodyOf, letterCode, valueOctets, valueRoom}
 use Rattle.book_line.proofs.Judging.{formed-parts}
 

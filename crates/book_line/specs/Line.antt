@@ -6,8 +6,8 @@ use Prim.Native.Nat.{ℕ, _%_}
 use lib.Dec.{eqb, ltb, leb}
 use lib.ListN.{length}
 use Rattle.symbols.specs.Symbols.{lineLength}
-use Rattle.cells.specs.Events.{ON, OFF, AR, DR, D1, D2, HIT, END}
-use Rattle.cells.specs.Names.{ascii}
+use Rattle.notes_and_cells.specs.Events.{ON, OFF, AR, DR, D1, D2, HIT, END}
+use Rattle.notes_and_cells.specs.Names.{ascii}
 use Rattle.timing.specs.Counts.{mostPeriods}
 use Rattle.text.specs.Text.{fields, field, same, all, isDigit, isHex, isLetter, number}
 

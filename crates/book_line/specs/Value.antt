@@ -8,7 +8,7 @@ use Prim.Native.Nat.{ℕ, _+_, _*_, _%_, min}
 use lib.Dec.{eqb, leb}
 use lib.ListN.{length, take, drop}
 use Rattle.book_line.specs.Line.{isAbsent}
-use Rattle.cells.specs.Events.{D1, D2, HIT}
+use Rattle.notes_and_cells.specs.Events.{D1, D2, HIT}
 
 -- The number that a hexadecimal digit stands for, by its code's low four bits: 0 to 9 have the codes 48 to 57, a to f the codes 97 to 102.
 -- Some number below 16 for any other octet.

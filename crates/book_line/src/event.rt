@@ -1,12 +1,12 @@
 // The events of a book by number and by name.
-use cells::events::AR;
-use cells::events::D1;
-use cells::events::D2;
-use cells::events::DR;
-use cells::events::END;
-use cells::events::HIT;
-use cells::events::OFF;
-use cells::events::ON;
+use notes_and_cells::events::AR;
+use notes_and_cells::events::D1;
+use notes_and_cells::events::D2;
+use notes_and_cells::events::DR;
+use notes_and_cells::events::END;
+use notes_and_cells::events::HIT;
+use notes_and_cells::events::OFF;
+use notes_and_cells::events::ON;
 use text::same::same;
 ghost use mathlib.Core.Bool.{cond};
 ghost use mathlib.Core.Path.{_≡_};

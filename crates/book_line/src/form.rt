@@ -1,7 +1,7 @@
 // The forms of a line's value.
-use cells::events::D1;
-use cells::events::D2;
-use cells::events::HIT;
+use notes_and_cells::events::D1;
+use notes_and_cells::events::D2;
+use notes_and_cells::events::HIT;
 use symbols::LINE_LENGTH;
 use text::octets::all_hex;
 use text::octets::all_letters;

@@ -1,7 +1,7 @@
 // What a value says in octets: those of a body, the codes of a hit's letters.
-use cells::events::D1;
-use cells::events::D2;
-use cells::events::HIT;
+use notes_and_cells::events::D1;
+use notes_and_cells::events::D2;
+use notes_and_cells::events::HIT;
 use text::length::least;
 ghost use mathlib.Core.Path.{_≡_};
 ghost use mathlib.Core.List.{map};

@@ -35,9 +35,9 @@ use denote.Triple.Bound.{passed}
 use denote.Triple.Statement.{Triple}
 use denote.Triple.Spec.{tripleOf}
 use denote.Triple.Clauses.{Ended, Clauses, Lasts, atExit, closing}
-use Rattle.walks.proofs.Locals.{Holds, has, there, held}
-use Rattle.walks.proofs.Slices.{Kind, at-list, shr-of, shown, shown-out, shown-in, hands-on, handed}
-use Rattle.walks.proofs.Calls.{calls-fn}
+use Rattle.slice_lemmas.proofs.Locals.{Holds, has, there, held}
+use Rattle.slice_lemmas.proofs.Slices.{Kind, at-list, shr-of, shown, shown-out, shown-in, hands-on, handed}
+use Rattle.slice_lemmas.proofs.Calls.{calls-fn}
 use Rattle.book_reader.specs.declared.lent.Reader.{Reader}
 use Rattle.book_reader.proofs.Calling.{calls-own}
 use Rattle.book_reader.proofs.Held.{B, Text}

@@ -21,7 +21,7 @@ use denote.Triple.Bound.{passed}
 use denote.Triple.Statement.{Triple}
 use denote.Triple.Spec.{tripleOf}
 use denote.Triple.Clauses.{Ended, Clauses, Lasts, lasts, atExit, closing}
-use Rattle.walks.proofs.Locals.{Holds, has, there, held, calls-with, lands-in}
+use Rattle.slice_lemmas.proofs.Locals.{Holds, has, there, held, calls-with, lands-in}
 
 module _ {M : Type 1} {𝓤 : URA M} {H : Heap 𝓤} {A : Atoms 𝓤} {K : Type 0} {W : Given 𝓤 H A} {Γ : List (Item 𝓤)} {E : Env 𝓤 H} {hs : List Holds}
     {qp : Post 𝓤 H} {f : Name} {xs : List Operand} {d : ℕ} {rest : Body} {i : Item 𝓤} where

@@ -8,7 +8,7 @@ use lib.Dec.{eqb, ltb}
 use lib.ListN.{length, take, drop, length-take, length-drop, length-append}
 use lib.Seq.{take-all, length-take-le, take-append-le, drop-append-le, drop-drop}
 use borrow.Author.Tests.{eqb-true, eqb-false, ne-eqb, lt-ltb, le-ltb, ltb-true, ltb-false}
-use Rattle.cases.proofs.ByCases.{by-test}
+use Rattle.test_lemmas.proofs.ByCases.{by-test}
 use Rattle.text.specs.Text.{LF, split, upto, same, onto}
 use Rattle.text.specs.Fields.{endsOf}
 use Rattle.text.proofs.Pieces.{upto-le, split-upto, split-some, same-length}

@@ -4,10 +4,10 @@ use mathlib.Core.List.{List, [], _∷_, _++_, map}
 use Prim.Native.Nat.{ℕ, zero, suc}
 use Prim.Native.String.{String}
 use Rattle.symbols.specs.Symbols.{sameSymbols}
-use Rattle.cells.specs.Names.{ascii}
+use Rattle.notes_and_cells.specs.Names.{ascii}
 use Rattle.text.specs.Text.{split, onto, all, onward}
 use Rattle.book_line.specs.Line.{eventNamed, isNumber, isAbsent, isBody, isHit, valueFits, formed, inOrder, isEnd}
-use Rattle.cells.specs.Events.{ON, AR, D1, END}
+use Rattle.notes_and_cells.specs.Events.{ON, AR, D1, END}
 use Rattle.book_reader.specs.Book.{firstLine, nothing, closing, lines, answersFrom, answers}
 use Rattle.book_reader.specs.Book.Answer.{entry, fault}
 

@@ -5,7 +5,7 @@ use mathlib.Core.List.{List, [], _∷_, _++_, append-assoc}
 use Prim.Native.Nat.{ℕ, zero, suc, _+_, _<_}
 use native.Mathlib.Omega.{arith}
 use lib.ListN.{length, drop, length-drop, length-append}
-use Rattle.cases.proofs.ByCases.{clash}
+use Rattle.test_lemmas.proofs.ByCases.{clash}
 use Rattle.book_reader.specs.Book.{Answer, firstLine, answers}
 use Rattle.book_reader.specs.Book.Answer.{entry, fault}
 use Rattle.book_reader.specs.Step.{stepAt, valueAt}

@@ -24,8 +24,8 @@ use denote.Struct.Declared.{Declared}
 use denote.Struct.Laws as LL
 use denote.Struct.Rest.{all-own, ownAt, rest, own-open, own-out}
 use denote.Struct.Values.{Values}
-use Rattle.walks.proofs.Slices.{Kind, uint-kind, enum-kind}
-use Rattle.walks.proofs.Ways.{Way, plain-way}
+use Rattle.slice_lemmas.proofs.Slices.{Kind, uint-kind, enum-kind}
+use Rattle.slice_lemmas.proofs.Ways.{Way, plain-way}
 use Rattle.book_reader.specs.declared.lent.Reader.{Reader}
 use Rattle.book_reader.proofs.lent.Reader as T
 use Rattle.book_reader.proofs.lent.Reader.Laws as T′

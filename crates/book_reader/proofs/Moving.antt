@@ -9,7 +9,7 @@ use lib.Dec.{ltb}
 use lib.ListN.{length, getD, set, take, drop, length-drop, length-take, length-append, drop-of-length-le}
 use lib.Seq.{getD-drop, take-all, take-nil, paste, paste-suc, drop-paste, length-paste, take-append-seam, drop-append-seam, length-take-le}
 use borrow.Author.Tests.{ltb-true, ltb-false}
-use Rattle.cases.proofs.ByCases.{by-test}
+use Rattle.test_lemmas.proofs.ByCases.{by-test}
 use Rattle.book_reader.specs.Rest.{restOf, kept}
 
 -- i octets from start on have been moved

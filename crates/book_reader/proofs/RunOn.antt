@@ -9,8 +9,8 @@ use lib.Dec.{eqb, ltb, leb}
 use lib.ListN.{length, take, drop, length-take, length-drop}
 use lib.Seq.{take-all, drop-drop, length-take-le}
 use borrow.Author.Tests.{eqb-true, ne-eqb, ltb-true, leb-true, le-leb}
-use Rattle.cases.proofs.ByCases.{by-test, clash, and-right}
-use Rattle.cases.proofs.Operators.{and-both}
+use Rattle.test_lemmas.proofs.ByCases.{by-test, clash, and-right}
+use Rattle.test_lemmas.proofs.Operators.{and-both}
 use Rattle.text.specs.Text.{LF, upto, same}
 use Rattle.text.specs.Fields.{fieldStart, fieldEnd, endsOf, fieldFrom, fieldTo}
 use Rattle.text.specs.declared.field.Ends.{Ends}

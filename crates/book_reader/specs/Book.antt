@@ -4,7 +4,7 @@ use mathlib.Core.List.{List, [], _∷_}
 use Prim.Native.Nat.{ℕ}
 use lib.Dec.{eqb}
 use lib.ListN.{length, take, drop}
-use Rattle.cells.specs.Names.{ascii}
+use Rattle.notes_and_cells.specs.Names.{ascii}
 use Rattle.text.specs.Text.{LF, split, same}
 use Rattle.book_line.specs.Line.{formed, inOrder, isEnd, periodOf, unitOf, eventOf, valueOf}
 

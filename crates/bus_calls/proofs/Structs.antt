@@ -1,6 +1,6 @@
 -- The structs of the walks, each once: its laws as a `Kind`, and of a slice's element also its size and what stands past the end.
 use mathlib.Core.Path.{refl}
-use Rattle.walks.proofs.Slices.{Kind, Element, struct-kind}
+use Rattle.slice_lemmas.proofs.Slices.{Kind, Element, struct-kind}
 use Rattle.timing.proofs.counts.Periods as Periods
 use Rattle.timing.proofs.counts.Periods.Laws as Periods′
 use Rattle.terminal.specs.Terminal.{fresh}
@@ -10,12 +10,12 @@ use Rattle.terminal.proofs.TerminalStep as Step
 use Rattle.terminal.proofs.TerminalStep.Laws as Step′
 use Rattle.bus_record.proofs.record.BusRecord as Bus
 use Rattle.bus_record.proofs.record.BusRecord.Laws as Bus′
-use Rattle.bus_record.proofs.side.Ran as Ran
-use Rattle.bus_record.proofs.side.Ran.Laws as Ran′
+use Rattle.bus_record.proofs.side.RunAnswer as RunAnswer
+use Rattle.bus_record.proofs.side.RunAnswer.Laws as Ran′
 use Rattle.bus_calls.proofs.turn.Turn as Turn
 use Rattle.bus_calls.proofs.turn.Turn.Laws as Turn′
-use Rattle.solo.proofs.alone.Alone as Alone
-use Rattle.solo.proofs.alone.Alone.Laws as Alone′
+use Rattle.lone_sender.proofs.alone.Alone as Alone
+use Rattle.lone_sender.proofs.alone.Alone.Laws as Alone′
 use Rattle.bus_event.proofs.event.Told as Told
 use Rattle.bus_event.proofs.event.Told.Laws as Told′
 
@@ -25,8 +25,8 @@ terminals = record { kind = struct-kind T.the-type T′.the-laws T′.the-plain 
 abbrev pub buses : Kind Bus.the-row
 buses = struct-kind Bus.the-type Bus′.the-laws Bus′.the-plain Bus′.the-copy Bus′.mir refl
 
-abbrev pub runs : Kind Ran.the-row
-runs = struct-kind Ran.the-type Ran′.the-laws Ran′.the-plain Ran′.the-copy Ran′.mir refl
+abbrev pub runs : Kind RunAnswer.the-row
+runs = struct-kind RunAnswer.the-type Ran′.the-laws Ran′.the-plain Ran′.the-copy Ran′.mir refl
 
 abbrev pub periods : Kind Periods.the-row
 periods = struct-kind Periods.the-type Periods′.the-laws Periods′.the-plain Periods′.the-copy Periods′.mir refl

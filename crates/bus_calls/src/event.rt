@@ -2,9 +2,9 @@
 ghost use mathlib.Core.Path.{_≡_};
 ghost use mathlib.Core.List.{[]};
 ghost use Prim.Native.Nat.{_-_};
-ghost use Rattle.cells.specs.Notes.{packedNotes};
+ghost use Rattle.notes_and_cells.specs.Notes.{packedNotes};
 ghost use Rattle.bus_event.specs.Event.{told};
-ghost use Rattle.call_rules.specs.Event.{eventTold, terminalsAfter, imagesAfter, lettersAfter};
+ghost use Rattle.bus_call_specs.specs.Event.{eventTold, terminalsAfter, imagesAfter, lettersAfter};
 use super::fields::periods_of;
 use super::fields::terminal_of;
 use super::network_end::network_event;
@@ -14,7 +14,7 @@ use bus_event::event::first_reason;
 use bus_event::event::replied;
 use bus_event::event::terminal_event;
 use bus_record::record::BusRecord;
-use cells::cell::NO_NOTES;
+use notes_and_cells::cell::NO_NOTES;
 use terminal::Terminal;
 use terminal::TerminalStep;
 

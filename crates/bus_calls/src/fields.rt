@@ -3,10 +3,10 @@
 ghost use mathlib.Core.Path.{_≡_};
 use super::turn::Turn;
 use bus_record::record::BusRecord;
-use bus_record::side::Ran;
-use solo::alone::Alone;
-use solo::search::Search;
-use solo::solo::Solo;
+use bus_record::side::RunAnswer;
+use lone_sender::alone::Alone;
+use lone_sender::lone::LoneSender;
+use lone_sender::search::Search;
 use terminal::Terminal;
 use terminal::TerminalStep;
 use timing::counts::Periods;
@@ -19,17 +19,17 @@ pub(crate) fn periods_of(bus: BusRecord) -> Periods
 }
 
 // The record after a run.
-pub(crate) fn bus_of(ran: Ran) -> BusRecord
-    ensures { λ r. ⌜ r ≡ ran .bus ⌝ }
+pub(crate) fn bus_of(answer: RunAnswer) -> BusRecord
+    ensures { λ r. ⌜ r ≡ answer .bus ⌝ }
 {
-    ran.bus
+    answer.bus
 }
 
 // What the last period of a turn gives.
-pub(crate) fn ran_of(turn: Turn) -> Ran
-    ensures { λ r. ⌜ r ≡ turn .ran ⌝ }
+pub(crate) fn ran_of(turn: Turn) -> RunAnswer
+    ensures { λ r. ⌜ r ≡ turn .answer ⌝ }
 {
-    turn.ran
+    turn.answer
 }
 
 // How many periods a turn has run before its last.
@@ -40,17 +40,17 @@ pub(crate) fn over_of(turn: Turn) -> u32
 }
 
 // The sender that a search has found.
-pub(crate) fn solo_found(found: Search) -> Solo
-    ensures { λ r. ⌜ r ≡ found .solo ⌝ }
+pub(crate) fn lone_found(found: Search) -> LoneSender
+    ensures { λ r. ⌜ r ≡ found .lone ⌝ }
 {
-    found.solo
+    found.lone
 }
 
 // The sender after a run alone.
-pub(crate) fn solo_after(alone: Alone) -> Solo
-    ensures { λ r. ⌜ r ≡ alone .solo ⌝ }
+pub(crate) fn lone_after(alone: Alone) -> LoneSender
+    ensures { λ r. ⌜ r ≡ alone .lone ⌝ }
 {
-    alone.solo
+    alone.lone
 }
 
 // The terminal after an event.

@@ -5,9 +5,9 @@ use bus_event::event::Told;
 use bus_event::event::replied;
 use bus_record::record::BusRecord;
 use bus_record::side::reader_after;
-use cells::cell::NO_NOTES;
-use cells::events::AR;
-use cells::events::HIT;
+use notes_and_cells::cell::NO_NOTES;
+use notes_and_cells::events::AR;
+use notes_and_cells::events::HIT;
 use table_6_3::G3;
 
 // The letters of a hit are taken over, where they are as many as the letters lent.
@@ -36,7 +36,7 @@ fn with_hit(bus: BusRecord) -> BusRecord
         periods,
         opportunities,
         reader,
-        heard: bus.heard,
+        echo: bus.echo,
         hit: true,
     }
 }
@@ -46,9 +46,9 @@ fn request(bus: BusRecord, event: u8) -> Told
     ensures { λ r. ⌜ r ≡ spec.networkAsked event bus ⌝ }
 {
     let number = if event == AR {
-        table_6_3::AR
+        table_6_3::AR_ROW
     } else {
-        table_6_3::DR
+        table_6_3::DR_ROW
     };
     let step = bus.network.request(number, bus.periods);
     let network = step.network;
@@ -61,7 +61,7 @@ fn request(bus: BusRecord, event: u8) -> Told
         periods,
         opportunities,
         reader: reader_after(left, bus.reader),
-        heard: bus.heard,
+        echo: bus.echo,
         hit: bus.hit,
     };
     replied(after, notes, step.reply)

@@ -1,7 +1,7 @@
 // Periods are run.
 ghost use mathlib.Core.Path.{_≡_};
-ghost use Rattle.call_rules.specs.Kept.{kept};
-ghost use Rattle.call_rules.specs.Run.{ran, keptAfter};
+ghost use Rattle.bus_call_specs.specs.Kept.{kept};
+ghost use Rattle.bus_call_specs.specs.Run.{runAnswer, keptAfter};
 use super::fields::bus_of;
 use super::fields::over_of;
 use super::fields::ran_of;
@@ -10,9 +10,9 @@ use super::ready::in_range;
 use super::ready::run_reason;
 use super::turn::advance;
 use bus_record::record::BusRecord;
-use bus_record::side::Ran;
+use bus_record::side::RunAnswer;
 use bus_record::side::refused_run;
-use listening::hears::UnitNotes;
+use period_hearing::hears::UnitNotes;
 use terminal::Terminal;
 
 // Runs periods until so many are run or one hands back notes: as many single calls of `period`. The images are of the frames that are
@@ -25,8 +25,8 @@ pub fn run(
     letters: &[u8],
     notes: &mut [UnitNotes],
     most: u32,
-) -> Ran
-    ensures { λ r. ⌜ r ≡ ran most
+) -> RunAnswer
+    ensures { λ r. ⌜ r ≡ runAnswer most
         (kept bus (now (terminals .entry)) (now (images .entry)) (now (octets .entry)) (now (letters .entry)) (now (notes .entry))) ⌝ }
     ensures { λ _. ⌜ now (terminals .exit) ≡ keptAfter most
         (kept bus (now (terminals .entry)) (now (images .entry)) (now (octets .entry)) (now (letters .entry)) (now (notes .entry)))
@@ -76,8 +76,8 @@ pub fn period(
     octets: &mut [u8],
     letters: &[u8],
     notes: &mut [UnitNotes],
-) -> Ran
-    ensures { λ r. ⌜ r ≡ ran 1
+) -> RunAnswer
+    ensures { λ r. ⌜ r ≡ runAnswer 1
         (kept bus (now (terminals .entry)) (now (images .entry)) (now (octets .entry)) (now (letters .entry)) (now (notes .entry))) ⌝ }
     ensures { λ _. ⌜ now (terminals .exit) ≡ keptAfter 1
         (kept bus (now (terminals .entry)) (now (images .entry)) (now (octets .entry)) (now (letters .entry)) (now (notes .entry)))

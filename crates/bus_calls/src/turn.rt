@@ -3,37 +3,37 @@ ghost use mathlib.Core.Path.{_≡_};
 ghost use Prim.Native.Nat.{_-_};
 ghost use lib.Dec.{eqb};
 ghost use lib.ListN.{length};
-ghost use Rattle.call_rules.specs.Kept.{kept};
-ghost use Rattle.leaps.specs.Turn.{Turns};
+ghost use Rattle.bus_call_specs.specs.Kept.{kept};
+ghost use Rattle.idle_periods.specs.Turn.{Turns};
+use super::fields::lone_after;
+use super::fields::lone_found;
 use super::fields::periods_of;
-use super::fields::solo_after;
-use super::fields::solo_found;
 use super::step::step;
 use bus_record::record::BusRecord;
-use bus_record::side::Ran;
-use leaps::leap::leapt;
-use leaps::reach::reach;
-use listening::hears::UnitNotes;
-use listening::silence::silence;
-use solo::alone::Alone;
-use solo::alone::run_alone;
-use solo::follow::follow;
-use solo::search::find;
-use solo::search::in_vain;
+use bus_record::side::RunAnswer;
+use idle_periods::leap::leapt;
+use idle_periods::reach::reach;
+use lone_sender::alone::Alone;
+use lone_sender::alone::run_alone;
+use lone_sender::follow::follow;
+use lone_sender::search::find;
+use lone_sender::search::in_vain;
+use period_hearing::hears::UnitNotes;
+use period_hearing::silence::silence;
 use terminal::Terminal;
 
 // What the last period of a turn gives, and how many were run before it.
 pub struct Turn {
-    pub ran: Ran,
+    pub answer: RunAnswer,
     pub over: u32,
 }
 
 // A turn of these two.
-fn turned(ran: Ran, over: u32) -> Turn
-    ensures { λ r. ⌜ r .ran ≡ ran ⌝ }
+fn turned(answer: RunAnswer, over: u32) -> Turn
+    ensures { λ r. ⌜ r .answer ≡ answer ⌝ }
     ensures { λ r. ⌜ r .over ≡ over ⌝ }
 {
-    Turn { ran, over }
+    Turn { answer, over }
 }
 
 // Whether no period was run alone.
@@ -45,13 +45,13 @@ fn none_run(alone: Alone) -> bool
 
 // A run alone as a turn: its last period, and how many were run before it.
 fn turn_alone(alone: Alone) -> Turn
-    ensures { λ r. ⌜ r .ran ≡ alone .ran ⌝ }
+    ensures { λ r. ⌜ r .answer ≡ alone .answer ⌝ }
     ensures { λ r. ⌜ r .over ≡ alone .over - 1 ⌝ }
 {
     if alone.over == 0 {
-        return turned(alone.ran, 0);
+        return turned(alone.answer, 0);
     }
-    turned(alone.ran, alone.over - 1)
+    turned(alone.answer, alone.over - 1)
 }
 
 // With so many periods left to run: a step over those of a still bus, and one more.
@@ -67,13 +67,13 @@ fn leap_on(
     requires { ⌜ length (now notes) ≡ length (now terminals) ⌝ }
     ensures { λ r. ⌜ Turns left
         (kept bus (now (terminals .entry)) (now (images .entry)) (now (octets .entry)) (now (letters .entry)) (now (notes .entry)))
-        (r .ran) (r .over)
-        (kept (r .ran .bus) (now (terminals .exit)) (now (images .entry)) (now (octets .exit)) (now (letters .entry))
+        (r .answer) (r .over)
+        (kept (r .answer .bus) (now (terminals .exit)) (now (images .entry)) (now (octets .exit)) (now (letters .entry))
         (now (notes .exit))) ⌝ }
 {
     let over = reach(bus, terminals, left);
-    let ran = step(leapt(bus, over), terminals, images, octets, letters, notes);
-    turned(ran, over)
+    let answer = step(leapt(bus, over), terminals, images, octets, letters, notes);
+    turned(answer, over)
 }
 
 // With so many periods left to run: where one terminal sends alone, the periods in which it does; else a leap.
@@ -89,8 +89,8 @@ pub(crate) fn advance(
     requires { ⌜ length (now notes) ≡ length (now terminals) ⌝ }
     ensures { λ r. ⌜ Turns left
         (kept bus (now (terminals .entry)) (now (images .entry)) (now (octets .entry)) (now (letters .entry)) (now (notes .entry)))
-        (r .ran) (r .over)
-        (kept (r .ran .bus) (now (terminals .exit)) (now (images .entry)) (now (octets .exit)) (now (letters .entry))
+        (r .answer) (r .over)
+        (kept (r .answer .bus) (now (terminals .exit)) (now (images .entry)) (now (octets .exit)) (now (letters .entry))
         (now (notes .exit))) ⌝ }
 {
     if in_vain(bus) {
@@ -101,11 +101,11 @@ pub(crate) fn advance(
     if most == 0 {
         return leap_on(bus, terminals, images, octets, letters, notes, left);
     }
-    let alone = run_alone(bus, images, octets, solo_found(found), most);
+    let alone = run_alone(bus, images, octets, lone_found(found), most);
     if none_run(alone) {
         return leap_on(bus, terminals, images, octets, letters, notes, left);
     }
-    follow(terminals, solo_after(alone));
+    follow(terminals, lone_after(alone));
     silence(notes);
     turn_alone(alone)
 }

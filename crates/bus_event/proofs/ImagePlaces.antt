@@ -8,14 +8,14 @@ use lib.Dec.{ltb}
 use lib.ListN.{length, getD, take, drop, length-append, length-take, length-drop, List·getD-append}
 use lib.Seq.{getD-append-add, getD-take, getD-drop}
 use borrow.Author.Tests.{lt-ltb, ltb-true, ltb-false, le-leb, ne-eqb}
-use Rattle.cases.proofs.ByCases.{by-test}
+use Rattle.test_lemmas.proofs.ByCases.{by-test}
 use Rattle.hdlc.specs.Bits.{octets}
 use Rattle.hdlc.specs.Image.{image, longestBody, IsBody}
 use Rattle.hdlc.proofs.ImageLaws.{image-most}
 use Rattle.hdlc.proofs.OctetLaws.{length-octets}
 use Rattle.packing.specs.Packing.{octetsFor, imageRoom, filledOctets, onto, packedBit, isBodyLength, imagedOctets}
 use Rattle.packing.proofs.PackerLaws.{bit-image}
-use Rattle.bus.specs.Bus.{terminals}
+use Rattle.bus_rules.specs.Bus.{terminals}
 use Rattle.exchange.specs.Part.{imageBits, imageOf, imageBit}
 use Rattle.exchange.proofs.Images.{image-at}
 use Rattle.bus_event.specs.Event.{imagesRoom, imagePut}

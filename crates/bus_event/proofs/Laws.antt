@@ -8,22 +8,22 @@ use lib.Dec.{eqb, ltb}
 use lib.ListN.{length, take}
 use lib.Seq.{ext-getD, getD-take, length-take-le}
 use borrow.Author.Tests.{lt-ltb}
-use Rattle.cases.proofs.ByCases.{by-test, and-left, and-right}
+use Rattle.test_lemmas.proofs.ByCases.{by-test, and-left, and-right}
 use Rattle.hdlc.specs.Image.{image}
 use Rattle.hdlc.proofs.ImageLaws.{image-most}
 use Rattle.timing.specs.Counts.{periodsInRange, opportunitiesInRange}
 use Rattle.network.specs.Calls.{networkInRange}
 use Rattle.network.proofs.RangesKept as network
-use Rattle.reader.specs.ReaderRange.{readerInRange}
-use Rattle.reader.proofs.RangesKept as reader
+use Rattle.d_reader.specs.ReaderRange.{readerInRange}
+use Rattle.d_reader.proofs.RangesKept as reader
 use Rattle.table_6_3.specs.Table63 as table63
 use Rattle.terminal.specs.Calls.{terminalInRange}
 use Rattle.terminal.proofs.RangesKept as terminal
 use Rattle.dchannel.specs.declared.access.Class.the-variants.{One, Two}
 use Rattle.dchannel.specs.declared.access.Class.{Class}
 use Rattle.terminal.specs.declared.Terminal.{Terminal}
-use Rattle.bus.specs.Bus.{terminals}
-use Rattle.cells.specs.Events.{ON, OFF, AR, D1, D2, HIT}
+use Rattle.bus_rules.specs.Bus.{terminals}
+use Rattle.notes_and_cells.specs.Events.{ON, OFF, AR, D1, D2, HIT}
 use Rattle.exchange.specs.Part.{imageBits, bitsFrom, imageOf}
 use Rattle.bus_record.specs.Record.{recordInRange}
 use Rattle.bus_record.specs.NetworkSide.{readerAfter}
@@ -78,7 +78,7 @@ event-record-kept event r h =
     (λ t. rw t h)
     (λ t. rw (
       t,
-      network.requested-in-range (r .periods) (r .network) (and-left (networkInRange (r .network)) (periodsInRange (r .periods)) counts) (cond (eqb event AR) table63.AR table63.DR),
+      network.requested-in-range (r .periods) (r .network) (and-left (networkInRange (r .network)) (periodsInRange (r .periods)) counts) (cond (eqb event AR) table63.AR-ROW table63.DR-ROW),
       and-right (networkInRange (r .network)) (periodsInRange (r .periods)) counts,
       and-right (networkInRange (r .network) && periodsInRange (r .periods)) (opportunitiesInRange (r .periods) (r .opportunities)) most,
     )

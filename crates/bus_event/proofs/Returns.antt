@@ -7,7 +7,7 @@ use native.Mathlib.Omega.{arith}
 use lib.Dec.{eqb, ltb, leb}
 use lib.ListN.{length, take, drop}
 use borrow.Author.Tests.{eq-eqb, ne-eqb, le-ltb, le-leb, eqb-true, eqb-false, ltb-true, ltb-false, leb-true, lt-ltb, not-true, not-false}
-use Rattle.cases.proofs.ByCases.{by-test, and-left, and-right, neither}
+use Rattle.test_lemmas.proofs.ByCases.{by-test, and-left, and-right, neither}
 use Rattle.hdlc.specs.Image.{image, longestBody}
 use Rattle.packing.specs.Packing.{imageRoom, isBodyLength, imaged, imagedOctets}
 use Rattle.packing.specs.declared.image.Imaged.{Imaged}
@@ -16,9 +16,9 @@ use Rattle.dchannel.specs.declared.access.Class.{Class}
 use Rattle.table_6_2.specs.Table62.{F7}
 use Rattle.terminal.specs.Calls as terminalCalls
 use Rattle.terminal.specs.declared.Terminal.{Terminal}
-use Rattle.bus.specs.Bus.{terminals}
-use Rattle.bus.specs.Event.{eventFor}
-use Rattle.cells.specs.Events.{HIT}
+use Rattle.bus_rules.specs.Bus.{terminals}
+use Rattle.bus_rules.specs.Event.{eventFor}
+use Rattle.notes_and_cells.specs.Events.{HIT}
 use Rattle.bus_record.specs.Record.{recordInRange}
 use Rattle.bus_record.specs.declared.record.BusRecord.{BusRecord}
 use Rattle.bus_event.specs.Event.{imagesRoom, areLetters, firstReason, imagePut, frameReason, turnedDown, frameGiven, imagesWith}
@@ -151,6 +151,6 @@ module _ (images : List ℕ) (i : ℕ) (value : List ℕ) (t : Terminal) where
     not-given d = let z : eqb reason 0 ≡ false = ne-eqb reason 0 d in (rw (← e, z), rw (← e, z))
 
     pub given : reason ≡ 0
-        → (terminalCalls.handedOver class (length (image value)) t ≡ frameGiven class images i value t) × (imagePut i value images ≡ imagesWith t i value images)
+        → (terminalCalls.handOverCall class (length (image value)) t ≡ frameGiven class images i value t) × (imagePut i value images ≡ imagesWith t i value images)
     unfolding frameGiven imagesWith
     given d = let z : eqb reason 0 ≡ true = eq-eqb reason 0 d in (rw (← e, z), rw (← e, z))

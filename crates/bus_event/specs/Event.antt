@@ -7,8 +7,8 @@ use lib.Dec.{eqb, ltb}
 use lib.ListN.{length, take, drop}
 use Rattle.symbols.specs.Symbols.{lineLength, fits}
 use Rattle.combining.specs.Hit.{noneLetter}
-use Rattle.cells.specs.Notes.{packedNotes}
-use Rattle.cells.specs.declared.notes.Notes.{Notes}
+use Rattle.notes_and_cells.specs.Notes.{packedNotes}
+use Rattle.notes_and_cells.specs.declared.notes.Notes.{Notes}
 use Rattle.hdlc.specs.Image.{image}
 use Rattle.packing.specs.Packing.{imageRoom, isBodyLength, imagedOctets}
 use Rattle.dchannel.specs.declared.access.Class.{Class}
@@ -21,9 +21,9 @@ use Rattle.network.specs.declared.NetworkStep.{NetworkStep}
 use Rattle.terminal.specs.Calls as terminalCalls
 use Rattle.terminal.specs.declared.Terminal.{Terminal}
 use Rattle.terminal.specs.declared.TerminalStep.{TerminalStep}
-use Rattle.bus.specs.Bus.{terminals}
-use Rattle.bus.specs.Event.{eventFor}
-use Rattle.cells.specs.Events.{ON, OFF, AR, D1, D2, HIT}
+use Rattle.bus_rules.specs.Bus.{terminals}
+use Rattle.bus_rules.specs.Event.{eventFor}
+use Rattle.notes_and_cells.specs.Events.{ON, OFF, AR, D1, D2, HIT}
 use Rattle.bus_record.specs.Record.{recordInRange}
 use Rattle.bus_record.specs.NetworkSide.{leavesG3, readerAfter}
 use Rattle.bus_record.specs.declared.record.BusRecord.{BusRecord}
@@ -57,10 +57,10 @@ takenOver value letters = cond (eqb (length value) (length letters)) value lette
 
 unfoldable pub withHit : BusRecord → BusRecord
 withHit r =
-    record { network = r .network; periods = r .periods; opportunities = r .opportunities; reader = r .reader; heard = r .heard; hit = true }
+    record { network = r .network; periods = r .periods; opportunities = r .opportunities; reader = r .reader; echo = r .echo; hit = true }
 
 unfoldable pub asked : ℕ → BusRecord → NetworkStep
-asked event r = networkCalls.requested (cond (eqb event AR) table63.AR table63.DR) (r .periods) (r .network)
+asked event r = networkCalls.requestCall (cond (eqb event AR) table63.AR-ROW table63.DR-ROW) (r .periods) (r .network)
 
 -- `ar` or `dr`
 unfoldable pub networkAsked : ℕ → BusRecord → Told
@@ -71,7 +71,7 @@ networkAsked event r =
       periods = r .periods;
       opportunities = r .opportunities;
       reader = readerAfter (leavesG3 (r .network .state) (asked event r .network .state)) (r .reader);
-      heard = r .heard;
+      echo = r .echo;
       hit = r .hit;
     })
     (asked event r .notes)
@@ -107,16 +107,16 @@ turnedDown k t = record { terminal = t; notes = packedNotes []; reply = k }
 unfoldable pub frameGiven : Class → List ℕ → ℕ → List ℕ → Terminal → TerminalStep
 frameGiven class images i body t =
     let reason = frameReason (length images) i (length body) t in
-    cond (eqb reason 0) (terminalCalls.handedOver class (length (image body)) t) (turnedDown reason t)
+    cond (eqb reason 0) (terminalCalls.handOverCall class (length (image body)) t) (turnedDown reason t)
 
 unfoldable pub imagesWith : Terminal → ℕ → List ℕ → List ℕ → List ℕ
 imagesWith t i body images = cond (eqb (frameReason (length images) i (length body) t) 0) (imagePut i body images) images
 
 unfoldable pub terminalTold : ℕ → List ℕ → ℕ → List ℕ → Periods → Terminal → TerminalStep
 terminalTold event images i value period t =
-    cond (eqb event ON) (terminalCalls.switchedOn period t)
-    (cond (eqb event OFF) (terminalCalls.switchedOff period t)
-    (cond (eqb event AR) (terminalCalls.requested period t)
+    cond (eqb event ON) (terminalCalls.switchOnCall period t)
+    (cond (eqb event OFF) (terminalCalls.switchOffCall period t)
+    (cond (eqb event AR) (terminalCalls.requestCall period t)
     (cond (eqb event D1) (frameGiven One images i value t)
     (cond (eqb event D2) (frameGiven Two images i value t) (turnedDown 4 t)))))
 

@@ -8,7 +8,7 @@ use Rattle.hdlc.specs.Image.{image, IsBody}
 use Rattle.timing.specs.declared.counts.Periods.{Periods}
 use Rattle.terminal.specs.Calls.{terminalInRange}
 use Rattle.terminal.specs.declared.Terminal.{Terminal}
-use Rattle.bus.specs.Bus.{terminals}
+use Rattle.bus_rules.specs.Bus.{terminals}
 use Rattle.exchange.specs.Part.{imageOf}
 use Rattle.bus_record.specs.Record.{recordInRange}
 use Rattle.bus_record.specs.declared.record.BusRecord.{BusRecord}

@@ -5,11 +5,11 @@ use mathlib.Core.Path.{_≡_}
 use Prim.Native.Nat.{ℕ, _≤_}
 use native.Mathlib.Omega.{arith}
 use lib.ListN.{length}
-use Rattle.walks.proofs.Over.{acc, acc-all}
+use Rattle.slice_lemmas.proofs.Over.{acc, acc-all}
 use Rattle.terminal.specs.declared.Terminal.{Terminal}
-use Rattle.bus.specs.Bus.{terminals}
-use Rattle.call_rules.specs.Ready.{eightInRange}
-use Rattle.call_rules.proofs.InOrder.{alsoInRange, from-first}
+use Rattle.bus_rules.specs.Bus.{terminals}
+use Rattle.bus_call_specs.specs.Ready.{eightInRange}
+use Rattle.bus_call_specs.proofs.InOrder.{alsoInRange, from-first}
 
 pub all-read : (ts : List Terminal) (i : ℕ) → length ts ≡ terminals → i ≤ terminals → terminals ≤ i
     → acc alsoInRange true i 0 ts ≡ eightInRange ts

@@ -8,14 +8,14 @@ use lib.Dec.{eqb}
 use lib.ListN.{length, take, drop, length-drop, take-append-drop}
 use lib.Seq.{drop-drop, length-take-le}
 use borrow.Author.Tests.{eqb-true, eq-eqb, le-leb}
-use Rattle.cases.proofs.ByCases.{both}
-use Rattle.cases.proofs.Operators.{and-both}
+use Rattle.test_lemmas.proofs.ByCases.{both}
+use Rattle.test_lemmas.proofs.Operators.{and-both}
 use Rattle.hdlc.specs.Image.{longestBody}
 use Rattle.symbols.specs.Symbols.{lineLength}
 use Rattle.symbols.proofs.Lines.{same-symbols-true}
 use Rattle.bus_record.specs.Record.{recordInRange}
 use Rattle.bus_event.specs.Event.{imagesRoom, areLetters}
-use Rattle.call_rules.specs.Ready.{eightInRange, lentFits, runReason, runReply}
+use Rattle.bus_call_specs.specs.Ready.{eightInRange, lentFits, runReason, runReply}
 use Rattle.bus_octets.specs.Layout.{recordOctets, terminalsOctets, headOctets, busOctets, recordIn, terminalsIn, lettersIn, octetsIn, imagesIn, shown, lettersAt, octetsAt, imagesAt, busLength, isHead, isBus}
 use Rattle.bus_octets.specs.Laws.{Exact}
 

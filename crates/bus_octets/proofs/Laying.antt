@@ -7,7 +7,7 @@ use native.Mathlib.Omega.{arith}
 use lib.ListN.{length, getD, take}
 use lib.Seq.{take-suc, take-all}
 use Rattle.terminal.specs.declared.Terminal.{Terminal}
-use Rattle.bus.specs.Bus.{terminals}
+use Rattle.bus_rules.specs.Bus.{terminals}
 use Rattle.note_text.specs.Room.{Put}
 use Rattle.note_text.proofs.RoomLaws.{put-put, put-start}
 use Rattle.bus_octets.specs.Layout.{terminalOctets, terminalsOctets}

@@ -8,9 +8,9 @@ use lib.Seq.{length-take-le}
 use Rattle.symbols.specs.Symbols.{lineLength}
 use Rattle.hdlc.specs.Image.{longestBody}
 use Rattle.terminal.specs.declared.Terminal.{Terminal}
-use Rattle.bus.specs.Bus.{terminals}
+use Rattle.bus_rules.specs.Bus.{terminals}
 use Rattle.bus_record.specs.declared.record.BusRecord.{BusRecord}
-use Rattle.call_rules.specs.Kept.{Kept}
+use Rattle.bus_call_specs.specs.Kept.{Kept}
 use Rattle.note_text.specs.Room.{laid}
 use Rattle.note_text.proofs.RoomLaws.{laid-none}
 use Rattle.bus_octets.specs.Layout.{recordOctets, terminalOctets, terminalsOctets, headOctets, busOctets, terminalsAt, terminalLength, lettersAt, imagesAt}

@@ -9,7 +9,7 @@ use lib.Dec.{eqb, leb}
 use lib.ListN.{length, take, drop, length-append}
 use lib.Seq.{take-at, drop-at, drop-drop}
 use borrow.Author.Tests.{eq-eqb, leb-true}
-use Rattle.cases.proofs.Operators.{and-both}
+use Rattle.test_lemmas.proofs.Operators.{and-both}
 use Rattle.hdlc.specs.Image.{longestBody, longestImage}
 use Rattle.symbols.specs.Symbols.{lineLength}
 use Rattle.symbols.proofs.Lines.{same-symbols-self, fits-length}
@@ -17,17 +17,17 @@ use Rattle.combining.specs.Hit.{noneLetter}
 use Rattle.dchannel.specs.Access.{normal2}
 use Rattle.dchannel.specs.Ranges.{accessInRange}
 use Rattle.dchannel.specs.declared.access.Access.{Access}
-use Rattle.reader.proofs.RangesKept.{bits-most}
+use Rattle.d_reader.proofs.RangesKept.{bits-most}
 use Rattle.network.proofs.RangesKept.{network-fits}
 use Rattle.terminal.specs.Calls.{terminalInRange}
 use Rattle.terminal.specs.declared.Terminal.{Terminal}
 use Rattle.terminal.proofs.RangesKept.{terminal-fits}
-use Rattle.listening.specs.Shown.{allInRange}
-use Rattle.bus.specs.Bus.{terminals}
+use Rattle.period_hearing.specs.Shown.{allInRange}
+use Rattle.bus_rules.specs.Bus.{terminals}
 use Rattle.bus_record.specs.declared.record.BusRecord.{BusRecord}
-use Rattle.call_rules.specs.Kept.{Kept}
-use Rattle.call_rules.proofs.InOrder.{InOrder, in-order, order-ranges}
-use Rattle.call_rules.specs.Kept.{found}
+use Rattle.bus_call_specs.specs.Kept.{Kept}
+use Rattle.bus_call_specs.proofs.InOrder.{InOrder, in-order, order-ranges}
+use Rattle.bus_call_specs.specs.Kept.{found}
 use Rattle.note_text.proofs.Determined.{half-back, word-back}
 use Rattle.bus_octets.specs.Layout.{flag, recordOctets, terminalOctets, terminalsOctets, headOctets, busOctets, recordIn, terminalAt, terminalsFrom, terminalsIn, lettersIn, octetsIn, shown, terminalLength, lettersAt, octetsAt, imagesAt, busLength, isHead, isBus}
 use Rattle.bus_octets.specs.Laws.{RoundTrip}
@@ -53,7 +53,7 @@ record-back k o rest =
       flag-back (r .network .alignment .aligned),
       flag-back (r .reader .opened),
       flag-back (r .reader .zero),
-      flag-back (r .heard),
+      flag-back (r .echo),
       flag-back (r .hit),
     )
 

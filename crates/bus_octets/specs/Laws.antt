@@ -6,9 +6,9 @@ use mathlib.Core.Path.{_≡_}
 use Prim.Native.Nat.{ℕ}
 use lib.ListN.{length}
 use Rattle.hdlc.specs.Image.{longestBody}
-use Rattle.call_rules.specs.Kept.{Kept}
-use Rattle.call_rules.specs.Ready.{runReply}
-use Rattle.call_rules.specs.Kept.{found}
+use Rattle.bus_call_specs.specs.Kept.{Kept}
+use Rattle.bus_call_specs.specs.Ready.{runReply}
+use Rattle.bus_call_specs.specs.Kept.{found}
 use Rattle.bus_octets.specs.Layout.{busOctets, shown, busLength, isBus}
 
 -- What is in its range and of its length is stored as a bus, and read back as it was; the notes of its last period are no part of it.

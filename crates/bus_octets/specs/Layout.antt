@@ -10,18 +10,18 @@ use mathlib.Core.List.{List, [], _∷_, _++_}
 use Prim.Native.Nat.{ℕ, zero, suc, _+_, _*_}
 use lib.Dec.{eqb}
 use lib.ListN.{length, getD, take, drop, replicate}
-use Rattle.cells.specs.Names.{ascii}
+use Rattle.notes_and_cells.specs.Names.{ascii}
 use Rattle.hdlc.specs.Image.{longestBody}
 use Rattle.symbols.specs.Symbols.{lineLength, sameSymbols}
 use Rattle.timing.specs.Counts.{atPeriod}
 use Rattle.terminal.specs.declared.Terminal.{Terminal}
-use Rattle.bus.specs.Bus.{terminals}
+use Rattle.bus_rules.specs.Bus.{terminals}
 use Rattle.bus_record.specs.Record.{recordInRange}
 use Rattle.bus_record.specs.declared.record.BusRecord.{BusRecord}
 use Rattle.bus_event.specs.Event.{imagesRoom, areLetters}
-use Rattle.call_rules.specs.Kept.{Kept}
-use Rattle.call_rules.specs.Ready.{eightInRange}
-use Rattle.call_rules.specs.Kept.{found}
+use Rattle.bus_call_specs.specs.Kept.{Kept}
+use Rattle.bus_call_specs.specs.Ready.{eightInRange}
+use Rattle.bus_call_specs.specs.Kept.{found}
 use Rattle.note_text.specs.LowFirst.{half, word}
 use Rattle.bus_octets.specs.Numbers.{halfAt, wordAt}
 
@@ -49,7 +49,7 @@ recordOctets r =
     ∷ r .reader .octet
     ∷ flag (r .reader .opened)
     ∷ flag (r .reader .zero)
-    ∷ flag (r .heard)
+    ∷ flag (r .echo)
     ∷ flag (r .hit)
     ∷ []))))))))
 
@@ -89,7 +89,7 @@ recordIn s =
       opportunities = record { 0 = wordAt s 9 };
       network = record { t1 = wordAt s 13; t2 = wordAt s 17; state = getD s 21 0; alignment = record { aligned = flagAt s 22; run = getD s 23 0 } };
       reader = record { bits = halfAt s 24; ones = getD s 26 0; octet = getD s 27 0; opened = flagAt s 28; zero = flagAt s 29 };
-      heard = flagAt s 30;
+      echo = flagAt s 30;
       hit = flagAt s 31;
     }
 
@@ -148,8 +148,8 @@ abbrev pub imagesIn : List ℕ → List ℕ
 imagesIn s = drop imagesAt s
 
 -- the same of any octets: nothing but 0 where they are not as many as those of a bus
-unfoldable pub lettersOf : List ℕ → List ℕ
-lettersOf s = cond (eqb (length s) busLength) (lettersIn s) (replicate lineLength 0)
+unfoldable pub lettersRead : List ℕ → List ℕ
+lettersRead s = cond (eqb (length s) busLength) (lettersIn s) (replicate lineLength 0)
 
 unfoldable pub octetsOf : List ℕ → List ℕ
 octetsOf s = cond (eqb (length s) busLength) (octetsIn s) (replicate longestBody 0)

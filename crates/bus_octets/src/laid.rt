@@ -51,7 +51,7 @@ fn put_record(room: &mut [u8], wrote: usize, bus: BusRecord) -> usize
             reader.octet,
             reader.opened as u8,
             reader.zero as u8,
-            bus.heard as u8,
+            bus.echo as u8,
             bus.hit as u8,
         ],
     )

@@ -1,7 +1,7 @@
 // What the octets of a bus stand for.
 ghost use mathlib.Core.Path.{_≡_};
 ghost use Prim.Native.Nat.{_+_, _*_};
-ghost use Rattle.bus_octets.specs.Layout.{recordIn, terminalAt, terminalsIn, lettersOf, octetsOf};
+ghost use Rattle.bus_octets.specs.Layout.{recordIn, terminalAt, terminalsIn, lettersRead, octetsOf};
 use super::layout::BUS_LENGTH;
 use super::layout::IMAGES_AT;
 use super::layout::LETTERS_AT;
@@ -12,11 +12,11 @@ use super::numbers::octet_at;
 use super::numbers::word_at;
 use alignment::Alignment;
 use bus_record::record::BusRecord;
+use d_reader::Reader;
 use dchannel::access::Access;
 use network::Network;
 use note_text::room::put;
 use packing::image::LONGEST_BODY;
-use reader::Reader;
 use symbols::LINE_LENGTH;
 use terminal::Terminal;
 use timing::counts::Opportunities;
@@ -45,7 +45,7 @@ pub fn record_in(s: &[u8]) -> BusRecord
             opened: flag_at(s, 28),
             zero: flag_at(s, 29),
         },
-        heard: flag_at(s, 30),
+        echo: flag_at(s, 30),
         hit: flag_at(s, 31),
     }
 }
@@ -93,7 +93,7 @@ pub fn terminals_in(s: &[u8]) -> [Terminal; 8]
 
 // The letters of the hit; nothing but 0 where the octets are not as many as those of a bus.
 pub fn letters_in(s: &[u8]) -> [u8; LINE_LENGTH]
-    ensures { λ r. ⌜ r ≡ lettersOf (now (s .entry)) ⌝ }
+    ensures { λ r. ⌜ r ≡ lettersRead (now (s .entry)) ⌝ }
 {
     let mut letters = [0u8; LINE_LENGTH];
     if s.len() == BUS_LENGTH {

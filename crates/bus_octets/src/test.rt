@@ -1,6 +1,6 @@
 // Whether octets are a bus.
 ghost use mathlib.Core.Path.{_≡_};
-ghost use Rattle.call_rules.specs.Ready.{eightInRange};
+ghost use Rattle.bus_call_specs.specs.Ready.{eightInRange};
 ghost use Rattle.bus_octets.specs.Layout.{isBus, isHead};
 use super::laid::put_head;
 use super::layout::BUS_LENGTH;

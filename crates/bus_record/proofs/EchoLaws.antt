@@ -6,7 +6,7 @@ use Prim.Native.Nat.{ℕ, zero, suc, _≤_}
 use native.Mathlib.Omega.{arith}
 use lib.Dec.{eqb}
 use lib.ListN.{length, getD}
-use Rattle.cases.proofs.ByCases.{by-test}
+use Rattle.test_lemmas.proofs.ByCases.{by-test}
 use Rattle.symbols.specs.Symbols.{lineLength, none, minus, isLine, leaves, tabulate}
 use Rattle.symbols.proofs.Lines.{line-small, line-by}
 use Rattle.symbols.proofs.Written.{left-written}
@@ -14,14 +14,14 @@ use Rattle.frame.specs.declared.fields.Four.{Four}
 use Rattle.frame.proofs.Frames.{down-line}
 use Rattle.info.specs.Info.{info2Fields, info4Fields}
 use Rattle.combining.specs.Hit.{keepLetter, plusLetter, minusLetter, struck, hit, hitFits}
-use Rattle.cells.specs.Cells.{infoIn}
+use Rattle.notes_and_cells.specs.Cells.{infoIn}
 use Rattle.table_6_3.specs.Table63.{infoSent}
-use Rattle.hearing.specs.Sensing.{sensedDown}
-use Rattle.hearing.specs.declared.heard.Downward.{Downward}
-use Rattle.hearing.specs.declared.heard.Upward.{Upward}
-use Rattle.hearing.specs.declared.sensing.SensedDown.{SensedDown}
-use Rattle.bus.specs.Quick.{shownBy, shownFrom}
-use Rattle.bus.specs.Exchange.{sentDown}
+use Rattle.heard_line.specs.Sensing.{sensedDown}
+use Rattle.heard_line.specs.declared.heard.Downward.{Downward}
+use Rattle.heard_line.specs.declared.heard.Upward.{Upward}
+use Rattle.heard_line.specs.declared.sensing.SensedDown.{SensedDown}
+use Rattle.bus_rules.specs.Quick.{shownBy, shownFrom}
+use Rattle.bus_rules.specs.Exchange.{sentDown}
 use Rattle.bus_record.specs.Echo.{builtDown, sentEs, heardDown}
 use Rattle.bus_record.specs.declared.record.BusRecord.{BusRecord}
 
@@ -79,8 +79,8 @@ shown-by-state (suc (suc (suc (suc zero)))) = refl
 shown-by-state (suc (suc (suc (suc (suc n))))) = refl
 
 -- what the terminals' line shows
-pub shown-up : (calling frames : Bool)
-    → _≡_ {A = Upward} (record { pulse = calling || frames; framed = frames && not calling; info1 = calling && not frames }) (shownFrom calling frames)
+pub shown-up : (info1 info3 : Bool)
+    → _≡_ {A = Upward} (record { pulse = info1 || info3; framed = info3 && not info1; info1 = info1 && not info3 }) (shownFrom info1 info3)
 unfolding shownFrom
 shown-up true true = refl
 shown-up true false = refl

@@ -5,23 +5,23 @@ use mathlib.Core.List.{[]}
 use Prim.Native.Nat.{ℕ}
 use lib.Dec.{eqb}
 use borrow.Author.Tests.{eqb-true, not-true}
-use Rattle.cases.proofs.ByCases.{by-test, clash}
-use Rattle.cases.proofs.Operators.{and-both}
-use Rattle.cells.specs.Notes.{packedNotes, noted}
-use Rattle.cells.specs.Cells.{cellIn}
+use Rattle.test_lemmas.proofs.ByCases.{by-test, clash}
+use Rattle.test_lemmas.proofs.Operators.{and-both}
+use Rattle.notes_and_cells.specs.Notes.{packedNotes, noted}
+use Rattle.notes_and_cells.specs.Cells.{cellIn}
 use Rattle.table_6_3.specs.Table63.{G1, G2, G3, G4}
 use Rattle.timing.specs.Counts.{nextPeriod}
 use Rattle.timing.specs.Timers.{due}
 use Rattle.timing.specs.declared.counts.Periods.{Periods}
 use Rattle.alignment.specs.Alignment.{framedPeriod, unframedPeriod, followed}
-use Rattle.hearing.specs.Heard.{upwardEvent, lossUp}
-use Rattle.hearing.specs.declared.heard.Upward.{Upward}
+use Rattle.heard_line.specs.Heard.{upwardEvent, lossUp}
+use Rattle.heard_line.specs.declared.heard.Upward.{Upward}
 use Rattle.network.specs.Network.{unchanged, acts, happens, andThen, aligned, t1Due, t2Due}
 use Rattle.network.specs.Calls.{checked, ready}
 use Rattle.network.specs.Network as network
 use Rattle.network.specs.declared.Network.{Network}
 use Rattle.network.specs.declared.NetworkStep.{NetworkStep}
-use Rattle.bus_record.specs.NetworkSide.{leavesG3, hears, timers, networkListens, restsInG3, restsElsewhere, noNotes, networkRests}
+use Rattle.bus_record.specs.NetworkSide.{leavesG3, hearingStep, timerStep, networkListens, restsInG3, restsElsewhere, noNotes, networkRests}
 use Rattle.bus_record.specs.declared.side.NetworkHeard.{NetworkHeard}
 
 -- ---- What is known of one that rests.
@@ -98,12 +98,12 @@ abbrev pub nothingHeard : Network → NetworkHeard
 nothingHeard n = record { network = n; notes = noNotes; left = false }
 
 module _ (line : Upward) (p : Periods) (n : Network) (r : networkRests line n ≡ true) (a : due (n .t1) (nextPeriod p .0) ≡ false) (b : due (n .t2) (nextPeriod p .0) ≡ false) where
-  hearing : (hears line p n .network ≡ n) × (hears line p n .notes ≡ packedNotes [])
-  unfolding hears
+  hearing : (hearingStep line p n .network ≡ n) × (hearingStep line p n .notes ≡ packedNotes [])
+  unfolding hearingStep
   hearing = checked-nothing (network.hears line) p n (hears-nothing line n r (p .0))
 
-  timing : (timers line p n .network ≡ n) × (timers line p n .notes ≡ packedNotes [])
-  unfolding timers
+  timing : (timerStep line p n .network ≡ n) × (timerStep line p n .notes ≡ packedNotes [])
+  unfolding timerStep
   timing = rw (hearing .0) (checked-nothing network.timers (nextPeriod p) n (none-due (nextPeriod p .0) n a b))
 
   pub listens-rests : networkListens line p n ≡ nothingHeard n

@@ -4,28 +4,28 @@ use mathlib.Core.List.{List}
 use mathlib.Core.Path.{_≡_, refl}
 use Prim.Native.Nat.{ℕ}
 use lib.Dec.{eqb}
-use Rattle.cases.proofs.ByCases.{by-test, and-left, and-right}
+use Rattle.test_lemmas.proofs.ByCases.{by-test, and-left, and-right}
 use Rattle.frame.specs.declared.fields.Four.{Four}
 use Rattle.table_6_3.specs.Table63.{G3}
 use Rattle.timing.specs.Counts.{periodsInRange, opportunitiesInRange, allRun, nextPeriod}
 use Rattle.timing.specs.declared.counts.Periods.{Periods}
 use Rattle.timing.specs.declared.counts.Opportunities.{Opportunities}
 use Rattle.timing.proofs.RangesKept.{next-in-range, four-more-in-range, none-more-in-range}
-use Rattle.hearing.specs.declared.heard.Upward.{Upward}
-use Rattle.network.specs.Calls.{networkInRange, heard}
+use Rattle.heard_line.specs.declared.heard.Upward.{Upward}
+use Rattle.network.specs.Calls.{networkInRange, hearCall}
 use Rattle.network.specs.declared.Network.{Network}
 use Rattle.network.proofs.RangesKept.{timer-due-in-range, heard-in-range}
-use Rattle.reader.specs.Counters.{readBit}
-use Rattle.reader.specs.ReaderRange.{readerInRange}
-use Rattle.reader.specs.declared.Reader.{Reader}
-use Rattle.reader.specs.declared.ReaderAnswer.{ReaderAnswer}
-use Rattle.reader.specs.declared.ReaderAnswer.the-variants.{Nothing, Heard, Torn, Refused}
-use Rattle.reader.proofs.RangesKept as reader
-use Rattle.reader.proofs.RangesKept.{read-in-range}
-use Rattle.bus.specs.Quick.{shownFrom}
+use Rattle.d_reader.specs.Counters.{readBit}
+use Rattle.d_reader.specs.ReaderRange.{readerInRange}
+use Rattle.d_reader.specs.declared.Reader.{Reader}
+use Rattle.d_reader.specs.declared.ReaderAnswer.{ReaderAnswer}
+use Rattle.d_reader.specs.declared.ReaderAnswer.the-variants.{Nothing, Heard, Torn, Refused}
+use Rattle.d_reader.proofs.RangesKept as reader
+use Rattle.d_reader.proofs.RangesKept.{read-in-range}
+use Rattle.bus_rules.specs.Quick.{shownFrom}
 use Rattle.bus_record.specs.Record.{recordInRange}
 use Rattle.bus_record.specs.Reading.{quietReading, saidWith, spokenTo, spokenToFour, readIn}
-use Rattle.bus_record.specs.NetworkSide.{readerAfter, hears, timers, networkListens, countedAfter, ranWith, ranAfter}
+use Rattle.bus_record.specs.NetworkSide.{readerAfter, hearingStep, timerStep, networkListens, countedAfter, answerWith, answerAfter}
 use Rattle.bus_record.specs.RecordKept.{FreshInRange, PeriodKeeps}
 use Rattle.bus_record.specs.declared.record.BusRecord.{BusRecord}
 use Rattle.bus_record.specs.declared.reading.Spoken.{Spoken}
@@ -85,8 +85,8 @@ reader-after-fits false r h = h
 
 -- ---- The network end.
 listens-fits : (line : Upward) (period : Periods) (n : Network) → networkInRange n ≡ true → networkInRange (networkListens line period n .network) ≡ true
-unfolding networkListens timers hears
-listens-fits line period n h = timer-due-in-range (nextPeriod period) (heard line period n .network) (heard-in-range period n h line)
+unfolding networkListens timerStep hearingStep
+listens-fits line period n h = timer-due-in-range (nextPeriod period) (hearCall line period n .network) (heard-in-range period n h line)
 
 -- ---- The counts.
 counted-fits : (state : ℕ) (p : Periods) (o : Opportunities) → allRun p ≡ false → opportunitiesInRange p o ≡ true
@@ -100,11 +100,11 @@ unfolding recordInRange networkInRange readerInRange
 fresh-in-range = refl
 
 pub period-keeps : PeriodKeeps
-unfolding ranAfter ranWith
+unfolding answerAfter answerWith
 period-keeps bus m buf told h r =
     let f : RecordFits bus = record-fits bus h in
     fits-record _ (record {
-      network-fits = listens-fits (shownFrom (m .calling) (m .frames)) (bus .periods) (bus .network) (f .network-fits);
+      network-fits = listens-fits (shownFrom (m .info1) (m .info3)) (bus .periods) (bus .network) (f .network-fits);
       periods-fit = next-in-range (bus .periods) (f .periods-fit);
       opportunities-fit = counted-fits (bus .network .state) (bus .periods) (bus .opportunities) r (f .opportunities-fit);
       reader-fits = reader-after-fits _ _ (read-fits (bus .network .state) (m .ds) buf (bus .reader) (f .reader-fits));

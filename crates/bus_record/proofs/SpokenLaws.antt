@@ -10,18 +10,18 @@ use lib.ListN.{length}
 use borrow.Author.Tests.{eqb-true, not-true}
 use types.Run.{OneOf}
 use denote.Enum.Declared.{tagOf}
-use Rattle.cases.proofs.ByCases.{by-test}
-use Rattle.cases.proofs.Operators.{and-both}
+use Rattle.test_lemmas.proofs.ByCases.{by-test}
+use Rattle.test_lemmas.proofs.Operators.{and-both}
 use Rattle.hdlc.specs.Image.{longestBody}
-use Rattle.cells.specs.Notes.{HEARD, TORN}
+use Rattle.notes_and_cells.specs.Notes.{HEARD, TORN}
 use Rattle.frame.specs.Four.{allFour}
 use Rattle.frame.specs.declared.fields.Four.{Four}
-use Rattle.reader.specs.Counters.{freshReader, afterBit, answerTo, fills, storeWhole, readBit, readOctets}
-use Rattle.reader.specs.declared.Reader.{Reader}
-use Rattle.reader.specs.declared.Read.{Read}
-use Rattle.reader.specs.declared.ReaderAnswer.{ReaderAnswer}
-use Rattle.reader.specs.declared.ReaderAnswer.the-variants.{Nothing, Heard, Torn, Refused}
-use Rattle.reader.proofs.ReaderAnswer.{the-type}
+use Rattle.d_reader.specs.Counters.{freshReader, afterBit, answerTo, fills, storeWhole, readBit, readOctets}
+use Rattle.d_reader.specs.declared.Reader.{Reader}
+use Rattle.d_reader.specs.declared.Read.{Read}
+use Rattle.d_reader.specs.declared.ReaderAnswer.{ReaderAnswer}
+use Rattle.d_reader.specs.declared.ReaderAnswer.the-variants.{Nothing, Heard, Torn, Refused}
+use Rattle.d_reader.proofs.ReaderAnswer.{the-type}
 use Rattle.bus_record.specs.Reading.{quietReading, saidWith, spokenTo, octetsTo, spokenToFour, octetsToFour, readerWaits}
 use Rattle.bus_record.specs.declared.reading.Spoken.{Spoken}
 

@@ -3,8 +3,8 @@ use mathlib.Core.Bool.{Bool}
 use mathlib.Core.List.{List, [], _∷_}
 use mathlib.Core.Path.{_≡_, refl, _∙_}
 use Prim.Native.Nat.{ℕ}
-use Rattle.reader.specs.Counters.{readBit, readOctets}
-use Rattle.reader.specs.Calls.{readerAfter, octetsAfter, answersAfter}
+use Rattle.d_reader.specs.Counters.{readBit, readOctets}
+use Rattle.d_reader.specs.Calls.{readerAfter, octetsAfter, answersAfter}
 use Rattle.bus_record.specs.Reading.{spokenTo, octetsTo}
 use Rattle.bus_record.specs.declared.reading.Spoken.{Spoken}
 use Rattle.bus_record.proofs.RecordKept.{spoken-reader}

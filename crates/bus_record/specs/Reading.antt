@@ -1,16 +1,16 @@
 -- The network end reads the four D of a period in G3 (document 01, "D access (6.1)"), bit by bit.
--- This is how the code goes; crate `call_rules`' law `step-shown` holds it to document 01's period.
+-- This is how the code goes; crate `bus_call_specs`' law `step-shown` holds it to document 01's period.
 use mathlib.Core.Bool.{Bool, cond, not, _&&_}
 use mathlib.Core.List.{List}
 use Prim.Native.Nat.{ℕ}
 use lib.Dec.{eqb}
-use Rattle.cells.specs.Notes.{HEARD, TORN}
+use Rattle.notes_and_cells.specs.Notes.{HEARD, TORN}
 use Rattle.table_6_3.specs.Table63.{G3}
 use Rattle.frame.specs.declared.fields.Four.{Four}
-use Rattle.reader.specs.Counters.{readBit, readOctets}
-use Rattle.reader.specs.declared.Reader.{Reader}
-use Rattle.reader.specs.declared.ReaderAnswer.{ReaderAnswer}
-use Rattle.reader.specs.declared.ReaderAnswer.the-variants.{Nothing, Heard, Torn, Refused}
+use Rattle.d_reader.specs.Counters.{readBit, readOctets}
+use Rattle.d_reader.specs.declared.Reader.{Reader}
+use Rattle.d_reader.specs.declared.ReaderAnswer.{ReaderAnswer}
+use Rattle.d_reader.specs.declared.ReaderAnswer.the-variants.{Nothing, Heard, Torn, Refused}
 use Rattle.bus_record.specs.declared.reading.Spoken.{Spoken}
 
 -- nothing read yet

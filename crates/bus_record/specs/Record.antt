@@ -3,8 +3,8 @@ use mathlib.Core.Bool.{Bool, true, false, _&&_}
 use Rattle.timing.specs.Counts.{atPeriod, periodsInRange, opportunitiesInRange}
 use Rattle.network.specs.Calls.{networkInRange}
 use Rattle.network.specs.Network as network
-use Rattle.reader.specs.Counters.{freshReader}
-use Rattle.reader.specs.ReaderRange.{readerInRange}
+use Rattle.d_reader.specs.Counters.{freshReader}
+use Rattle.d_reader.specs.ReaderRange.{readerInRange}
 use Rattle.bus_record.specs.declared.record.BusRecord.{BusRecord}
 
 -- "A fresh bus is in G1 .., unaligned, with no timer running"
@@ -15,7 +15,7 @@ freshRecord =
       periods = atPeriod 0;
       opportunities = record { 0 = 0 };
       reader = freshReader;
-      heard = true;
+      echo = true;
       hit = false;
     }
 

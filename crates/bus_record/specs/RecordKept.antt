@@ -4,9 +4,9 @@ use mathlib.Core.List.{List}
 use mathlib.Core.Path.{_≡_}
 use Prim.Native.Nat.{ℕ}
 use Rattle.timing.specs.Counts.{allRun}
-use Rattle.exchange.specs.declared.moment.Moment.{Moment}
+use Rattle.exchange.specs.declared.tally.Tally.{Tally}
 use Rattle.bus_record.specs.Record.{freshRecord, recordInRange}
-use Rattle.bus_record.specs.NetworkSide.{ranAfter}
+use Rattle.bus_record.specs.NetworkSide.{answerAfter}
 use Rattle.bus_record.specs.declared.record.BusRecord.{BusRecord}
 
 abbrev pub FreshInRange : Type 0
@@ -15,5 +15,5 @@ FreshInRange = recordInRange freshRecord ≡ true
 -- a period more, where one can be run: whatever the exchange, the reader's octets and the terminals' notes
 abbrev pub PeriodKeeps : Type 0
 PeriodKeeps =
-    (bus : BusRecord) (m : Moment) (buf : List ℕ) (told : Bool) → recordInRange bus ≡ true → allRun (bus .periods) ≡ false
-    → recordInRange (ranAfter bus m buf told .bus) ≡ true
+    (bus : BusRecord) (m : Tally) (buf : List ℕ) (told : Bool) → recordInRange bus ≡ true → allRun (bus .periods) ≡ false
+    → recordInRange (answerAfter bus m buf told .bus) ≡ true

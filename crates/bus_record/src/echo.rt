@@ -1,17 +1,17 @@
 // What of the downward line the exchange and the terminals' hearing need: a line is built under a hit alone.
 ghost use mathlib.Core.Path.{_≡_};
-ghost use Rattle.bus.specs.Quick.{shownBy};
-ghost use Rattle.exchange.specs.Shown.{lettersOf};
-ghost use Rattle.bus_record.specs.Echo.{letterAt, hitIn, firstMoment, builtDown, heardDown};
+ghost use Rattle.bus_rules.specs.Quick.{shownBy};
+ghost use Rattle.exchange.specs.Shown.{lettersAtE};
+ghost use Rattle.bus_record.specs.Echo.{letterAt, hitIn, firstTally, builtDown, heardDown};
 use super::record::BusRecord;
 use combining::hit::KEEP_LETTER;
 use combining::hit::apply_hit;
-use exchange::moment::Letters;
-use exchange::moment::Moment;
+use exchange::tally::Letters;
+use exchange::tally::Tally;
 use frame::fields::Four;
-use hearing::heard::Downward;
-use hearing::sensing::SensedDown;
-use hearing::sensing::sense_down;
+use heard_line::heard::Downward;
+use heard_line::sensing::SensedDown;
+use heard_line::sensing::sense_down;
 use info::info::info0;
 use info::info::info2;
 use info::info::info4;
@@ -32,7 +32,7 @@ fn letter_at(letters: &[u8], i: usize) -> u8
 
 // The letters at E11, E24, E35 and E46, keep where there is no hit.
 fn letters_at_e(hit: bool, letters: &[u8]) -> Letters
-    ensures { λ r. ⌜ r ≡ lettersOf (hitIn hit (now (letters .entry))) ⌝ }
+    ensures { λ r. ⌜ r ≡ lettersAtE (hitIn hit (now (letters .entry))) ⌝ }
 {
     if hit {
         Letters {
@@ -52,10 +52,10 @@ fn letters_at_e(hit: bool, letters: &[u8]) -> Letters
 }
 
 // The exchange as its first E comes.
-pub fn first_moment(bus: BusRecord, letters: &[u8]) -> Moment
-    ensures { λ r. ⌜ r ≡ firstMoment bus (now (letters .entry)) ⌝ }
+pub fn first_tally(bus: BusRecord, letters: &[u8]) -> Tally
+    ensures { λ r. ⌜ r ≡ firstTally bus (now (letters .entry)) ⌝ }
 {
-    Moment::first(bus.network.state, letters_at_e(bus.hit, letters), bus.heard)
+    Tally::first(bus.network.state, letters_at_e(bus.hit, letters), bus.echo)
 }
 
 // What a line that the network end sends in a state shows.
@@ -94,7 +94,7 @@ pub fn heard_down(bus: BusRecord, ds: Four, letters: &[u8]) -> Downward
         return quick;
     }
     let es = Four {
-        first: bus.heard,
+        first: bus.echo,
         second: ds.first,
         third: ds.second,
         fourth: ds.third,

@@ -2,11 +2,11 @@
 ghost use mathlib.Core.Path.{_≡_};
 ghost use Rattle.bus_record.specs.Reading.{quietReading, spokenTo, octetsTo, readerWaits};
 ghost use Rattle.bus_record.specs.Reading.{spokenToFour, octetsToFour, readIn, octetsIn};
-use cells::notes::HEARD;
-use cells::notes::TORN;
+use d_reader::Reader;
+use d_reader::ReaderAnswer;
 use frame::fields::Four;
-use reader::Reader;
-use reader::ReaderAnswer;
+use notes_and_cells::notes::HEARD;
+use notes_and_cells::notes::TORN;
 use table_6_3::G3;
 
 // The reader, and what it has said in this period: the note's code, 0 for none, and how many lent octets are the heard body.

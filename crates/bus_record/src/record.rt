@@ -1,8 +1,8 @@
 // The bus record.
 ghost use mathlib.Core.Path.{_≡_};
 ghost use Rattle.bus_record.specs.Record.{freshRecord, recordInRange};
+use d_reader::Reader;
 use network::Network;
-use reader::Reader;
 use timing::counts::Opportunities;
 use timing::counts::Periods;
 
@@ -13,7 +13,7 @@ pub struct BusRecord {
     pub opportunities: Opportunities,
     pub reader: Reader,
     // The last combined D that the network end heard.
-    pub heard: bool,
+    pub echo: bool,
     // Whether a hit is given for the coming exchange; its letters are lent.
     pub hit: bool,
 }
@@ -28,7 +28,7 @@ impl BusRecord {
             periods: Periods(0),
             opportunities: Opportunities(0),
             reader: Reader::fresh(),
-            heard: true,
+            echo: true,
             hit: false,
         }
     }

@@ -1,17 +1,17 @@
 // The network end's side of a period: it reads D, hears the upward line, and then come the timers due at the next one's start.
 ghost use mathlib.Core.Path.{_≡_};
-ghost use Rattle.bus.specs.Quick.{shownFrom};
+ghost use Rattle.bus_rules.specs.Quick.{shownFrom};
 ghost use Rattle.bus_record.specs.NetworkSide.{readerAfter, networkRests, networkListens, countedAfter};
-ghost use Rattle.bus_record.specs.NetworkSide.{ranWith, ranAfter, octetsAfter, refusedRun};
+ghost use Rattle.bus_record.specs.NetworkSide.{answerWith, answerAfter, octetsAfter, refusedRun};
 use super::reading::Spoken;
 use super::reading::read_in;
 use super::record::BusRecord;
-use cells::cell::NO_NOTES;
-use exchange::moment::Moment;
-use hearing::heard::Upward;
-use listening::hears::UnitNotes;
+use d_reader::Reader;
+use exchange::tally::Tally;
+use heard_line::heard::Upward;
 use network::Network;
-use reader::Reader;
+use notes_and_cells::cell::NO_NOTES;
+use period_hearing::hears::UnitNotes;
 use table_6_3::G1;
 use table_6_3::G2;
 use table_6_3::G3;
@@ -22,7 +22,7 @@ use timing::timers::due;
 
 // What a run of periods gives: the record; the last period's notes of unit 0, of the reader (its code, 0 for none, and the length of the
 // heard body) and of frames completed (bit i for terminal i + 1); whether that period has a note; and 0 or the number of the refusal.
-pub struct Ran {
+pub struct RunAnswer {
     pub bus: BusRecord,
     pub network: UnitNotes,
     pub body: u16,
@@ -42,13 +42,13 @@ pub struct NetworkHeard {
 }
 
 // What the terminals' line shows: any terminal that sends INFO 1, any that sends INFO 3.
-pub fn shown_from(calling: bool, frames: bool) -> Upward
-    ensures { λ r. ⌜ r ≡ shownFrom calling frames ⌝ }
+pub fn shown_from(info1: bool, info3: bool) -> Upward
+    ensures { λ r. ⌜ r ≡ shownFrom info1 info3 ⌝ }
 {
     Upward {
-        pulse: calling | frames,
-        framed: frames & !calling,
-        info1: calling & !frames,
+        pulse: info1 | info3,
+        framed: info3 & !info1,
+        info1: info1 & !info3,
     }
 }
 
@@ -80,8 +80,8 @@ fn network_listens(network: Network, line: Upward, period: Periods) -> NetworkHe
         return NetworkHeard {
             network,
             notes: UnitNotes {
-                heard: NO_NOTES,
-                timed: NO_NOTES,
+                hearing: NO_NOTES,
+                timers: NO_NOTES,
             },
             left: false,
         };
@@ -95,8 +95,8 @@ fn network_listens(network: Network, line: Upward, period: Periods) -> NetworkHe
     NetworkHeard {
         network: last,
         notes: UnitNotes {
-            heard: first,
-            timed: second,
+            hearing: first,
+            timers: second,
         },
         left: ((network.state == G3) & (after.state != G3))
             | ((after.state == G3) & (last.state != G3)),
@@ -122,58 +122,64 @@ fn counted(state: u8, opportunities: Opportunities) -> Opportunities
 }
 
 // All that a period gives, from what the reader said, the network end heard and the exchange left.
-fn ran_with(bus: BusRecord, moment: Moment, spoken: Spoken, side: NetworkHeard, told: bool) -> Ran
-    ensures { λ r. ⌜ r ≡ ranWith bus moment spoken side told ⌝ }
+fn ran_with(
+    bus: BusRecord,
+    tally: Tally,
+    spoken: Spoken,
+    side: NetworkHeard,
+    told: bool,
+) -> RunAnswer
+    ensures { λ r. ⌜ r ≡ answerWith bus tally spoken side told ⌝ }
 {
     let notes = side.notes;
     let network = side.network;
-    Ran {
+    RunAnswer {
         bus: BusRecord {
             network,
             periods: bus.periods.next_period(),
             opportunities: counted(bus.network.state, bus.opportunities),
             reader: reader_after(side.left, spoken.reader),
-            heard: moment.heard,
+            echo: tally.echo,
             hit: false,
         },
         network: notes,
         body: spoken.body,
         said: spoken.note,
-        done1: moment.done1,
-        done2: moment.done2,
+        done1: tally.done1,
+        done2: tally.done2,
         told: told
             | (spoken.note != 0)
-            | (moment.done1 != 0)
-            | (moment.done2 != 0)
-            | (0 < notes.heard.0)
-            | (0 < notes.timed.0),
+            | (tally.done1 != 0)
+            | (tally.done2 != 0)
+            | (0 < notes.hearing.0)
+            | (0 < notes.timers.0),
         reply: 0,
     }
 }
 
 // The network end's side of a period, after the exchange and the terminals' hearing.
-pub fn network_side(bus: BusRecord, moment: Moment, octets: &mut [u8], told: bool) -> Ran
-    ensures { λ r. ⌜ r ≡ ranAfter bus moment (now (octets .entry)) told ⌝ }
-    ensures { λ _. ⌜ now (octets .exit) ≡ octetsAfter bus moment (now (octets .entry)) ⌝ }
+pub fn network_side(bus: BusRecord, tally: Tally, octets: &mut [u8], told: bool) -> RunAnswer
+    ensures { λ r. ⌜ r ≡ answerAfter bus tally (now (octets .entry)) told ⌝ }
+    ensures { λ _. ⌜ now (octets .exit) ≡ octetsAfter bus tally (now (octets .entry)) ⌝ }
 {
-    let spoken = read_in(bus.network.state, bus.reader, moment.ds, octets);
+    let spoken = read_in(bus.network.state, bus.reader, tally.ds, octets);
     let side = network_listens(
         bus.network,
-        shown_from(moment.calling, moment.frames),
+        shown_from(tally.info1, tally.info3),
         bus.periods,
     );
-    ran_with(bus, moment, spoken, side, told)
+    ran_with(bus, tally, spoken, side, told)
 }
 
 // Nothing is run: the record as it is, with a reply.
-pub fn refused_run(bus: BusRecord, reply: u8) -> Ran
+pub fn refused_run(bus: BusRecord, reply: u8) -> RunAnswer
     ensures { λ r. ⌜ r ≡ refusedRun reply bus ⌝ }
 {
-    Ran {
+    RunAnswer {
         bus,
         network: UnitNotes {
-            heard: NO_NOTES,
-            timed: NO_NOTES,
+            hearing: NO_NOTES,
+            timers: NO_NOTES,
         },
         body: 0,
         said: 0,

@@ -21,7 +21,7 @@ pub(crate) fn given(
 ) -> Bench {
     // No hit is given here, so that the letters need not be kept.
     let mut letters = [0u8; 48];
-    let g = bus_held::event(
+    let g = bus_by_value::event(
         bus,
         before,
         images,
@@ -55,9 +55,9 @@ pub(crate) fn until(
     while i < end as u32 {
         i += 1;
         exchange(bus, terminals, images, counts, used);
-        let p = bus_held::run(bus, terminals, images, body, &letters, 1);
+        let p = bus_by_value::run(bus, terminals, images, body, &letters, 1);
         said(p, body);
-        bus = p.ran.bus;
+        bus = p.answer.bus;
         terminals = p.terminals;
     }
     Bench { bus, terminals }

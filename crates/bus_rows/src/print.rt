@@ -1,6 +1,6 @@
 // Printing.
-use cells::notes::Notes;
 use libc::STDOUT_FILENO;
+use notes_and_cells::notes::Notes;
 
 pub(crate) fn say(text: &[u8]) {
     io::write_all(STDOUT_FILENO, text);

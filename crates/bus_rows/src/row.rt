@@ -6,15 +6,15 @@ use super::print::octets;
 use super::print::say;
 use super::print::two;
 use super::print::word;
-use bus_held::HeldEvent;
-use bus_held::HeldRun;
-use bus_held::opportunity;
-use bus_record::echo::first_moment;
+use bus_by_value::HeldEvent;
+use bus_by_value::HeldRun;
+use bus_by_value::opportunity;
+use bus_record::echo::first_tally;
 use bus_record::record::BusRecord;
-use cells::events::D1;
-use cells::notes::DONE1;
-use cells::notes::DONE2;
-use listening::hears::UnitNotes;
+use notes_and_cells::events::D1;
+use notes_and_cells::notes::DONE1;
+use notes_and_cells::notes::DONE2;
+use period_hearing::hears::UnitNotes;
 use table_6_2::F7;
 use table_6_3::G3;
 use terminal::Terminal;
@@ -44,15 +44,15 @@ pub(crate) fn exchange(
     let letters = [0u8; 48];
     let mut pairs = [b' '; 12];
     let mut terminals = before;
-    let mut m = first_moment(bus, &letters);
+    let mut m = first_tally(bus, &letters);
     let mut i: usize = 0;
     while i < 4 {
-        let last = m.heard;
+        let last = m.echo;
         let after = opportunity(terminals, images, m);
         terminals = after.terminals;
-        m = after.moment;
+        m = after.tally;
         pairs[i * 3 + 1] = b'0' | m.e as u8;
-        pairs[i * 3 + 2] = b'0' | m.heard as u8;
+        pairs[i * 3 + 2] = b'0' | m.echo as u8;
         let at = ((last as usize) << 1 | m.e as usize) % 4;
         counts[at] = std::num::wrapping_add_u32(counts[at], (m.state == G3) as u32);
         i += 1;
@@ -94,16 +94,16 @@ fn terminal(state: u8, count: u8, low1: bool, low2: bool) {
 // The notes of a period: unit 0 with the octets of a heard body, the terminals, then those of timers due at the next one's start.
 pub(crate) fn said(p: HeldRun, body: &[u8]) {
     let ns = p.notes;
-    note(0, p.ran.said);
-    octets(body, p.ran.body as usize);
-    notes(0, 0, 0, p.ran.network.heard);
-    of_terminals(ns, p.ran.done1, p.ran.done2, false);
-    notes(0, 0, 0, p.ran.network.timed);
+    note(0, p.answer.said);
+    octets(body, p.answer.body as usize);
+    notes(0, 0, 0, p.answer.network.hearing);
+    of_terminals(ns, p.answer.done1, p.answer.done2, false);
+    notes(0, 0, 0, p.answer.network.timers);
     of_terminals(ns, 0, 0, true);
 }
 
 // The notes of the terminals: of completed frames, bit i for terminal i + 1, and of their hearing or their timers.
-fn of_terminals(ns: [UnitNotes; 8], done1: u8, done2: u8, timed: bool) {
+fn of_terminals(ns: [UnitNotes; 8], done1: u8, done2: u8, timers: bool) {
     let mut first = done1;
     let mut second = done2;
     let mut i: usize = 0;
@@ -111,9 +111,9 @@ fn of_terminals(ns: [UnitNotes; 8], done1: u8, done2: u8, timed: bool) {
         let n = ns[i];
         let unit = i as u32 + 1;
         if timed {
-            notes(unit, 0, 0, n.timed);
+            notes(unit, 0, 0, n.timers);
         } else {
-            notes(unit, first % 2 * DONE1, second % 2 * DONE2, n.heard);
+            notes(unit, first % 2 * DONE1, second % 2 * DONE2, n.hearing);
         }
         first = first / 2;
         second = second / 2;

@@ -6,7 +6,7 @@ use Prim.Native.Nat.{ℕ, _<_}
 use borrow.Author.Tests.{eqb-true}
 use lib.Dec.{eqb}
 use lib.ListN.{getD, getD-replicate}
-use Rattle.cases.proofs.ByCases.{by-test, and-left, and-right, each-below, at-each-below}
+use Rattle.test_lemmas.proofs.ByCases.{by-test, and-left, and-right, each-below, at-each-below}
 use Rattle.symbols.specs.Symbols.{lineLength, none, plus, minus}
 use Rattle.symbols.proofs.Fill.{tabulate-ext}
 use Rattle.frame.specs.Four.{allFour}

@@ -8,7 +8,7 @@ use borrow.Author.Tests.{eqb-true}
 use lib.Dec.{eqb}
 use lib.ListN.{length, getD, replicate, getD-replicate, List·getD-append}
 use lib.Seq.{getD-append-add}
-use Rattle.cases.proofs.ByCases.{by-test, at-each-below}
+use Rattle.test_lemmas.proofs.ByCases.{by-test, at-each-below}
 use Rattle.symbols.specs.Symbols.{lineLength, none, plus, minus, within}
 use Rattle.symbols.proofs.Fill.{getD-tabulate, tabulate-is, tabulate-ext, tabulate-append}
 use Rattle.symbols.proofs.Lines.{within-small}

@@ -16,7 +16,7 @@ use Rattle.combining.specs.Combine.{isSent, only, combinedSymbol, column
 use Rattle.combining.specs.Gathering.{gathered, gatheredSymbol}
 use Rattle.combining.specs.Calls.{terminals, linesLength, rows, combineFits, combinedReply, eight}
 use Rattle.combining.specs.declared.combine.Combined.{Combined}
-use Rattle.cases.proofs.ByCases.{at-each-below}
+use Rattle.test_lemmas.proofs.ByCases.{at-each-below}
 use Rattle.symbols.proofs.Lines.{Small, within-small, fits-within}
 use Rattle.symbols.proofs.Fill.{line-is, tabulate-ext, length-tabulate, getD-tabulate}
 

@@ -7,7 +7,7 @@ use native.Mathlib.Omega.{arith}
 use lib.Dec.{eqb, leb}
 use lib.ListN.{length, getD, length-append, length-map}
 use lib.Seq.{take-at, drop-at}
-use Rattle.cases.proofs.ByCases.{by-test, both}
+use Rattle.test_lemmas.proofs.ByCases.{by-test, both}
 use Rattle.symbols.specs.Symbols.{lineLength, none, plus, minus, level, levels, within, isLine, tabulate}
 use Rattle.symbols.proofs.Fill.{getD-tabulate}
 use Rattle.symbols.proofs.Levels.{level-at}

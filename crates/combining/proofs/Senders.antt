@@ -7,7 +7,7 @@ use native.Mathlib.Omega.{arith}
 use borrow.Author.Tests.{eqb-true}
 use lib.Dec.{eqb}
 use lib.ListN.{getD, getD-replicate}
-use Rattle.cases.proofs.ByCases.{by-test, at-each-below}
+use Rattle.test_lemmas.proofs.ByCases.{by-test, at-each-below}
 use Rattle.symbols.specs.Symbols.{lineLength, none, plus, minus, level, levels, tabulate}
 use Rattle.frame.specs.Four.{pick, andAll}
 use Rattle.frame.specs.Bits.{dBits, dIndex}

@@ -8,33 +8,33 @@ use native.Mathlib.Omega.{arith}
 use lib.Dec.{eqb}
 use lib.ListN.{length, getD}
 use borrow.Author.Tests.{eqb-true, eq-eqb, ne-eqb}
-use Rattle.cases.proofs.ByCases.{by-test}
+use Rattle.test_lemmas.proofs.ByCases.{by-test}
 use Rattle.dchannel.specs.Access.{entered}
 use Rattle.dchannel.specs.Handing.{takenUp}
-use Rattle.contention.specs.Channel.{Station, Channel, Action, freshStation, mayHold, holding, entering, turnAt, hears, step}
+use Rattle.contention.specs.Channel.{Contender, Channel, Action, freshContender, mayHold, holding, entering, accessStepAt, contenderAfterE, step}
 use Rattle.contention.specs.Change.{change}
 use Rattle.contention.specs.Channel.Action.{hand, enter, leave, clear, opportunity}
-use Rattle.contention.specs.Stretch.{Stretch, opportunities, station, Completes, howMany}
+use Rattle.contention.specs.Stretch.{Stretch, opportunities, contender, Completes, howMany}
 use Rattle.contention.specs.Claims.{at, InStretches}
 use Rattle.contention.specs.ClassTwo.{holdsOne, onesHeld, onesTaken, WaitEndsClassTwo}
 use Rattle.contention.proofs.Terminal.{Outcome, outcome, completed, went-on, stopped, started, idled, outside, level}
-use Rattle.contention.proofs.InvariantKept.{length-hears, station-hears, entering-active, entering-outside}
+use Rattle.contention.proofs.InvariantKept.{length-hears, contender-hears, entering-active, entering-outside}
 use Rattle.contention.proofs.Trace.{howMany-le, howMany-lt}
 use Rattle.contention.proofs.Waiting.{completion}
 use Rattle.contention.proofs.Wait.{wait-ends-within}
 
 -- ---- the class 1 frames held after an action
 
-module _ (f : Station → Station) (d : ℕ) where
-  ones-change : (i : ℕ) (ss : List Station)
-      → cond {A = ℕ} (holdsOne (f (getD ss i freshStation))) 1 0 ≤ d + cond (holdsOne (getD ss i freshStation)) 1 0
+module _ (f : Contender → Contender) (d : ℕ) where
+  ones-change : (i : ℕ) (ss : List Contender)
+      → cond {A = ℕ} (holdsOne (f (getD ss i freshContender))) 1 0 ≤ d + cond (holdsOne (getD ss i freshContender)) 1 0
       → howMany holdsOne (change f i ss) ≤ d + howMany holdsOne ss
   unfolding howMany change
   ones-change i [] h = omega arith
   ones-change zero (s ∷ ss) h = omega arith
   ones-change (suc i) (s ∷ ss) h = omega (arith, ones-change i ss h)
 
-ones-holding : (k : ℕ) (body : List ℕ) (s : Station)
+ones-holding : (k : ℕ) (body : List ℕ) (s : Contender)
     → cond {A = ℕ} (holdsOne (holding k body s)) 1 0 ≤ cond (eqb k 1 && mayHold k body s) 1 0 + cond (holdsOne s) 1 0
 unfolding holding takenUp
 ones-holding k body s =
@@ -42,53 +42,53 @@ ones-holding k body s =
     (λ m. rw m (by-test (eqb k 1) (λ q. rw q (omega arith)) (λ q. rw q (omega arith))))
     (λ m. rw m (omega arith))
 
-ones-entering : (s : Station) → cond {A = ℕ} (holdsOne (entering s)) 1 0 ≤ 0 + cond (holdsOne s) 1 0
+ones-entering : (s : Contender) → cond {A = ℕ} (holdsOne (entering s)) 1 0 ≤ 0 + cond (holdsOne s) 1 0
 unfolding entered
 ones-entering s =
     by-test (s .active) (λ m. rw (entering-active s m) (omega arith)) (λ m. rw (entering-outside s m) (omega arith))
 
-module _ {x1 x2 : ℕ} {e : Bool} {s s′ : Station} {d : Bool} {done : ℕ} where
+module _ {x1 x2 : ℕ} {e : Bool} {s s′ : Contender} {d : Bool} {done : ℕ} where
   held-before : Outcome x1 x2 e s s′ d done → s′ .access .held ≡ 1 → s .access .held ≡ 1
   held-before (completed r) h = absurd (omega arith)
   held-before (went-on r) h = sym (r .held-now) ∙ h
   held-before (stopped r) h = sym (r .held-now) ∙ h
   held-before (started r) h = sym (r .held-now) ∙ h
   held-before (idled r) h = sym (r .held-now) ∙ h
-  held-before (outside r) h = sym (ap (λ (z : Station). z .access .held) (r .as-before)) ∙ h
+  held-before (outside r) h = sym (ap (λ (z : Contender). z .access .held) (r .as-before)) ∙ h
 
 module _ (x1 x2 : ℕ) (c : Channel) where
   ones-hand : (i k : ℕ) (body : List ℕ)
-      → onesHeld (step x1 x2 c (hand i k body)) ≤ cond (eqb k 1 && mayHold k body (station i c)) 1 0 + onesHeld c
-  unfolding onesHeld step station
+      → onesHeld (step x1 x2 c (hand i k body)) ≤ cond (eqb k 1 && mayHold k body (contender i c)) 1 0 + onesHeld c
+  unfolding onesHeld step contender
   ones-hand i k body =
-      ones-change (holding k body) (cond (eqb k 1 && mayHold k body (station i c)) 1 0) i (c .stations)
-      (ones-holding k body (station i c))
+      ones-change (holding k body) (cond (eqb k 1 && mayHold k body (contender i c)) 1 0) i (c .contenders)
+      (ones-holding k body (contender i c))
 
   ones-enter : (i : ℕ) → onesHeld (step x1 x2 c (enter i)) ≤ onesHeld c
   unfolding onesHeld step
-  ones-enter i = omega (arith, ones-change entering 0 i (c .stations) (ones-entering (getD (c .stations) i freshStation)))
+  ones-enter i = omega (arith, ones-change entering 0 i (c .contenders) (ones-entering (getD (c .contenders) i freshContender)))
 
   module _ (e bit on : Bool) where
-    one-before : (i : ℕ) → holdsOne (station i (step x1 x2 c (opportunity e bit on))) ≡ true → holdsOne (station i c) ≡ true
+    one-before : (i : ℕ) → holdsOne (contender i (step x1 x2 c (opportunity e bit on))) ≡ true → holdsOne (contender i c) ≡ true
     one-before i h =
-        eq-eqb (station i c .access .held) 1
-        (held-before (outcome x1 x2 e (station i c))
-        (eqb-true _ 1 (rw (station-hears x1 x2 e bit on c i) at h)))
+        eq-eqb (contender i c .access .held) 1
+        (held-before (outcome x1 x2 e (contender i c))
+        (eqb-true _ 1 (rw (contender-hears x1 x2 e bit on c i) at h)))
 
     ones-hear : onesHeld (step x1 x2 c (opportunity e bit on)) ≤ onesHeld c
-    unfolding onesHeld station
+    unfolding onesHeld contender
     ones-hear =
-        howMany-le holdsOne holdsOne (step x1 x2 c (opportunity e bit on) .stations) (c .stations) (sym (length-hears x1 x2 e bit on c)) one-before
+        howMany-le holdsOne holdsOne (step x1 x2 c (opportunity e bit on) .contenders) (c .contenders) (sym (length-hears x1 x2 e bit on c)) one-before
 
     -- a completed one is one less
-    ones-less : (g : ℕ) → station g c .active ≡ true → turnAt x1 x2 e (station g c) .done ≡ 1
+    ones-less : (g : ℕ) → contender g c .active ≡ true → accessStepAt x1 x2 e (contender g c) .done ≡ 1
         → suc (onesHeld (step x1 x2 c (opportunity e bit on))) ≤ onesHeld c
-    unfolding onesHeld station
+    unfolding onesHeld contender
     ones-less g act q =
-        let r = completion 1 (omega arith) act q (outcome x1 x2 e (station g c)) in
-        howMany-lt holdsOne holdsOne (step x1 x2 c (opportunity e bit on) .stations) (c .stations) (sym (length-hears x1 x2 e bit on c)) one-before refl g
-        (rw (station-hears x1 x2 e bit on c g) (ne-eqb (hears x1 x2 e (station g c) .access .held) 1 (λ z. omega (arith, r .held-now))))
-        (eq-eqb (station g c .access .held) 1 (sym (r .done-now) ∙ q))
+        let r = completion 1 (omega arith) act q (outcome x1 x2 e (contender g c)) in
+        howMany-lt holdsOne holdsOne (step x1 x2 c (opportunity e bit on) .contenders) (c .contenders) (sym (length-hears x1 x2 e bit on c)) one-before refl g
+        (rw (contender-hears x1 x2 e bit on c g) (ne-eqb (contenderAfterE x1 x2 e (contender g c) .access .held) 1 (λ z. omega (arith, r .held-now))))
+        (eq-eqb (contender g c .access .held) 1 (sym (r .done-now) ∙ q))
 
 -- ---- the class 1 frames held at an opportunity or taken after it
 
@@ -141,7 +141,7 @@ module _ (x1 x2 : ℕ) where
   ones-spent (opportunity e bit on ∷ more) c zero g st h d =
       omega (
         arith,
-        ones-less x1 x2 c e bit on g (d .in-F7) (ap (λ (z : Bool). turnAt x1 x2 z (station g c) .done) (st .0 .0) ∙ d .done),
+        ones-less x1 x2 c e bit on g (d .in-F7) (ap (λ (z : Bool). accessStepAt x1 x2 z (contender g c) .done) (st .0 .0) ∙ d .done),
         ones-most more (step x1 x2 c (opportunity e bit on)) 0 (st .1),
       )
   ones-spent (opportunity e bit on ∷ more) c (suc t) g st h d = ones-spent more (step x1 x2 c (opportunity e bit on)) t g (st .1) (omega arith) d

@@ -8,10 +8,10 @@ use Prim.Native.Nat.{ℕ, suc}
 use native.Mathlib.Numerals.{add-one}
 use lib.ListN.{length, getD, length-append, List·getD-map}
 use Rattle.hdlc.specs.Reading.{cleared}
-use Rattle.contention.specs.Channel.{Station, Channel, Action, freshStation, entering, leaving, withStations, step, run}
+use Rattle.contention.specs.Channel.{Contender, Channel, Action, freshContender, entering, leaving, withContenders, step, run}
 use Rattle.contention.specs.Change.{change}
 use Rattle.contention.specs.Channel.Action.{enter, leave, clear}
-use Rattle.contention.specs.Stretch.{Stretch, opportunities, station}
+use Rattle.contention.specs.Stretch.{Stretch, opportunities, contender}
 use Rattle.contention.proofs.Change.{change-at, change-same}
 use Rattle.contention.proofs.WholeList.{run-append, opportunities-append, stretch-append}
 
@@ -22,14 +22,14 @@ crossing i true false = leave i ∷ []
 crossing i false true = enter i ∷ []
 crossing i false false = []
 
-abbrev pub crossed : Bool → Bool → Station → Station
+abbrev pub crossed : Bool → Bool → Contender → Contender
 crossed true true s = s
 crossed true false s = leaving s
 crossed false true s = entering s
 crossed false false s = s
 
 -- all terminals take a step, the first of the list being at the index: `was` and `is` are each one's station before and after it
-unfoldable pub crossings : {A : Type 0} → (A → Station) → (A → Station) → ℕ → List A → List Action
+unfoldable pub crossings : {A : Type 0} → (A → Contender) → (A → Contender) → ℕ → List A → List Action
 crossings was is i [] = []
 crossings was is i (x ∷ xs) = crossing i (was x .active) (is x .active) ++ crossings was is (suc i) xs
 
@@ -40,20 +40,20 @@ clearing true false = clear ∷ []
 clearing false is = []
 
 -- the terminal at an index, where the terminals are made from a list; d makes a fresh one
-pub station-map : {A : Type 0} (f : A → Station) (d : A) → f d ≡ freshStation → (c : Channel) (xs : List A) → c .stations ≡ map f xs → (i : ℕ)
-    → station i c ≡ f (getD xs i d)
-unfolding station
-station-map f d e c xs s i = rw (s, ← e) (List·getD-map f xs i d)
+pub contender-map : {A : Type 0} (f : A → Contender) (d : A) → f d ≡ freshContender → (c : Channel) (xs : List A) → c .contenders ≡ map f xs → (i : ℕ)
+    → contender i c ≡ f (getD xs i d)
+unfolding contender
+contender-map f d e c xs s i = rw (s, ← e) (List·getD-map f xs i d)
 
 module _ (x1 x2 : ℕ) where
   -- ---- one terminal
 
-  pub run-crossing : (was is : Bool) (i : ℕ) (c : Channel) → run x1 x2 c (crossing i was is) ≡ withStations c (change (crossed was is) i (c .stations))
+  pub run-crossing : (was is : Bool) (i : ℕ) (c : Channel) → run x1 x2 c (crossing i was is) ≡ withContenders c (change (crossed was is) i (c .contenders))
   unfolding crossing run step
-  run-crossing true true i c = rw (change-same i (c .stations))
+  run-crossing true true i c = rw (change-same i (c .contenders))
   run-crossing true false i c = refl
   run-crossing false true i c = refl
-  run-crossing false false i c = rw (change-same i (c .stations))
+  run-crossing false false i c = rw (change-same i (c .contenders))
 
   pub crossing-calm : (c : Channel) (i : ℕ) (was is : Bool) → (was ≡ true → is ≡ true) → Stretch x1 x2 c (crossing i was is)
   unfolding Stretch crossing
@@ -72,7 +72,7 @@ module _ (x1 x2 : ℕ) where
   -- ---- the network end
 
   pub run-clearing : (was is : Bool) (c : Channel)
-      → run x1 x2 c (clearing was is) ≡ record { stations = c .stations; heardD = c .heardD; reading = cond was (cond is (c .reading) cleared) (c .reading) }
+      → run x1 x2 c (clearing was is) ≡ record { contenders = c .contenders; heardD = c .heardD; reading = cond was (cond is (c .reading) cleared) (c .reading) }
   unfolding clearing run step
   run-clearing true true c = refl
   run-clearing true false c = refl
@@ -92,31 +92,31 @@ module _ (x1 x2 : ℕ) where
 
   -- ---- all terminals
 
-  module _ {A : Type 0} (was is : A → Station) where
+  module _ {A : Type 0} (was is : A → Contender) where
     -- each one's step is an entry into F7, a leave, or nothing to the channel
     module _ (each : (x : A) → is x ≡ crossed (was x .active) (is x .active) (was x)) where
-      first-crosses : (x : A) (xs : List A) (pre : List Station) (c : Channel) → c .stations ≡ pre ++ (was x ∷ map was xs)
-          → run x1 x2 c (crossing (length pre) (was x .active) (is x .active)) ≡ withStations c (pre ++ (is x ∷ map was xs))
+      first-crosses : (x : A) (xs : List A) (pre : List Contender) (c : Channel) → c .contenders ≡ pre ++ (was x ∷ map was xs)
+          → run x1 x2 c (crossing (length pre) (was x .active) (is x .active)) ≡ withContenders c (pre ++ (is x ∷ map was xs))
       first-crosses x xs pre c e =
           run-crossing (was x .active) (is x .active) (length pre) c
-          ∙ ap (withStations c)
+          ∙ ap (withContenders c)
           (ap (change (crossed (was x .active) (is x .active)) (length pre)) e
           ∙ change-at (crossed (was x .active) (is x .active)) pre (was x) (map was xs)
-          ∙ ap (λ (s : Station). pre ++ (s ∷ map was xs)) (sym (each x)))
+          ∙ ap (λ (s : Contender). pre ++ (s ∷ map was xs)) (sym (each x)))
 
       -- `pre` are those that have taken it
-      run-crossings-from : (xs : List A) (pre : List Station) (i : ℕ) → length pre ≡ i → (c : Channel) → c .stations ≡ pre ++ map was xs
-          → run x1 x2 c (crossings was is i xs) ≡ withStations c (pre ++ map is xs)
+      run-crossings-from : (xs : List A) (pre : List Contender) (i : ℕ) → length pre ≡ i → (c : Channel) → c .contenders ≡ pre ++ map was xs
+          → run x1 x2 c (crossings was is i xs) ≡ withContenders c (pre ++ map is xs)
       unfolding crossings run
-      run-crossings-from [] pre i l c e = ap (withStations c) e
+      run-crossings-from [] pre i l c e = ap (withContenders c) e
       run-crossings-from (x ∷ xs) pre i l c e =
           run-append x1 x2 c (crossing i (was x .active) (is x .active)) (crossings was is (suc i) xs)
           ∙ ap (λ (c′ : Channel). run x1 x2 c′ (crossings was is (suc i) xs)) (rw (← l) (first-crosses x xs pre c e))
-          ∙ run-crossings-from xs (pre ++ (is x ∷ [])) (suc i) (simp (length-append, add-one) (ap suc l)) (withStations c (pre ++ (is x ∷ map was xs)))
+          ∙ run-crossings-from xs (pre ++ (is x ∷ [])) (suc i) (simp (length-append, add-one) (ap suc l)) (withContenders c (pre ++ (is x ∷ map was xs)))
           (sym (append-assoc pre (is x ∷ []) (map was xs)))
-          ∙ ap (withStations c) (append-assoc pre (is x ∷ []) (map is xs))
+          ∙ ap (withContenders c) (append-assoc pre (is x ∷ []) (map is xs))
 
-      pub run-crossings : (xs : List A) (c : Channel) → c .stations ≡ map was xs → run x1 x2 c (crossings was is 0 xs) ≡ withStations c (map is xs)
+      pub run-crossings : (xs : List A) (c : Channel) → c .contenders ≡ map was xs → run x1 x2 c (crossings was is 0 xs) ≡ withContenders c (map is xs)
       run-crossings xs c e = run-crossings-from xs [] 0 refl c e
 
     -- d stands for what is past the list

@@ -8,9 +8,9 @@ use native.Mathlib.Numerals.{add-one}
 use lib.Dec.{eqb}
 use lib.ListN.{length}
 use borrow.Author.Tests.{eqb-true, eqb-false}
-use Rattle.cases.proofs.ByCases.{by-test}
+use Rattle.test_lemmas.proofs.ByCases.{by-test}
 use Rattle.contention.specs.Channel.{Channel, Action}
-use Rattle.contention.specs.Stretch.{Stretch, station, Begins}
+use Rattle.contention.specs.Stretch.{Stretch, contender, Begins}
 use Rattle.contention.specs.Claims.{at, opps, BegunSince, HeardInOrder, InStretches}
 use Rattle.contention.specs.Invariant.{Invariant}
 use Rattle.contention.proofs.HeardNext.{Follows, follows}
@@ -37,12 +37,12 @@ module _ (x1 x2 : ℕ) (c : Channel) (during : List Action) (h1 : 8 ≤ x1) (h2 
       (λ e. advance h1 h2 (next t h) p t (phase-at j p b t (omega (arith, eqb-false t p e)) (omega arith)) .phase)
 
   -- a terminal that has sent s bits of a frame began it s opportunities before
-  begun-at : (i s b t : ℕ) → s + b ≡ t → 1 ≤ s → t < many → station i (o t) .access .sent ≡ s
-      → Begins x1 x2 i (o b) × (station i (o b) .body ≡ station i (o t) .body)
+  begun-at : (i s b t : ℕ) → s + b ≡ t → 1 ≤ s → t < many → contender i (o t) .access .sent ≡ s
+      → Begins x1 x2 i (o b) × (contender i (o b) .body ≡ contender i (o t) .body)
   begun-at i zero b t e l h n = absurd (omega arith)
   begun-at i (suc s) b zero e l h n = absurd (omega arith)
   begun-at i (suc s) b (suc t) e l h n =
-      let same : station i (o (suc t)) .body ≡ station i (o t) .body = same-body (next t h) i (omega (arith, n)) in
+      let same : contender i (o (suc t)) .body ≡ contender i (o t) .body = same-body (next t h) i (omega (arith, n)) in
       by-test (eqb s 0)
       (λ z.
       let here : t ≡ b = omega (arith, eqb-true s 0 z) in

@@ -6,8 +6,8 @@ use Prim.Native.Nat.{ℕ, zero, suc, _+_, _≤_, _<_}
 use native.Mathlib.Omega.{arith}
 use lib.ListN.{length}
 use Rattle.hdlc.specs.Image.{image, IsBody}
-use Rattle.cases.proofs.ByCases.{by-test}
-use Rattle.contention.specs.Channel.{Station, Channel, Action, step}
+use Rattle.test_lemmas.proofs.ByCases.{by-test}
+use Rattle.contention.specs.Channel.{Contender, Channel, Action, step}
 use Rattle.contention.specs.Channel.Action.{hand, enter, leave, clear, opportunity}
 use Rattle.contention.specs.Stretch.{Stretch, opportunities, onward}
 use Rattle.contention.specs.Claims.{at, opps}
@@ -16,14 +16,14 @@ use Rattle.contention.proofs.InvariantKept.{Quiet, sending-holds}
 use Rattle.contention.proofs.Trace.{invariant-at, invariant-past, quiet-at}
 
 -- what a terminal that sends has: a frame, with its image's length
-pub record Frame (s : Station) : Type 0 where
+pub record Frame (s : Contender) : Type 0 where
   pub in-F7 : s .active ≡ true
   pub class-held : 1 ≤ s .access .held
   pub body-held : IsBody (s .body)
   pub whole : s .access .length ≡ length (image (s .body))
   pub part : s .access .sent ≤ length (image (s .body))
 
-pub frame : {x2 : ℕ} {s : Station} → Sound x2 s → 1 ≤ s .access .sent → Frame s
+pub frame : {x2 : ℕ} {s : Contender} → Sound x2 s → 1 ≤ s .access .sent → Frame s
 frame {x2} {s} o h =
     let on : s .active ≡ true =
     by-test (s .active) (λ e. e) (λ e. absurd (let z : s .access .sent ≡ 0 = rw (o .outside e) refl in omega arith))

@@ -5,51 +5,51 @@ use Prim.Native.Nat.{ℕ, zero, suc, _+_, _≤_, _<_}
 use native.Mathlib.Omega.{arith}
 use lib.Dec.{eqb, leb}
 use borrow.Author.Tests.{eqb-true, eqb-false, leb-true, leb-false}
-use Rattle.cases.proofs.ByCases.{by-test}
+use Rattle.test_lemmas.proofs.ByCases.{by-test}
 use Rattle.dchannel.specs.Access.{lowOf}
-use Rattle.contention.specs.Channel.{Station, Channel, hears}
-use Rattle.contention.specs.Stretch.{onward, station, Waits, Completes}
+use Rattle.contention.specs.Channel.{Contender, Channel, contenderAfterE}
+use Rattle.contention.specs.Stretch.{onward, contender, Waits, Completes}
 use Rattle.contention.specs.Claims.{NoRivalTwice, InStretches}
 use Rattle.contention.specs.Invariant.{Invariant}
 use Rattle.contention.proofs.Terminal.{outcome, active-after, level, level-least, threshold-low, threshold-of, low-stays, completed-low}
 use Rattle.contention.proofs.InvariantKept.{SenderAt, sender, going, starting, Quiet, hears-count-up}
-use Rattle.contention.proofs.Trace.{onward-station, echo-first, echo-onward, sender-kept, opp, many, invariant-at, invariant-past, quiet-at}
+use Rattle.contention.proofs.Trace.{onward-contender, echo-first, echo-onward, sender-kept, opp, many, invariant-at, invariant-past, quiet-at}
 use Rattle.contention.proofs.Waiting.{completed-at, completes-zero, zero-counts, waits-class, waits-hears, waits-quiet, sending-count, idle-below, first-stays, low-quiet}
 
 -- While i waits in class k after a completion of its rival j in that class: i is the first to reach the level, and j is low.
 record Ahead (x1 x2 k i j : ℕ) (c : Channel) : Type 0 where
   waits : Waits k i c
   -- every C is at most i's
-  first : (m : ℕ) → station m c .access .count ≤ station i c .access .count
-  rival-in-F7 : station j c .active ≡ true
-  rival-low : lowOf k (station j c .access) ≡ true
+  first : (m : ℕ) → contender m c .access .count ≤ contender i c .access .count
+  rival-in-F7 : contender j c .active ≡ true
+  rival-low : lowOf k (contender j c .access) ≡ true
   -- j sends nothing of this class
-  rival-barred : 1 ≤ station j c .access .sent → station j c .access .held ≡ k → ⊥
+  rival-barred : 1 ≤ contender j c .access .sent → contender j c .access .held ≡ k → ⊥
   -- i starts where its C reaches the level, and its first 0 is then heard
-  below : station i c .access .sent ≡ 0 → station i c .access .count < level x1 x2 k
-  reached : station i c .access .sent ≡ 1 → station i c .access .count ≤ level x1 x2 k
-  zero-next : station i c .access .sent ≡ 1 → c .heardD ≡ false
+  below : contender i c .access .sent ≡ 0 → contender i c .access .count < level x1 x2 k
+  reached : contender i c .access .sent ≡ 1 → contender i c .access .count ≤ level x1 x2 k
+  zero-next : contender i c .access .sent ≡ 1 → c .heardD ≡ false
 
 module _ (x1 x2 : ℕ) (h1 : 8 ≤ x1) (h2 : x1 + 2 ≤ x2) (k i j : ℕ) (k1 : 1 ≤ k) (c : Channel) (inv : Invariant x2 c) (next-inv : Invariant x2 (onward x1 x2 c)) where
   -- E is the E of c
-  abbrev later : ℕ → Station
-  later m = hears x1 x2 (c .heardD) (station m c)
+  abbrev later : ℕ → Contender
+  later m = contenderAfterE x1 x2 (c .heardD) (contender m c)
 
   -- the completion of j sets every C to 0
   ahead-begins : Completes x1 x2 k j c → Waits k i c → (Completes x1 x2 k i c → ⊥) → Ahead x1 x2 k i j (onward x1 x2 c)
   ahead-begins done w n =
       let r = completed-at x1 x2 c inv k j k1 done in
-      let z : (m : ℕ) → station m (onward x1 x2 c) .access .count ≡ 0 =
-      λ m. rw (onward-station x1 x2 c m) (zero-counts x1 x2 c inv (completes-zero x1 x2 c inv j r) m)
+      let z : (m : ℕ) → contender m (onward x1 x2 c) .access .count ≡ 0 =
+      λ m. rw (onward-contender x1 x2 c m) (zero-counts x1 x2 c inv (completes-zero x1 x2 c inv j r) m)
       in
-      let idle : station j (onward x1 x2 c) .access .sent ≡ 0 = rw (onward-station x1 x2 c j) (r .sent-now) in
+      let idle : contender j (onward x1 x2 c) .access .sent ≡ 0 = rw (onward-contender x1 x2 c j) (r .sent-now) in
       let lv = level-least x1 x2 k h2 in
       record {
         waits = waits-hears x1 x2 c inv k i k1 w n;
         first = λ m. omega (arith, z m);
-        rival-in-F7 = rw (onward-station x1 x2 c j) (active-after x1 x2 (c .heardD) (station j c) ∙ done .in-F7);
-        rival-low = rw (onward-station x1 x2 c j)
-            (completed-low x1 x2 k (c .heardD) (station j c) k1 (waits-class x1 x2 c inv k i w) (done .in-F7) (done .done));
+        rival-in-F7 = rw (onward-contender x1 x2 c j) (active-after x1 x2 (c .heardD) (contender j c) ∙ done .in-F7);
+        rival-low = rw (onward-contender x1 x2 c j)
+            (completed-low x1 x2 k (c .heardD) (contender j c) k1 (waits-class x1 x2 c inv k i w) (done .in-F7) (done .done));
         rival-barred = λ h q. omega arith;
         below = λ q. omega (arith, z i);
         reached = λ q. omega (arith, z i);
@@ -60,20 +60,20 @@ module _ (x1 x2 : ℕ) (h1 : 8 ≤ x1) (h2 : x1 + 2 ≤ x2) (k i j : ℕ) (k1 : 
     -- i's C after this E
     count-i : later i .access .count ≤ level x1 x2 k
     count-i =
-        by-test (leb 1 (station i c .access .sent))
-        (λ l. omega (arith, sending-count x1 x2 c inv i i (leb-true 1 (station i c .access .sent) l) (a .zero-next), level-least x1 x2 k h2))
-        (λ l. omega (arith, hears-count-up x1 x2 (c .heardD) (station i c), a .below (omega (arith, leb-false 1 (station i c .access .sent) l))))
+        by-test (leb 1 (contender i c .access .sent))
+        (λ l. omega (arith, sending-count x1 x2 c inv i i (leb-true 1 (contender i c .access .sent) l) (a .zero-next), level-least x1 x2 k h2))
+        (λ l. omega (arith, hears-count-up x1 x2 (c .heardD) (contender i c), a .below (omega (arith, leb-false 1 (contender i c .access .sent) l))))
 
     first-now : (m : ℕ) → later m .access .count ≤ later i .access .count
     first-now = first-stays x1 x2 c inv i (a .waits .in-F7) (a .first)
 
-    barred-now : 1 ≤ later j .access .sent → later j .access .held ≡ k → lowOf k (later j .access) ≡ true → SenderAt x1 x2 (c .heardD) (station j c) → ⊥
+    barred-now : 1 ≤ later j .access .sent → later j .access .held ≡ k → lowOf k (later j .access) ≡ true → SenderAt x1 x2 (c .heardD) (contender j c) → ⊥
     barred-now h q low (going r) = a .rival-barred (r .sending) (sym (r .held-now) ∙ q)
     barred-now h q low (starting r) =
         omega (
           arith,
           r .reached,
-          threshold-of x1 x2 (station j c .access .held) k (later j .access) true (sym (r .held-now) ∙ q) low,
+          threshold-of x1 x2 (contender j c .access .held) k (later j .access) true (sym (r .held-now) ∙ q) low,
           threshold-low x1 x2 k,
           first-now j,
           count-i,
@@ -81,25 +81,25 @@ module _ (x1 x2 : ℕ) (h1 : 8 ≤ x1) (h2 : x1 + 2 ≤ x2) (k i j : ℕ) (k1 : 
 
     below-now : Waits k i (onward x1 x2 c) → later i .access .sent ≡ 0 → later i .access .count < level x1 x2 k
     below-now w q =
-        by-test (leb 1 (station i c .access .sent))
-        (λ l. omega (arith, sending-count x1 x2 c inv i i (leb-true 1 (station i c .access .sent) l) (a .zero-next), level-least x1 x2 k h2))
-        (λ l. idle-below x1 x2 c inv k i k1 (a .waits) w (omega (arith, leb-false 1 (station i c .access .sent) l)) q (outcome x1 x2 (c .heardD) (station i c)))
+        by-test (leb 1 (contender i c .access .sent))
+        (λ l. omega (arith, sending-count x1 x2 c inv i i (leb-true 1 (contender i c .access .sent) l) (a .zero-next), level-least x1 x2 k h2))
+        (λ l. idle-below x1 x2 c inv k i k1 (a .waits) w (omega (arith, leb-false 1 (contender i c .access .sent) l)) q (outcome x1 x2 (c .heardD) (contender i c)))
 
     ahead-onward : (Completes x1 x2 k i c → ⊥) → Ahead x1 x2 k i j (onward x1 x2 c)
     ahead-onward n =
         let w = waits-hears x1 x2 c inv k i k1 (a .waits) n in
         let low : lowOf k (later j .access) ≡ true =
-        low-stays x1 x2 k (c .heardD) (station j c) k1 (waits-class x1 x2 c inv k i (a .waits)) (a .rival-in-F7) (a .rival-low)
+        low-stays x1 x2 k (c .heardD) (contender j c) k1 (waits-class x1 x2 c inv k i (a .waits)) (a .rival-in-F7) (a .rival-low)
         (λ q. omega (arith, first-now j, count-i))
         in
         record {
           waits = w;
-          first = λ m. rw (onward-station x1 x2 c m, onward-station x1 x2 c i) (first-now m);
-          rival-in-F7 = rw (onward-station x1 x2 c j) (active-after x1 x2 (c .heardD) (station j c) ∙ a .rival-in-F7);
-          rival-low = rw (onward-station x1 x2 c j) low;
-          rival-barred = rw (onward-station x1 x2 c j) (λ h q. barred-now h q low (sender x1 x2 (c .heardD) (station j c) (inv .sound j) h));
-          below = rw (onward-station x1 x2 c i) (below-now w);
-          reached = λ _. rw (onward-station x1 x2 c i) count-i;
+          first = λ m. rw (onward-contender x1 x2 c m, onward-contender x1 x2 c i) (first-now m);
+          rival-in-F7 = rw (onward-contender x1 x2 c j) (active-after x1 x2 (c .heardD) (contender j c) ∙ a .rival-in-F7);
+          rival-low = rw (onward-contender x1 x2 c j) low;
+          rival-barred = rw (onward-contender x1 x2 c j) (λ h q. barred-now h q low (sender x1 x2 (c .heardD) (contender j c) (inv .sound j) h));
+          below = rw (onward-contender x1 x2 c i) (below-now w);
+          reached = λ _. rw (onward-contender x1 x2 c i) count-i;
           zero-next = λ q. echo-first (echo-onward x1 x2 c inv) i (next-inv .sound i) q;
         }
 
@@ -112,9 +112,9 @@ module _ (x1 x2 k i j : ℕ) (k1 : 1 ≤ k) where
         waits = waits-quiet k i c c′ k1 q (a .waits);
         first = λ m. omega (arith, q .each m .count-same, qi .count-same, a .first m);
         rival-in-F7 = qj .stays (a .rival-in-F7);
-        rival-low = low-quiet k (station j c) (station j c′) qj ∙ a .rival-low;
+        rival-low = low-quiet k (contender j c) (contender j c′) qj ∙ a .rival-low;
         rival-barred = λ h held.
-            let h′ : 1 ≤ station j c .access .sent = omega (arith, qj .sent-same) in
+            let h′ : 1 ≤ contender j c .access .sent = omega (arith, qj .sent-same) in
             a .rival-barred h′ (rw (sender-kept x1 x2 c c′ inv q j h′) at held);
         below = λ z. omega (arith, qi .count-same, a .below (sym (qi .sent-same) ∙ z));
         reached = λ z. omega (arith, qi .count-same, a .reached (sym (qi .sent-same) ∙ z));

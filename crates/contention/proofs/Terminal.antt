@@ -9,13 +9,13 @@ use lib.Dec.{eqb}
 use lib.ListN.{length}
 use borrow.Author.Tests.{leb-true, leb-false, eqb-false, eq-eqb, ne-eqb}
 use Rattle.dchannel.specs.declared.access.Access.{Access}
-use Rattle.cases.proofs.ByCases.{by-test}
-use Rattle.dchannel.specs.Access.{countAfter, lowAfter, afterE, threshold, lowOf, mayStart, sendsNext, stops, completes, idles, turn}
-use Rattle.dchannel.proofs.AccessLaws.{by-ways, turn-count, turn-low1, turn-low2}
-use Rattle.contention.specs.Channel.{Station, nextBit, turnAt, hears, sendsD}
+use Rattle.test_lemmas.proofs.ByCases.{by-test}
+use Rattle.dchannel.specs.Access.{countAfter, lowAfter, afterE, threshold, lowOf, mayStart, sendsNext, stops, completes, idles, accessStep}
+use Rattle.dchannel.proofs.AccessLaws.{by-ways, access-step-count, access-step-low1, access-step-low2}
+use Rattle.contention.specs.Channel.{Contender, nextBit, accessStepAt, contenderAfterE, sendsD}
 
 -- The outcomes, for a terminal s that becomes s′ at E and sends d; `done` is the class of a completed frame.
-module _ (x1 x2 : ℕ) (e : Bool) (s s′ : Station) (d : Bool) (done : ℕ) where
+module _ (x1 x2 : ℕ) (e : Bool) (s s′ : Contender) (d : Bool) (done : ℕ) where
   pub record Completed : Type 0 where
     pub in-F7 : s .active ≡ true
     pub sending : 1 ≤ s .access .sent
@@ -85,14 +85,14 @@ module _ (x1 x2 : ℕ) (e : Bool) (s s′ : Station) (d : Bool) (done : ℕ) whe
     outside : Outside → Outcome
 
 -- the outcome of a terminal at an E
-abbrev pub OutcomeAt : ℕ → ℕ → Bool → Station → Type 0
-OutcomeAt x1 x2 e s = Outcome x1 x2 e s (hears x1 x2 e s) (sendsD x1 x2 e s) (turnAt x1 x2 e s .done)
+abbrev pub OutcomeAt : ℕ → ℕ → Bool → Contender → Type 0
+OutcomeAt x1 x2 e s = Outcome x1 x2 e s (contenderAfterE x1 x2 e s) (sendsD x1 x2 e s) (accessStepAt x1 x2 e s .done)
 
-abbrev pub CompletedAt : ℕ → ℕ → Bool → Station → Type 0
-CompletedAt x1 x2 e s = Completed x1 x2 e s (hears x1 x2 e s) (sendsD x1 x2 e s) (turnAt x1 x2 e s .done)
+abbrev pub CompletedAt : ℕ → ℕ → Bool → Contender → Type 0
+CompletedAt x1 x2 e s = Completed x1 x2 e s (contenderAfterE x1 x2 e s) (sendsD x1 x2 e s) (accessStepAt x1 x2 e s .done)
 
-abbrev pub StartedAt : ℕ → ℕ → Bool → Station → Type 0
-StartedAt x1 x2 e s = Started x1 x2 e s (hears x1 x2 e s) (sendsD x1 x2 e s) (turnAt x1 x2 e s .done)
+abbrev pub StartedAt : ℕ → ℕ → Bool → Contender → Type 0
+StartedAt x1 x2 e s = Started x1 x2 e s (contenderAfterE x1 x2 e s) (sendsD x1 x2 e s) (accessStepAt x1 x2 e s .done)
 
 may-start : (x1 x2 : ℕ) (a : Access) → mayStart x1 x2 a ≡ true
     → (1 ≤ a .held) × (threshold x1 x2 (a .held) (lowOf (a .held) a) ≤ a .count)
@@ -107,19 +107,19 @@ unfolding mayStart
 may-not-start x1 x2 a h k = leb-false _ _ (rw (ne-eqb (a .held) 0 (λ z. omega arith)) at h)
 
 -- a terminal in F7 with a record of its own
-abbrev pub inF7 : Access → List ℕ → Station
+abbrev pub inF7 : Access → List ℕ → Contender
 inF7 a body = record { active = true; access = a; body = body }
 
-module _ (x1 x2 : ℕ) (e : Bool) (s : Station) where
-  pub hears-active : s .active ≡ true → hears x1 x2 e s ≡ inF7 (turnAt x1 x2 e s .access) (s .body)
-  unfolding hears
+module _ (x1 x2 : ℕ) (e : Bool) (s : Contender) where
+  pub hears-active : s .active ≡ true → contenderAfterE x1 x2 e s ≡ inF7 (accessStepAt x1 x2 e s .access) (s .body)
+  unfolding contenderAfterE
   hears-active h = rw h
 
-  pub hears-outside : s .active ≡ false → hears x1 x2 e s ≡ s
-  unfolding hears
+  pub hears-outside : s .active ≡ false → contenderAfterE x1 x2 e s ≡ s
+  unfolding contenderAfterE
   hears-outside h = rw h
 
-  sendsD-active : s .active ≡ true → sendsD x1 x2 e s ≡ turnAt x1 x2 e s .d
+  sendsD-active : s .active ≡ true → sendsD x1 x2 e s ≡ accessStepAt x1 x2 e s .d
   unfolding sendsD
   sendsD-active h = rw h
 
@@ -127,8 +127,8 @@ module _ (x1 x2 : ℕ) (e : Bool) (s : Station) where
   unfolding sendsD
   sendsD-outside h = rw h
 
-  turn-outcome : s .active ≡ true → Outcome x1 x2 e s (inF7 (turnAt x1 x2 e s .access) (s .body)) (turnAt x1 x2 e s .d) (turnAt x1 x2 e s .done)
-  unfolding turnAt completes sendsNext stops idles afterE lowOf
+  turn-outcome : s .active ≡ true → Outcome x1 x2 e s (inF7 (accessStepAt x1 x2 e s .access) (s .body)) (accessStepAt x1 x2 e s .d) (accessStepAt x1 x2 e s .done)
+  unfolding accessStepAt completes sendsNext stops idles afterE lowOf
   turn-outcome act =
       by-ways x1 x2 e (nextBit s) (s .access) (λ t. Outcome x1 x2 e s (inF7 (t .access) (s .body)) (t .d) (t .done))
       (λ h a m. went-on (record { in-F7 = act; sending = h; agreed = a; more = m; sent-now = add-one (s .access .sent); held-now = refl; length-now = refl; last-now = refl; done-now = refl; d-now = refl }))
@@ -144,17 +144,17 @@ module _ (x1 x2 : ℕ) (e : Bool) (s : Station) where
       (λ out. outside (record { not-F7 = out; as-before = hears-outside out; d-now = sendsD-outside out }))
 
   -- what every outcome leaves
-  pub active-after : hears x1 x2 e s .active ≡ s .active
+  pub active-after : contenderAfterE x1 x2 e s .active ≡ s .active
   active-after = by-test (s .active) (λ act. rw (hears-active act) (sym act)) (λ out. rw (hears-outside out))
 
-  pub body-after : hears x1 x2 e s .body ≡ s .body
+  pub body-after : contenderAfterE x1 x2 e s .body ≡ s .body
   body-after = by-test (s .active) (λ act. rw (hears-active act)) (λ out. rw (hears-outside out))
 
-  pub count-after : s .active ≡ true → hears x1 x2 e s .access .count ≡ countAfter x2 e (s .access .count)
-  unfolding turnAt completes sendsNext stops idles afterE
+  pub count-after : s .active ≡ true → contenderAfterE x1 x2 e s .access .count ≡ countAfter x2 e (s .access .count)
+  unfolding accessStepAt completes sendsNext stops idles afterE
   count-after act =
       rw (hears-active act)
-      (turn-count x1 x2 e (nextBit s) (s .access))
+      (access-step-count x1 x2 e (nextBit s) (s .access))
 
 -- the normal level of class k
 unfoldable pub level : ℕ → ℕ → ℕ → ℕ
@@ -186,36 +186,36 @@ level-most x1 x2 k h = by-test (eqb k 1) (λ e. rw e (omega arith)) (λ e. rw e 
 
 -- the levels after a turn: a completed class goes low, else the level follows C
 turn-low : (x1 x2 k : ℕ) (e next : Bool) (a : Access) → 1 ≤ k → k ≤ 2
-    → lowOf k (turn x1 x2 e next a .access)
-    ≡ cond (eqb (turn x1 x2 e next a .done) k) true (lowAfter (level x1 x2 k) (countAfter x2 e (a .count)) (lowOf k a))
+    → lowOf k (accessStep x1 x2 e next a .access)
+    ≡ cond (eqb (accessStep x1 x2 e next a .done) k) true (lowAfter (level x1 x2 k) (countAfter x2 e (a .count)) (lowOf k a))
 unfolding lowOf level afterE completes sendsNext stops idles
 turn-low x1 x2 zero e next a h l = absurd (omega arith)
-turn-low x1 x2 (suc zero) e next a h l = turn-low1 x1 x2 e next a
-turn-low x1 x2 (suc (suc zero)) e next a h l = turn-low2 x1 x2 e next a
+turn-low x1 x2 (suc zero) e next a h l = access-step-low1 x1 x2 e next a
+turn-low x1 x2 (suc (suc zero)) e next a h l = access-step-low2 x1 x2 e next a
 turn-low x1 x2 (suc (suc (suc k))) e next a h l = absurd (omega arith)
 
-module _ (x1 x2 k : ℕ) (e : Bool) (s : Station) (at-least : 1 ≤ k) (at-most : k ≤ 2) (act : s .active ≡ true) where
-  pub low-after : lowOf k (hears x1 x2 e s .access)
-      ≡ cond (eqb (turnAt x1 x2 e s .done) k) true (lowAfter (level x1 x2 k) (countAfter x2 e (s .access .count)) (lowOf k (s .access)))
-  unfolding turnAt
+module _ (x1 x2 k : ℕ) (e : Bool) (s : Contender) (at-least : 1 ≤ k) (at-most : k ≤ 2) (act : s .active ≡ true) where
+  pub low-after : lowOf k (contenderAfterE x1 x2 e s .access)
+      ≡ cond (eqb (accessStepAt x1 x2 e s .done) k) true (lowAfter (level x1 x2 k) (countAfter x2 e (s .access .count)) (lowOf k (s .access)))
+  unfolding accessStepAt
   low-after = rw (hears-active x1 x2 e s act) (turn-low x1 x2 k e (nextBit s) (s .access) at-least at-most)
 
   -- a low class stays low while C is not at its low value
-  pub low-stays : lowOf k (s .access) ≡ true → (hears x1 x2 e s .access .count ≡ level x1 x2 k + 1 → ⊥)
-      → lowOf k (hears x1 x2 e s .access) ≡ true
+  pub low-stays : lowOf k (s .access) ≡ true → (contenderAfterE x1 x2 e s .access .count ≡ level x1 x2 k + 1 → ⊥)
+      → lowOf k (contenderAfterE x1 x2 e s .access) ≡ true
   unfolding lowAfter
   low-stays low away =
       let f : eqb (countAfter x2 e (s .access .count)) (level x1 x2 k + 1) ≡ false =
       ne-eqb _ _ (λ q. away (count-after x1 x2 e s act ∙ q))
-      in low-after ∙ rw (f, low) (by-test (eqb (turnAt x1 x2 e s .done) k) (λ q. rw q) (λ q. rw q))
+      in low-after ∙ rw (f, low) (by-test (eqb (accessStepAt x1 x2 e s .done) k) (λ q. rw q) (λ q. rw q))
 
   -- a class at the normal level stays there unless it is completed
-  pub normal-stays : lowOf k (s .access) ≡ false → (turnAt x1 x2 e s .done ≡ k → ⊥) → lowOf k (hears x1 x2 e s .access) ≡ false
+  pub normal-stays : lowOf k (s .access) ≡ false → (accessStepAt x1 x2 e s .done ≡ k → ⊥) → lowOf k (contenderAfterE x1 x2 e s .access) ≡ false
   unfolding lowAfter
   normal-stays normal not-done =
       low-after ∙ rw (ne-eqb _ _ not-done, normal)
       (by-test (eqb (countAfter x2 e (s .access .count)) (level x1 x2 k + 1)) (λ q. rw q) (λ q. rw q))
 
   -- "that class then goes low"
-  pub completed-low : turnAt x1 x2 e s .done ≡ k → lowOf k (hears x1 x2 e s .access) ≡ true
+  pub completed-low : accessStepAt x1 x2 e s .done ≡ k → lowOf k (contenderAfterE x1 x2 e s .access) ≡ true
   completed-low q = low-after ∙ rw (eq-eqb _ _ q)

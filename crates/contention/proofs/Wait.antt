@@ -12,16 +12,16 @@ use native.Mathlib.Omega.{arith}
 use lib.Dec.{eqb, leb}
 use lib.ListN.{length}
 use borrow.Author.Tests.{eqb-true, eqb-false, leb-true, leb-false}
-use Rattle.cases.proofs.ByCases.{by-test}
+use Rattle.test_lemmas.proofs.ByCases.{by-test}
 use Rattle.dchannel.specs.Access.{lowOf, threshold, countAfter}
-use Rattle.contention.specs.Channel.{Station, Channel, Action, turnAt, hears, run}
-use Rattle.contention.specs.Stretch.{Stretch, onward, station, Waits, Completes, howMany, activeCount, ImagesAtMost}
+use Rattle.contention.specs.Channel.{Contender, Channel, Action, accessStepAt, contenderAfterE, run}
+use Rattle.contention.specs.Stretch.{Stretch, onward, contender, Waits, Completes, howMany, activeCount, ImagesAtMost}
 use Rattle.contention.specs.Claims.{at, waitBound, CompletedWithin, WaitEnds, InStretches}
 use Rattle.contention.specs.Invariant.{Invariant}
 use Rattle.dchannel.proofs.AccessLaws.{count-one, count-stays, count-some}
 use Rattle.contention.proofs.Terminal.{Outcome, outcome, CompletedAt, completed, went-on, stopped, started, idled, outside, active-after, body-after, count-after, level, level-least, level-most, level-threshold, threshold-low, threshold-of, low-stays, normal-stays, completed-low}
 use Rattle.contention.proofs.InvariantKept.{and-true, SenderAt, sender, going, starting, Quiet, hears-count-up, length-hears}
-use Rattle.contention.proofs.Trace.{howMany-le, howMany-lt, Anyone, anyone, somebody, nobody, onward-station, Echo, echo-idle, echo-first, sender-kept, opp, many, invariant-at, invariant-past, quiet-at, echo-at, active-at}
+use Rattle.contention.proofs.Trace.{howMany-le, howMany-lt, Anyone, anyone, somebody, nobody, onward-contender, Echo, echo-idle, echo-first, sender-kept, opp, many, invariant-at, invariant-past, quiet-at, echo-at, active-at}
 use Rattle.contention.proofs.Waiting.{completes-zero, zero-counts, waits-hears, waits-quiet, sending-count, idle-below, first-stays, low-quiet, goes-on, completion-ends}
 
 both-true : (a b : Bool) → a ≡ true → b ≡ true → (a && b) ≡ true
@@ -32,16 +32,16 @@ second-false true b h = h
 second-false false b h = refl
 
 -- in F7 and low in class k
-abbrev pub isLow : ℕ → Station → Bool
+abbrev pub isLow : ℕ → Contender → Bool
 isLow k s = s .active && lowOf k (s .access)
 
 -- how many are
 unfoldable pub lows : ℕ → Channel → ℕ
-lows k c = howMany (isLow k) (c .stations)
+lows k c = howMany (isLow k) (c .contenders)
 
 -- who may send before a terminal that waits in class k with its C not behind: one at the normal level in class k, and for class 2 one
 -- with a class 1 frame
-abbrev pub MayPrecede : ℕ → Station → Type 0
+abbrev pub MayPrecede : ℕ → Contender → Type 0
 MayPrecede k s = ((s .access .held ≡ k) × (lowOf k (s .access) ≡ false)) ⊎ ((s .access .held ≡ 1) × (k ≡ 2))
 
 level-one : (x1 x2 : ℕ) → level x1 x2 1 ≡ x1
@@ -53,7 +53,7 @@ unfolding level
 level-two x1 x2 = refl
 
 -- a terminal that starts in class h where C is at most the level of class k may precede
-precede-of : (x1 x2 k : ℕ) → x1 + 2 ≤ x2 → 1 ≤ k → k ≤ 2 → (h : ℕ) (s : Station) → s .access .held ≡ h → 1 ≤ h → h ≤ 2
+precede-of : (x1 x2 k : ℕ) → x1 + 2 ≤ x2 → 1 ≤ k → k ≤ 2 → (h : ℕ) (s : Contender) → s .access .held ≡ h → 1 ≤ h → h ≤ 2
     → threshold x1 x2 h (lowOf h (s .access)) ≤ s .access .count → s .access .count ≤ level x1 x2 k → MayPrecede k s
 precede-of x1 x2 k h2 k1 k2 h s q l m reached below =
     by-test (eqb h k)
@@ -74,8 +74,8 @@ module _ (x k n f L i v : ℕ) (c : Channel) where
   pub record BehindIdle : Type 0 where
     pub more : ℕ
     pub rivals : n + f ≤ suc more
-    pub idle : (j : ℕ) → station j c .access .sent ≡ 0
-    pub left : x + (L + x) + L + more * (L + x) ≤ v + station i c .access .count
+    pub idle : (j : ℕ) → contender j c .access .sent ≡ 0
+    pub left : x + (L + x) + L + more * (L + x) ≤ v + contender i c .access .count
     pub left-least : 1 + (L + x) + L + more * (L + x) ≤ v
 
   -- that frame, or one that was under way, is being sent
@@ -83,26 +83,26 @@ module _ (x k n f L i v : ℕ) (c : Channel) where
     pub more : ℕ
     pub rivals : n + f ≤ suc more
     pub who : ℕ
-    pub sending : 1 ≤ station who c .access .sent
-    pub left : L + 1 + x + L + more * (L + x) ≤ v + station who c .access .sent
+    pub sending : 1 ≤ contender who c .access .sent
+    pub left : L + 1 + x + L + more * (L + x) ≤ v + contender who c .access .sent
 
   -- nobody is sending, and no C is ahead of i's
   pub record EvenIdle : Type 0 where
     pub more : ℕ
     pub rivals : n + f ≤ suc more + lows k c
-    pub idle : (j : ℕ) → station j c .access .sent ≡ 0
-    pub first : (j : ℕ) → station j c .access .count ≤ station i c .access .count
-    pub below : station i c .access .count < x
-    pub left : x + L + more * (L + x) ≤ v + station i c .access .count
+    pub idle : (j : ℕ) → contender j c .access .sent ≡ 0
+    pub first : (j : ℕ) → contender j c .access .count ≤ contender i c .access .count
+    pub below : contender i c .access .count < x
+    pub left : x + L + more * (L + x) ≤ v + contender i c .access .count
 
   -- i is sending, or those that may precede it
   pub record EvenSending : Type 0 where
     pub more : ℕ
     pub rivals : n + f ≤ suc more + lows k c
     pub who : ℕ
-    pub sending : 1 ≤ station who c .access .sent
-    pub precede : (j : ℕ) → 1 ≤ station j c .access .sent → MayPrecede k (station j c)
-    pub left : L + 1 + more * (L + x) ≤ v + station who c .access .sent
+    pub sending : 1 ≤ contender who c .access .sent
+    pub precede : (j : ℕ) → 1 ≤ contender j c .access .sent → MayPrecede k (contender j c)
+    pub left : L + 1 + more * (L + x) ≤ v + contender who c .access .sent
 
   pub data Left : Type 0 where
     behind-idle : BehindIdle → Left
@@ -121,52 +121,52 @@ left-some x2 x k n f L i c inv most (even-sending r) = omega (arith, r .left, mo
 
 module _ (x1 x2 k : ℕ) (h1 : 8 ≤ x1) (h2 : x1 + 2 ≤ x2) (k1 : 1 ≤ k) (k2 : k ≤ 2) (c : Channel) (inv : Invariant x2 c) where
   -- a terminal after this E
-  abbrev later : ℕ → Station
-  later m = hears x1 x2 (c .heardD) (station m c)
+  abbrev later : ℕ → Contender
+  later m = contenderAfterE x1 x2 (c .heardD) (contender m c)
 
-  onward-length : length (onward x1 x2 c .stations) ≡ length (c .stations)
+  onward-length : length (onward x1 x2 c .contenders) ≡ length (c .contenders)
   unfolding onward
   onward-length = length-hears x1 x2 (c .heardD) _ true c
 
-  active-later : (j : ℕ) → station j c .active ≡ true → later j .active ≡ true
-  active-later j h = active-after x1 x2 (c .heardD) (station j c) ∙ h
+  active-later : (j : ℕ) → contender j c .active ≡ true → later j .active ≡ true
+  active-later j h = active-after x1 x2 (c .heardD) (contender j c) ∙ h
 
   -- low terminals stay low while C does not pass the level
-  low-now : ((j : ℕ) → later j .access .count ≤ level x1 x2 k) → (j : ℕ) → isLow k (station j c) ≡ true → isLow k (station j (onward x1 x2 c)) ≡ true
+  low-now : ((j : ℕ) → later j .access .count ≤ level x1 x2 k) → (j : ℕ) → isLow k (contender j c) ≡ true → isLow k (contender j (onward x1 x2 c)) ≡ true
   low-now most j h =
-      let p = and-true (station j c .active) (lowOf k (station j c .access)) h in
-      rw (onward-station x1 x2 c j)
+      let p = and-true (contender j c .active) (lowOf k (contender j c .access)) h in
+      rw (onward-contender x1 x2 c j)
       (both-true (later j .active) (lowOf k (later j .access)) (active-later j (p .0))
-      (low-stays x1 x2 k (c .heardD) (station j c) k1 k2 (p .0) (p .1) (λ q. omega (arith, most j))))
+      (low-stays x1 x2 k (c .heardD) (contender j c) k1 k2 (p .0) (p .1) (λ q. omega (arith, most j))))
 
   lows-kept : ((j : ℕ) → later j .access .count ≤ level x1 x2 k) → lows k c ≤ lows k (onward x1 x2 c)
-  unfolding lows station
-  lows-kept most = howMany-le (isLow k) (isLow k) (c .stations) (onward x1 x2 c .stations) onward-length (low-now most)
+  unfolding lows contender
+  lows-kept most = howMany-le (isLow k) (isLow k) (c .contenders) (onward x1 x2 c .contenders) onward-length (low-now most)
 
   -- one more is low where a rival at the normal level completes a frame of the class
-  lows-more : ((j : ℕ) → later j .access .count ≤ level x1 x2 k) → (g : ℕ) → lowOf k (station g c .access) ≡ false → station g c .access .held ≡ k
-      → CompletedAt x1 x2 (c .heardD) (station g c) → suc (lows k c) ≤ lows k (onward x1 x2 c)
-  unfolding lows station
+  lows-more : ((j : ℕ) → later j .access .count ≤ level x1 x2 k) → (g : ℕ) → lowOf k (contender g c .access) ≡ false → contender g c .access .held ≡ k
+      → CompletedAt x1 x2 (c .heardD) (contender g c) → suc (lows k c) ≤ lows k (onward x1 x2 c)
+  unfolding lows contender
   lows-more most g normal held r =
-      howMany-lt (isLow k) (isLow k) (c .stations) (onward x1 x2 c .stations) onward-length (low-now most) refl g
-      (second-false (station g c .active) (lowOf k (station g c .access)) normal)
-      (rw (onward-station x1 x2 c g)
+      howMany-lt (isLow k) (isLow k) (c .contenders) (onward x1 x2 c .contenders) onward-length (low-now most) refl g
+      (second-false (contender g c .active) (lowOf k (contender g c .access)) normal)
+      (rw (onward-contender x1 x2 c g)
       (both-true (later g .active) (lowOf k (later g .access)) (active-later g (r .in-F7))
-      (completed-low x1 x2 k (c .heardD) (station g c) k1 k2 (r .in-F7) (r .done-now ∙ held))))
+      (completed-low x1 x2 k (c .heardD) (contender g c) k1 k2 (r .in-F7) (r .done-now ∙ held))))
 
 -- a terminal at the normal level is not among the low ones
-pub lows-others : (k : ℕ) (c : Channel) (i : ℕ) → Waits k i c → suc (lows k c) ≤ activeCount (c .stations)
-unfolding lows station
+pub lows-others : (k : ℕ) (c : Channel) (i : ℕ) → Waits k i c → suc (lows k c) ≤ activeCount (c .contenders)
+unfolding lows contender
 lows-others k c i w =
-    howMany-lt (isLow k) (λ s. s .active) (c .stations) (c .stations) refl (λ j h. and-true _ _ h .0) refl i
-    (second-false (station i c .active) (lowOf k (station i c .access)) (w .normal)) (w .in-F7)
+    howMany-lt (isLow k) (λ s. s .active) (c .contenders) (c .contenders) refl (λ j h. and-true _ _ h .0) refl i
+    (second-false (contender i c .active) (lowOf k (contender i c .access)) (w .normal)) (w .in-F7)
 
 -- i waits at c and is not completed there; f′ class 1 frames are left afterwards
 module _ (x1 x2 k n L i : ℕ) (h1 : 8 ≤ x1) (h2 : x1 + 2 ≤ x2) (k1 : 1 ≤ k) (k2 : k ≤ 2) (f f′ : ℕ) (fall : f′ ≤ f)
     (c : Channel) (inv : Invariant x2 c) (w : Waits k i c) (w′ : Waits k i (onward x1 x2 c)) where
   -- a terminal after this E, and the level
-  abbrev then : ℕ → Station
-  then m = hears x1 x2 (c .heardD) (station m c)
+  abbrev then : ℕ → Contender
+  then m = contenderAfterE x1 x2 (c .heardD) (contender m c)
 
   abbrev x : ℕ
   x = level x1 x2 k
@@ -178,30 +178,30 @@ module _ (x1 x2 k n L i : ℕ) (h1 : 8 ≤ x1) (h2 : x1 + 2 ≤ x2) (k1 : 1 ≤ 
   Next v = Left x k n f′ L i v (onward x1 x2 c)
 
   -- the fields of a terminal afterwards
-  sent-is : (j : ℕ) → station j (onward x1 x2 c) .access .sent ≡ then j .access .sent
-  sent-is j = ap (λ (s : Station). s .access .sent) (onward-station x1 x2 c j)
+  sent-is : (j : ℕ) → contender j (onward x1 x2 c) .access .sent ≡ then j .access .sent
+  sent-is j = ap (λ (s : Contender). s .access .sent) (onward-contender x1 x2 c j)
 
-  count-is : (j : ℕ) → station j (onward x1 x2 c) .access .count ≡ then j .access .count
-  count-is j = ap (λ (s : Station). s .access .count) (onward-station x1 x2 c j)
+  count-is : (j : ℕ) → contender j (onward x1 x2 c) .access .count ≡ then j .access .count
+  count-is j = ap (λ (s : Contender). s .access .count) (onward-contender x1 x2 c j)
 
-  up-one : c .heardD ≡ true → then i .access .count ≡ countAfter x2 true (station i c .access .count)
-  up-one one = count-after x1 x2 (c .heardD) (station i c) (w .in-F7) ∙ ap (λ (e : Bool). countAfter x2 e (station i c .access .count)) one
+  up-one : c .heardD ≡ true → then i .access .count ≡ countAfter x2 true (contender i c .access .count)
+  up-one one = count-after x1 x2 (c .heardD) (contender i c) (w .in-F7) ∙ ap (λ (e : Bool). countAfter x2 e (contender i c .access .count)) one
 
   -- at an E of 1 without a start, i's C goes up
-  one-more : c .heardD ≡ true → station i c .access .sent ≡ 0 → then i .access .sent ≡ 0
-      → (then i .access .count ≡ suc (station i c .access .count)) × (then i .access .count < x)
+  one-more : c .heardD ≡ true → contender i c .access .sent ≡ 0 → then i .access .sent ≡ 0
+      → (then i .access .count ≡ suc (contender i c .access .count)) × (then i .access .count < x)
   one-more one q z =
-      let short = idle-below x1 x2 c inv k i k1 w w′ q z (outcome x1 x2 (c .heardD) (station i c)) in
+      let short = idle-below x1 x2 c inv k i k1 w w′ q z (outcome x1 x2 (c .heardD) (contender i c)) in
       let up = up-one one in
-      by-test (leb (station i c .access .count) x2)
-      (λ l. (up ∙ (count-one x2 (station i c .access .count) (leb-true (station i c .access .count) x2 l) ∙ add-one _), short))
-      (λ l. absurd (omega (arith, count-stays x2 (station i c .access .count) (omega (arith, leb-false (station i c .access .count) x2 l)), level-most x1 x2 k h2)))
+      by-test (leb (contender i c .access .count) x2)
+      (λ l. (up ∙ (count-one x2 (contender i c .access .count) (leb-true (contender i c .access .count) x2 l) ∙ add-one _), short))
+      (λ l. absurd (omega (arith, count-stays x2 (contender i c .access .count) (omega (arith, leb-false (contender i c .access .count) x2 l)), level-most x1 x2 k h2)))
 
   -- all C at 0 and nobody sending
-  cleared-even : (v more : ℕ) → n + f′ ≤ suc more + lows k (onward x1 x2 c) → c .heardD ≡ false → ((j : ℕ) → station j (onward x1 x2 c) .access .sent ≡ 0)
+  cleared-even : (v more : ℕ) → n + f′ ≤ suc more + lows k (onward x1 x2 c) → c .heardD ≡ false → ((j : ℕ) → contender j (onward x1 x2 c) .access .sent ≡ 0)
       → x + L + more * (L + x) ≤ v → Next v
   cleared-even v more m zer z le =
-      let zero-all : (j : ℕ) → station j (onward x1 x2 c) .access .count ≡ 0 = λ j. count-is j ∙ zero-counts x1 x2 c inv zer j in
+      let zero-all : (j : ℕ) → contender j (onward x1 x2 c) .access .count ≡ 0 = λ j. count-is j ∙ zero-counts x1 x2 c inv zer j in
       even-idle
       (record {
         more = more;
@@ -219,8 +219,8 @@ module _ (x1 x2 k n L i : ℕ) (h1 : 8 ≤ x1) (h2 : x1 + 2 ≤ x2) (k1 : 1 ≤ 
   left-first v more m le (nobody z) =
       by-test (c .heardD)
       (λ one.
-      let up : 1 ≤ station i (onward x1 x2 c) .access .count =
-      omega (arith, count-is i, up-one one, count-some x2 (station i c .access .count))
+      let up : 1 ≤ contender i (onward x1 x2 c) .access .count =
+      omega (arith, count-is i, up-one one, count-some x2 (contender i c .access .count))
       in
       behind-idle (record { more = more; rivals = omega arith; idle = z; left = omega arith; left-least = omega (arith, level-least x1 x2 k h2) }))
       (λ zer. cleared-even v more (omega arith) zer z (omega (arith, level-least x1 x2 k h2)))
@@ -243,7 +243,7 @@ module _ (x1 x2 k n L i : ℕ) (h1 : 8 ≤ x1) (h2 : x1 + 2 ≤ x2) (k1 : 1 ≤ 
 
     behind-sending-on : (v : ℕ) → BehindSending x k n f L i (suc v) c → Anyone (onward x1 x2 c) → Next v
     behind-sending-on v r (somebody j h) =
-        let on = goes-on x1 x2 h1 h2 c inv e (r .who) j (r .sending) (omega (arith, sent-is j)) (sender x1 x2 (c .heardD) (station j c) (inv .sound j) (omega (arith, sent-is j))) in
+        let on = goes-on x1 x2 h1 h2 c inv e (r .who) j (r .sending) (omega (arith, sent-is j)) (sender x1 x2 (c .heardD) (contender j c) (inv .sound j) (omega (arith, sent-is j))) in
         behind-sending (record { more = r .more; rivals = omega (arith, r .rivals); who = j; sending = h; left = omega (arith, r .left, on .0, sent-is j) })
     behind-sending-on v r (nobody z) =
         let p = completion-ends x1 x2 h1 h2 c inv e (r .who) (r .sending) (λ g. sym (sent-is g) ∙ z g) in
@@ -251,15 +251,15 @@ module _ (x1 x2 k n L i : ℕ) (h1 : 8 ≤ x1) (h2 : x1 + 2 ≤ x2) (k1 : 1 ≤ 
         (omega (arith, r .left, p .2, most (p .0), inv .sound (p .0) .sent-part))
 
     -- whoever starts with no C ahead of i's may precede it
-    starts-preceding : ((j : ℕ) → then j .access .count ≤ x) → (j : ℕ) → station j c .access .sent ≡ 0 → SenderAt x1 x2 (c .heardD) (station j c) → MayPrecede k (then j)
+    starts-preceding : ((j : ℕ) → then j .access .count ≤ x) → (j : ℕ) → contender j c .access .sent ≡ 0 → SenderAt x1 x2 (c .heardD) (contender j c) → MayPrecede k (then j)
     starts-preceding below j q (going r) = absurd (omega arith)
     starts-preceding below j q (starting r) =
-        precede-of x1 x2 k h2 k1 k2 (station j c .access .held) (then j) (r .held-now) (r .holds) (inv .sound j .class-known) (r .reached) (below j)
+        precede-of x1 x2 k h2 k1 k2 (contender j c .access .held) (then j) (r .held-now) (r .holds) (inv .sound j .class-known) (r .reached) (below j)
 
     even-idle-on : (v : ℕ) → EvenIdle x k n f L i (suc v) c → Anyone (onward x1 x2 c) → Next v
     even-idle-on v r a =
         let below : (j : ℕ) → then j .access .count ≤ x =
-        λ j. omega (arith, first-stays x1 x2 c inv i (w .in-F7) (r .first) j, hears-count-up x1 x2 (c .heardD) (station i c), r .below)
+        λ j. omega (arith, first-stays x1 x2 c inv i (w .in-F7) (r .first) j, hears-count-up x1 x2 (c .heardD) (contender i c), r .below)
         in
         let low = lows-kept x1 x2 k h1 h2 k1 k2 c inv below in
         go below low a
@@ -273,8 +273,8 @@ module _ (x1 x2 k n L i : ℕ) (h1 : 8 ≤ x1) (h2 : x1 + 2 ≤ x2) (k1 : 1 ≤ 
               who = j;
               sending = h;
               precede = λ g s.
-                  rw (onward-station x1 x2 c g)
-                  (starts-preceding below g (r .idle g) (sender x1 x2 (c .heardD) (station g c) (inv .sound g) (omega (arith, sent-is g))));
+                  rw (onward-contender x1 x2 c g)
+                  (starts-preceding below g (r .idle g) (sender x1 x2 (c .heardD) (contender g c) (inv .sound g) (omega (arith, sent-is g))));
               left = omega (arith, r .left, r .below);
             })
         go below low (nobody z) =
@@ -290,16 +290,16 @@ module _ (x1 x2 k n L i : ℕ) (h1 : 8 ≤ x1) (h2 : x1 + 2 ≤ x2) (k1 : 1 ≤ 
             })
 
     -- whoever goes on and could precede i still can
-    goes-preceding : (j : ℕ) → 1 ≤ station j c .access .sent → MayPrecede k (station j c) → SenderAt x1 x2 (c .heardD) (station j c) → MayPrecede k (then j)
+    goes-preceding : (j : ℕ) → 1 ≤ contender j c .access .sent → MayPrecede k (contender j c) → SenderAt x1 x2 (c .heardD) (contender j c) → MayPrecede k (then j)
     goes-preceding j h (inl p) (going r) =
-        inl (r .held-now ∙ p .0, normal-stays x1 x2 k (c .heardD) (station j c) k1 k2 (r .in-F7) (p .1) (λ q. omega (arith, r .done-now)))
+        inl (r .held-now ∙ p .0, normal-stays x1 x2 k (c .heardD) (contender j c) k1 k2 (r .in-F7) (p .1) (λ q. omega (arith, r .done-now)))
     goes-preceding j h (inr p) (going r) = inr (r .held-now ∙ p .0, p .1)
     goes-preceding j h (inl p) (starting r) = absurd (omega arith)
     goes-preceding j h (inr p) (starting r) = absurd (omega arith)
 
     -- a completed class 1 frame is one of the f, where they count
-    module _ (spent : (g : ℕ) → CompletedAt x1 x2 (c .heardD) (station g c) → station g c .access .held ≡ 1 → k ≡ 2 → suc f′ ≤ f)
-        (bound : activeCount (onward x1 x2 c .stations) ≤ n) where
+    module _ (spent : (g : ℕ) → CompletedAt x1 x2 (c .heardD) (contender g c) → contender g c .access .held ≡ 1 → k ≡ 2 → suc f′ ≤ f)
+        (bound : activeCount (onward x1 x2 c .contenders) ≤ n) where
       even-sending-on : (v : ℕ) → EvenSending x k n f L i (suc v) c → Anyone (onward x1 x2 c) → Next v
       even-sending-on v r a =
           let below : (j : ℕ) → then j .access .count ≤ x =
@@ -307,24 +307,24 @@ module _ (x1 x2 k n L i : ℕ) (h1 : 8 ≤ x1) (h2 : x1 + 2 ≤ x2) (k1 : 1 ≤ 
           in
           go below (lows-kept x1 x2 k h1 h2 k1 k2 c inv below) a
         where
-          gain : ((j : ℕ) → then j .access .count ≤ x) → (g : ℕ) → CompletedAt x1 x2 (c .heardD) (station g c) → MayPrecede k (station g c)
+          gain : ((j : ℕ) → then j .access .count ≤ x) → (g : ℕ) → CompletedAt x1 x2 (c .heardD) (contender g c) → MayPrecede k (contender g c)
               → suc (lows k c + f′) ≤ lows k (onward x1 x2 c) + f
           gain below g d (inl p) = omega (arith, lows-more x1 x2 k h1 h2 k1 k2 c inv below g (p .1) (p .0) d)
           gain below g d (inr p) = omega (arith, lows-kept x1 x2 k h1 h2 k1 k2 c inv below, spent g d (p .0) (p .1))
 
-          close : (m g : ℕ) → n + f ≤ suc m + lows k c → L + 1 + m * (L + x) ≤ suc v + station g c .access .sent
+          close : (m g : ℕ) → n + f ≤ suc m + lows k c → L + 1 + m * (L + x) ≤ suc v + contender g c .access .sent
               → suc (lows k c + f′) ≤ lows k (onward x1 x2 c) + f → c .heardD ≡ false
-              → ((j : ℕ) → station j (onward x1 x2 c) .access .sent ≡ 0) → Next v
+              → ((j : ℕ) → contender j (onward x1 x2 c) .access .sent ≡ 0) → Next v
           close zero g m le more zer z = absurd (omega (arith, lows-others k (onward x1 x2 c) i w′))
           close (suc m′) g m le more zer z = cleared-even v m′ (omega arith) zer z (omega (arith, most g, inv .sound g .sent-part))
 
           go : ((j : ℕ) → then j .access .count ≤ x) → lows k c ≤ lows k (onward x1 x2 c) → Anyone (onward x1 x2 c) → Next v
           go below low (somebody j h) =
-              let sender-of : (g : ℕ) → 1 ≤ station g (onward x1 x2 c) .access .sent → SenderAt x1 x2 (c .heardD) (station g c) =
-              λ g s. sender x1 x2 (c .heardD) (station g c) (inv .sound g) (omega (arith, sent-is g))
+              let sender-of : (g : ℕ) → 1 ≤ contender g (onward x1 x2 c) .access .sent → SenderAt x1 x2 (c .heardD) (contender g c) =
+              λ g s. sender x1 x2 (c .heardD) (contender g c) (inv .sound g) (omega (arith, sent-is g))
               in
-              let on : (g : ℕ) → 1 ≤ station g (onward x1 x2 c) .access .sent
-              → (then g .access .sent ≡ suc (station (r .who) c .access .sent)) × (1 ≤ station g c .access .sent) =
+              let on : (g : ℕ) → 1 ≤ contender g (onward x1 x2 c) .access .sent
+              → (then g .access .sent ≡ suc (contender (r .who) c .access .sent)) × (1 ≤ contender g c .access .sent) =
               λ g s. goes-on x1 x2 h1 h2 c inv e (r .who) g (r .sending) (omega (arith, sent-is g)) (sender-of g s)
               in
               even-sending
@@ -334,7 +334,7 @@ module _ (x1 x2 k n L i : ℕ) (h1 : 8 ≤ x1) (h2 : x1 + 2 ≤ x2) (k1 : 1 ≤ 
                 who = j;
                 sending = h;
                 precede = λ g s.
-                    rw (onward-station x1 x2 c g) (goes-preceding g (on g s .1) (r .precede g (on g s .1)) (sender-of g s));
+                    rw (onward-contender x1 x2 c g) (goes-preceding g (on g s .1) (r .precede g (on g s .1)) (sender-of g s));
                 left = omega (arith, r .left, on j h .0, sent-is j);
               })
           go below low (nobody z) =
@@ -352,13 +352,13 @@ module _ (x1 x2 k n L i : ℕ) (h1 : 8 ≤ x1) (h2 : x1 + 2 ≤ x2) (k1 : 1 ≤ 
 -- ---- hand-overs and entries into F7 between opportunities leave it as it is
 
 lows-quiet : (k : ℕ) (c c′ : Channel) → Quiet c c′ → lows k c ≤ lows k c′
-unfolding lows station
+unfolding lows contender
 lows-quiet k c c′ q =
-    howMany-le (isLow k) (isLow k) (c .stations) (c′ .stations) (q .as-many)
+    howMany-le (isLow k) (isLow k) (c .contenders) (c′ .contenders) (q .as-many)
     (λ j h.
-    let p = and-true (station j c .active) (lowOf k (station j c .access)) h in
-    both-true (station j c′ .active) (lowOf k (station j c′ .access)) (q .each j .stays (p .0))
-    (low-quiet k (station j c) (station j c′) (q .each j) ∙ p .1))
+    let p = and-true (contender j c .active) (lowOf k (contender j c .access)) h in
+    both-true (contender j c′ .active) (lowOf k (contender j c′ .access)) (q .each j .stays (p .0))
+    (low-quiet k (contender j c) (contender j c′) (q .each j) ∙ p .1))
 
 module _ (x1 x2 x k n f f′ L i v : ℕ) (c c′ : Channel) (inv : Invariant x2 c) (q : Quiet c c′) (fall : f′ ≤ f) where
   left-quiet : Left x k n f L i v c → Left x k n f′ L i v c′
@@ -398,14 +398,14 @@ module _ (x1 x2 x k n f f′ L i v : ℕ) (c c′ : Channel) (inv : Invariant x2
         who = r .who;
         sending = omega (arith, r .sending, q .each (r .who) .sent-same);
         precede = λ j h.
-            let h′ : 1 ≤ station j c .access .sent = omega (arith, q .each j .sent-same) in
+            let h′ : 1 ≤ contender j c .access .sent = omega (arith, q .each j .sent-same) in
             rw (sender-kept x1 x2 c c′ inv q j h′) (r .precede j h′);
         left = omega (arith, r .left, q .each (r .who) .sent-same);
       })
 
 -- ---- along the stretch
 
-module _ {x1 x2 : ℕ} {e : Bool} {s s′ : Station} {d : Bool} {done : ℕ} where
+module _ {x1 x2 : ℕ} {e : Bool} {s s′ : Contender} {d : Bool} {done : ℕ} where
   -- no image grows
   length-later : Outcome x1 x2 e s s′ d done → s′ .access .length ≤ s .access .length
   length-later (completed r) = omega arith
@@ -413,23 +413,23 @@ module _ {x1 x2 : ℕ} {e : Bool} {s s′ : Station} {d : Bool} {done : ℕ} whe
   length-later (stopped r) = omega arith
   length-later (started r) = omega arith
   length-later (idled r) = omega arith
-  length-later (outside r) = omega (arith, ap (λ (z : Station). z .access .length) (r .as-before))
+  length-later (outside r) = omega (arith, ap (λ (z : Contender). z .access .length) (r .as-before))
 
 images-onward : (x1 x2 L : ℕ) (c : Channel) → Invariant x2 c → ImagesAtMost L c → ImagesAtMost L (onward x1 x2 c)
 images-onward x1 x2 L c inv most i =
     omega (
       arith,
       most i,
-      ap (λ (z : Station). z .access .length) (onward-station x1 x2 c i),
-      length-later (outcome x1 x2 (c .heardD) (station i c)),
+      ap (λ (z : Contender). z .access .length) (onward-contender x1 x2 c i),
+      length-later (outcome x1 x2 (c .heardD) (contender i c)),
     )
 
 -- nobody enters F7 at an opportunity
-active-onward : (x1 x2 : ℕ) (c : Channel) → activeCount (onward x1 x2 c .stations) ≤ activeCount (c .stations)
-unfolding station onward
+active-onward : (x1 x2 : ℕ) (c : Channel) → activeCount (onward x1 x2 c .contenders) ≤ activeCount (c .contenders)
+unfolding contender onward
 active-onward x1 x2 c =
-    howMany-le (λ s. s .active) (λ s. s .active) (onward x1 x2 c .stations) (c .stations) (sym (length-hears x1 x2 (c .heardD) _ true c))
-    (λ j h. sym (active-after x1 x2 (c .heardD) (station j c)) ∙ rw (onward-station x1 x2 c j) at h)
+    howMany-le (λ s. s .active) (λ s. s .active) (onward x1 x2 c .contenders) (c .contenders) (sym (length-hears x1 x2 (c .heardD) _ true c))
+    (λ j h. sym (active-after x1 x2 (c .heardD) (contender j c)) ∙ rw (onward-contender x1 x2 c j) at h)
 
 module _ (x1 x2 : ℕ) (c : Channel) (during : List Action) (h1 : 8 ≤ x1) (h2 : x1 + 2 ≤ x2) (start : Invariant x2 c) (st : Stretch x1 x2 c during) where
   abbrev o : ℕ → Channel
@@ -452,14 +452,14 @@ module _ (x1 x2 : ℕ) (c : Channel) (during : List Action) (h1 : 8 ≤ x1) (h2 
 
   module _ (k i : ℕ) (k1 : 1 ≤ k) where
     -- i's body, while its frame is held
-    body-at : (t : ℕ) → suc t < lasting → Waits k i (onward x1 x2 (o t)) → station i (o (suc t)) .body ≡ station i (o t) .body
+    body-at : (t : ℕ) → suc t < lasting → Waits k i (onward x1 x2 (o t)) → contender i (o (suc t)) .body ≡ contender i (o t) .body
     body-at t h w =
-        ap (λ (s : Station). s .body) (quiet t h .each i .kept (omega (arith, w .holds)))
-        ∙ ap (λ (s : Station). s .body) (onward-station x1 x2 (o t) i)
-        ∙ body-after x1 x2 (o t .heardD) (station i (o t))
+        ap (λ (s : Contender). s .body) (quiet t h .each i .kept (omega (arith, w .holds)))
+        ∙ ap (λ (s : Contender). s .body) (onward-contender x1 x2 (o t) i)
+        ∙ body-after x1 x2 (o t .heardD) (contender i (o t))
 
     -- what is completed after opportunity t is completed after it, counted from t
-    earlier : (t v : ℕ) → (Completes x1 x2 k i (o t) → ⊥) → station i (o (suc t)) .body ≡ station i (o t) .body
+    earlier : (t v : ℕ) → (Completes x1 x2 k i (o t) → ⊥) → contender i (o (suc t)) .body ≡ contender i (o t) .body
         → CompletedWithin x1 x2 c during k i (suc t) v → CompletedWithin x1 x2 c during k i t (suc v)
     earlier t v n b r =
         record {
@@ -485,11 +485,11 @@ module _ (x1 x2 : ℕ) (c : Channel) (during : List Action) (h1 : 8 ≤ x1) (h2 
         }
 
     -- n terminals in F7, images of at most L bits, and how many class 1 frames are still to go before, at each opportunity
-    module _ (k2 : k ≤ 2) (n L : ℕ) (actives : activeCount (run x1 x2 c during .stations) ≤ n)
+    module _ (k2 : k ≤ 2) (n L : ℕ) (actives : activeCount (run x1 x2 c during .contenders) ≤ n)
         (images : (t : ℕ) → t < lasting → ImagesAtMost L (o t)) (frames : ℕ → ℕ)
         (falls : (t : ℕ) → t < lasting → frames (suc t) ≤ frames t)
         (spent : (t g : ℕ) → t < lasting → Completes x1 x2 1 g (o t) → k ≡ 2 → suc (frames (suc t)) ≤ frames t) where
-      active-bound : (t : ℕ) → t < lasting → activeCount (onward x1 x2 (o t) .stations) ≤ n
+      active-bound : (t : ℕ) → t < lasting → activeCount (onward x1 x2 (o t) .contenders) ≤ n
       active-bound t h =
           omega (arith, active-onward x1 x2 (o t), active-at x1 x2 c during h1 h2 start st t h)
 
@@ -499,21 +499,21 @@ module _ (x1 x2 : ℕ) (c : Channel) (during : List Action) (h1 : 8 ≤ x1) (h2 
           left-onward x1 x2 k n L i h1 h2 k1 k2 (frames t) (frames (suc t)) (falls t h) (o t) (inv-at t h) w w′ e (images t h)
           (λ g d q two. spent t g h (record { in-F7 = d .in-F7; done = d .done-now ∙ q }) two) (active-bound t h) v l
 
-      waits-on : (t : ℕ) → t < lasting → Waits k i (o t) → (turnAt x1 x2 (o t .heardD) (station i (o t)) .done ≡ k → ⊥) → Waits k i (onward x1 x2 (o t))
+      waits-on : (t : ℕ) → t < lasting → Waits k i (o t) → (accessStepAt x1 x2 (o t .heardD) (contender i (o t)) .done ≡ k → ⊥) → Waits k i (onward x1 x2 (o t))
       waits-on t h w n = waits-hears x1 x2 (o t) (inv-at t h) k i k1 w (λ d. n (d .done))
 
       left-ends : (v t : ℕ) → t + v ≤ lasting → t < lasting → Echo (o t) → Waits k i (o t) → Left (level x1 x2 k) k n (frames t) L i v (o t)
           → CompletedWithin x1 x2 c during k i t v
       left-ends zero t h l e w r = absurd (left-some x2 (level x1 x2 k) k n (frames t) L i (o t) (inv-at t l) (images t l) r)
       left-ends (suc zero) t h l e w r =
-          by-test (eqb (turnAt x1 x2 (o t .heardD) (station i (o t)) .done) k)
+          by-test (eqb (accessStepAt x1 x2 (o t .heardD) (contender i (o t)) .done) k)
           (λ d. here t 1 (omega arith) (record { in-F7 = w .in-F7; done = eqb-true _ _ d }))
           (λ d.
           absurd
           (left-some x2 (level x1 x2 k) k n (frames (suc t)) L i (onward x1 x2 (o t)) (inv-onward t l) (images-onward x1 x2 L (o t) (inv-at t l) (images t l))
           (fall-at 0 t l e w (waits-on t l w (eqb-false _ _ d)) r)))
       left-ends (suc (suc v)) t h l e w r =
-          by-test (eqb (turnAt x1 x2 (o t .heardD) (station i (o t)) .done) k)
+          by-test (eqb (accessStepAt x1 x2 (o t .heardD) (contender i (o t)) .done) k)
           (λ d. here t (suc (suc v)) (omega arith) (record { in-F7 = w .in-F7; done = eqb-true _ _ d }))
           (λ d.
           let w′ = waits-on t l w (eqb-false _ _ d) in
@@ -528,7 +528,7 @@ module _ (x1 x2 : ℕ) (c : Channel) (during : List Action) (h1 : 8 ≤ x1) (h2 
       within v more ones p fr w m le len =
           let l : p < lasting = omega arith in
           let s : suc p < lasting = omega arith in
-          by-test (eqb (turnAt x1 x2 (o p .heardD) (station i (o p)) .done) k)
+          by-test (eqb (accessStepAt x1 x2 (o p .heardD) (contender i (o p)) .done) k)
           (λ d. here p (suc (suc v)) (omega arith) (record { in-F7 = w .in-F7; done = eqb-true _ _ d }))
           (λ d.
           let w′ = waits-on p l w (eqb-false _ _ d) in

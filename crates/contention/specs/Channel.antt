@@ -6,15 +6,15 @@ use Prim.Native.Nat.{ℕ}
 use lib.Dec.{eqb}
 use lib.ListN.{length, getD, replicate}
 use Rattle.dchannel.specs.declared.access.Access.{Access}
-use Rattle.dchannel.specs.declared.access.Turn.{Turn}
+use Rattle.dchannel.specs.declared.access.AccessStep.{AccessStep}
 use Rattle.hdlc.specs.Image.{image, isBody}
-use Rattle.dchannel.specs.Access.{fresh, entered, turn}
+use Rattle.dchannel.specs.Access.{fresh, entered, accessStep}
 use Rattle.dchannel.specs.Handing.{takenUp, left}
 use Rattle.hdlc.specs.Reading.{Reading, cleared, next}
 use Rattle.contention.specs.Change.{change}
 
 -- a terminal as the D channel sees it
-pub record Station : Type 0 where
+pub record Contender : Type 0 where
   -- "Activated means in F7"
   pub active : Bool
   pub access : Access
@@ -22,7 +22,7 @@ pub record Station : Type 0 where
   pub body : List ℕ
 
 pub record Channel : Type 0 where
-  pub stations : List Station
+  pub contenders : List Contender
   -- "the last combined D that the network heard"
   pub heardD : Bool
   pub reading : Reading
@@ -39,11 +39,11 @@ pub data Action : Type 0 where
   opportunity : Bool → Bool → Bool → Action
 
 -- a frame is taken by a terminal in F7 that holds none, for class 1 or 2, if it is a body (refusals 6 to 8); else nothing changes
-unfoldable pub mayHold : ℕ → List ℕ → Station → Bool
+unfoldable pub mayHold : ℕ → List ℕ → Contender → Bool
 mayHold k body s = (s .active && eqb (s .access .held) 0) && ((eqb k 1 || eqb k 2) && isBody body)
 
 -- "A terminal holds a frame from its accepted `d1` or `d2`"
-unfoldable pub holding : ℕ → List ℕ → Station → Station
+unfoldable pub holding : ℕ → List ℕ → Contender → Contender
 holding k body s =
     cond (mayHold k body s)
     (record {
@@ -54,47 +54,47 @@ holding k body s =
     s
 
 -- "C (0 on entering F7; ..)"
-unfoldable pub entering : Station → Station
+unfoldable pub entering : Contender → Contender
 entering s = cond (s .active) s (record { active = true; access = entered (s .access); body = s .body })
 
 -- "Leaving F7 drops a held frame and sets both levels to normal"
-unfoldable pub leaving : Station → Station
+unfoldable pub leaving : Contender → Contender
 leaving s = record { active = false; access = left (s .access) .access; body = s .body }
 
 -- the bit of its image that a terminal sends next
-unfoldable pub nextBit : Station → Bool
+unfoldable pub nextBit : Contender → Bool
 nextBit s = getD (image (s .body)) (s .access .sent) true
 
 -- a channel with these terminals
-abbrev pub withStations : Channel → List Station → Channel
-withStations c ss = record { stations = ss; heardD = c .heardD; reading = c .reading }
+abbrev pub withContenders : Channel → List Contender → Channel
+withContenders c ss = record { contenders = ss; heardD = c .heardD; reading = c .reading }
 
 module _ (x1 x2 : ℕ) where
   -- what an opportunity gives for one terminal
-  unfoldable pub turnAt : Bool → Station → Turn
-  turnAt e s = turn x1 x2 e (nextBit s) (s .access)
+  unfoldable pub accessStepAt : Bool → Contender → AccessStep
+  accessStepAt e s = accessStep x1 x2 e (nextBit s) (s .access)
 
   -- a terminal after the E: outside F7 it hears none
-  unfoldable pub hears : Bool → Station → Station
-  hears e s = cond (s .active) (record { active = true; access = turnAt e s .access; body = s .body }) s
+  unfoldable pub contenderAfterE : Bool → Contender → Contender
+  contenderAfterE e s = cond (s .active) (record { active = true; access = accessStepAt e s .access; body = s .body }) s
 
   -- the D that a terminal sends: 1 outside F7
-  unfoldable pub sendsD : Bool → Station → Bool
-  sendsD e s = cond (s .active) (turnAt e s .d) true
+  unfoldable pub sendsD : Bool → Contender → Bool
+  sendsD e s = cond (s .active) (accessStepAt e s .d) true
 
   -- all terminals together: 0 where any sends 0
-  unfoldable pub combinedD : Bool → List Station → Bool
-  combinedD e [] = true
-  combinedD e (s ∷ ss) = cond (sendsD e s) (combinedD e ss) false
+  unfoldable pub togetherD : Bool → List Contender → Bool
+  togetherD e [] = true
+  togetherD e (s ∷ ss) = cond (sendsD e s) (togetherD e ss) false
 
   unfoldable pub step : Channel → Action → Channel
-  step c (hand i k body) = withStations c (change (holding k body) i (c .stations))
-  step c (enter i) = withStations c (change entering i (c .stations))
-  step c (leave i) = withStations c (change leaving i (c .stations))
-  step c clear = record { stations = c .stations; heardD = c .heardD; reading = cleared }
+  step c (hand i k body) = withContenders c (change (holding k body) i (c .contenders))
+  step c (enter i) = withContenders c (change entering i (c .contenders))
+  step c (leave i) = withContenders c (change leaving i (c .contenders))
+  step c clear = record { contenders = c .contenders; heardD = c .heardD; reading = cleared }
   step c (opportunity e bit on) =
       record {
-        stations = map (hears e) (c .stations);
+        contenders = map (contenderAfterE e) (c .contenders);
         heardD = bit;
         reading = cond on (next (c .reading) bit) (c .reading);
       }
@@ -104,9 +104,9 @@ module _ (x1 x2 : ℕ) where
   run c (a ∷ more) = run (step c a) more
 
 -- a terminal outside F7 with no frame
-abbrev pub freshStation : Station
-freshStation = record { active = false; access = fresh; body = [] }
+abbrev pub freshContender : Contender
+freshContender = record { active = false; access = fresh; body = [] }
 
 -- "A fresh bus", with n terminals: the last D heard is 1 (docs/DECISIONS.md, reading 4)
 unfoldable pub freshChannel : ℕ → Channel
-freshChannel n = record { stations = replicate n freshStation; heardD = true; reading = cleared }
+freshChannel n = record { contenders = replicate n freshContender; heardD = true; reading = cleared }

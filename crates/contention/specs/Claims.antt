@@ -8,7 +8,7 @@ use lib.ListN.{length, getD}
 use Rattle.hdlc.specs.Image.{image}
 use Rattle.hdlc.specs.Reading.Said.{torn, heard}
 use Rattle.contention.specs.Channel.{Channel, Action, freshChannel, run}
-use Rattle.contention.specs.Stretch.{Stretch, opportunities, station, Waits, Completes, Begins, saidAt, activeCount, ImagesAtMost}
+use Rattle.contention.specs.Stretch.{Stretch, opportunities, contender, Waits, Completes, Begins, saidAt, activeCount, ImagesAtMost}
 use Rattle.contention.specs.Invariant.{Invariant}
 
 -- opportunity t of a list of them
@@ -42,7 +42,7 @@ module _ (x1 x2 : ℕ) (c : Channel) (during : List Action) where
     pub completed : Completes x1 x2 k i (at opps when)
     -- it is the frame held at p
     pub same-frame : (t : ℕ) → p ≤ t → t < when → Completes x1 x2 k i (at opps t) → ⊥
-    pub same-body : station i (at opps when) .body ≡ station i (at opps p) .body
+    pub same-body : contender i (at opps when) .body ≡ contender i (at opps p) .body
 
   -- "In class 1, if the stretch lasts that long, a frame so waiting is completed within (n + 1) times (L + 8) D opportunities, counted
   -- from the first of the stretch at which it so waits", with x1 for 8: p is any opportunity at which it so waits, the first included.
@@ -50,7 +50,7 @@ module _ (x1 x2 : ℕ) (c : Channel) (during : List Action) where
   abbrev pub WaitEnds : Type 0
   WaitEnds =
       (n L i p : ℕ) →
-      activeCount (run x1 x2 c during .stations) ≤ n →
+      activeCount (run x1 x2 c during .contenders) ≤ n →
       ((t : ℕ) → t < length opps → ImagesAtMost L (at opps t)) →
       Waits 1 i (at opps p) →
       p + waitBound n L x1 ≤ length opps →
@@ -60,25 +60,25 @@ module _ (x1 x2 : ℕ) (c : Channel) (during : List Action) where
   -- p + 1 to p + 8: the sending goes on at each of them.
   abbrev pub NoStopInFlag : Type 0
   NoStopInFlag =
-      (j p s : ℕ) → Begins x1 x2 j (at opps p) → s ≤ 9 → p + s < length opps → station j (at opps (p + s)) .access .sent ≡ s
+      (j p s : ℕ) → Begins x1 x2 j (at opps p) → s ≤ 9 → p + s < length opps → contender j (at opps (p + s)) .access .sent ≡ s
 
   -- the frame that terminal j completes at opportunity u was begun at p or later, as many opportunities before u as its image has bits
   pub record BegunSince (p j u : ℕ) : Type 0 where
     pub when : ℕ
     pub since : p ≤ when
     pub begins : Begins x1 x2 j (at opps when)
-    pub same-body : station j (at opps when) .body ≡ station j (at opps u) .body
-    pub bits-since : when + length (image (station j (at opps u) .body)) ≡ u
+    pub same-body : contender j (at opps when) .body ≡ contender j (at opps u) .body
+    pub bits-since : when + length (image (contender j (at opps u) .body)) ≡ u
 
   -- What is heard at opportunity t's D and completed at the next one's E. At one D one body is heard at most, so "It is heard once" needs
   -- no words of its own.
   pub record HeardWhole (p t : ℕ) : Type 0 where
     -- "A body is heard at its D exactly when a frame with that body is completed at the next one's E"
     pub heard-completed : (body : List ℕ) → saidAt x1 x2 (at opps t) ≡ heard body →
-        (j : ℕ) × (k : ℕ) × (1 ≤ k) × Completes x1 x2 k j (at opps (t + 1)) × (station j (at opps (t + 1)) .body ≡ body)
+        (j : ℕ) × (k : ℕ) × (1 ≤ k) × Completes x1 x2 k j (at opps (t + 1)) × (contender j (at opps (t + 1)) .body ≡ body)
     -- .. and "all frames completed there have that body"
     pub completed-heard : (j k : ℕ) → 1 ≤ k → Completes x1 x2 k j (at opps (t + 1)) →
-        saidAt x1 x2 (at opps t) ≡ heard (station j (at opps (t + 1)) .body)
+        saidAt x1 x2 (at opps t) ≡ heard (contender j (at opps (t + 1)) .body)
     -- ".. and were begun in the stretch"
     pub begun : (j k : ℕ) → 1 ≤ k → Completes x1 x2 k j (at opps (t + 1)) → BegunSince p j (t + 1)
     -- "nothing is torn"

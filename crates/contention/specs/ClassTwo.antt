@@ -4,22 +4,22 @@ use mathlib.Core.List.{List, [], _∷_}
 use Prim.Native.Nat.{ℕ, _+_, _≤_, _<_}
 use lib.Dec.{eqb}
 use lib.ListN.{length}
-use Rattle.contention.specs.Channel.{Station, Channel, Action, mayHold, step, run}
+use Rattle.contention.specs.Channel.{Contender, Channel, Action, mayHold, step, run}
 use Rattle.contention.specs.Channel.Action.{hand, enter, leave, clear, opportunity}
-use Rattle.contention.specs.Stretch.{station, Waits, howMany, activeCount, ImagesAtMost}
+use Rattle.contention.specs.Stretch.{contender, Waits, howMany, activeCount, ImagesAtMost}
 use Rattle.contention.specs.Claims.{at, waitBound, opps, CompletedWithin}
 
 -- a class 1 frame is held
-abbrev pub holdsOne : Station → Bool
+abbrev pub holdsOne : Contender → Bool
 holdsOne s = eqb (s .access .held) 1
 
 -- how many class 1 frames are held
 unfoldable pub onesHeld : Channel → ℕ
-onesHeld c = howMany holdsOne (c .stations)
+onesHeld c = howMany holdsOne (c .contenders)
 
 -- whether an action hands over a class 1 frame that is taken
 abbrev pub takesOne : Channel → Action → Bool
-takesOne c (hand i k body) = eqb k 1 && mayHold k body (station i c)
+takesOne c (hand i k body) = eqb k 1 && mayHold k body (contender i c)
 takesOne c (enter i) = false
 takesOne c (leave i) = false
 takesOne c clear = false
@@ -36,7 +36,7 @@ module _ (x1 x2 : ℕ) where
   abbrev pub WaitEndsClassTwo : Channel → List Action → Type 0
   WaitEndsClassTwo c during =
       (n L ones i p : ℕ) →
-      activeCount (run x1 x2 c during .stations) ≤ n →
+      activeCount (run x1 x2 c during .contenders) ≤ n →
       ((t : ℕ) → t < length (opps x1 x2 c during) → ImagesAtMost L (at (opps x1 x2 c during) t)) →
       onesHeld c + onesTaken c during ≤ ones →
       Waits 2 i (at (opps x1 x2 c during) p) →

@@ -6,11 +6,11 @@ use lib.ListN.{length, getD, take}
 use Rattle.dchannel.specs.Access.{fresh}
 use Rattle.hdlc.specs.Image.{image, IsBody}
 use Rattle.hdlc.specs.Ones.{endingOnes}
-use Rattle.contention.specs.Channel.{Station, Channel}
-use Rattle.contention.specs.Stretch.{station}
+use Rattle.contention.specs.Channel.{Contender, Channel}
+use Rattle.contention.specs.Stretch.{contender}
 
 -- one terminal's record is in order
-pub record Sound (x2 : ℕ) (s : Station) : Type 0 where
+pub record Sound (x2 : ℕ) (s : Contender) : Type 0 where
   -- C is at most the low value of class 2
   pub counted : s .access .count ≤ x2 + 1
   -- outside F7 no frame is held and both levels are normal
@@ -23,11 +23,11 @@ pub record Sound (x2 : ℕ) (s : Station) : Type 0 where
   pub last-bit : (n : ℕ) → s .access .sent ≡ suc n → s .access .last ≡ getD (image (s .body)) n true
 
 pub record Invariant (x2 : ℕ) (c : Channel) : Type 0 where
-  pub sound : (i : ℕ) → Sound x2 (station i c)
+  pub sound : (i : ℕ) → Sound x2 (contender i c)
   -- all that are sending have sent equally many bits, and all but the last of these are equal
-  pub in-phase : (i j : ℕ) → 1 ≤ station i c .access .sent → 1 ≤ station j c .access .sent →
-      (station i c .access .sent ≡ station j c .access .sent) ×
-      ((t : ℕ) → t + 1 < station i c .access .sent → getD (image (station i c .body)) t true ≡ getD (image (station j c .body)) t true)
+  pub in-phase : (i j : ℕ) → 1 ≤ contender i c .access .sent → 1 ≤ contender j c .access .sent →
+      (contender i c .access .sent ≡ contender j c .access .sent) ×
+      ((t : ℕ) → t + 1 < contender i c .access .sent → getD (image (contender i c .body)) t true ≡ getD (image (contender j c .body)) t true)
   -- while one goes on, every C is at most the 1s that end what it has heard of itself: so nobody starts
-  pub held-back : (i j n : ℕ) → station i c .access .sent ≡ suc (suc n) →
-      station j c .access .count ≤ endingOnes (take (suc n) (image (station i c .body)))
+  pub held-back : (i j n : ℕ) → contender i c .access .sent ≡ suc (suc n) →
+      contender j c .access .count ≤ endingOnes (take (suc n) (image (contender i c .body)))

@@ -7,11 +7,11 @@ use Prim.Native.Nat.{ℕ, zero, suc, _+_, _-_}
 use lib.Dec.{eqb}
 use Rattle.hdlc.specs.Bits.{lowBits, bodyBits, numberLowFirst, octets}
 use Rattle.hdlc.specs.Image.{stuff, image, allOctets, isBody}
-use Rattle.dchannel.specs.Access.{entered, countAfter, lowAfter, afterE, lowOf, threshold, mayStart, sendsNext, stops, completes, idles, turn}
+use Rattle.dchannel.specs.Access.{entered, countAfter, lowAfter, afterE, lowOf, threshold, mayStart, sendsNext, stops, completes, idles, accessStep}
 use Rattle.hdlc.specs.Reading.{Said, startsWith, unstuff, reversed, rest, contents, between, aborted, says, said, next}
 use Rattle.hdlc.specs.Reading.Said.{nothing, torn, heard}
 use Rattle.dchannel.specs.Handing.{takenUp, left}
-use Rattle.contention.specs.Channel.{Station, Channel, Action, mayHold, holding, entering, leaving, nextBit, turnAt, hears, sendsD, combinedD, step, freshChannel}
+use Rattle.contention.specs.Channel.{Contender, Channel, Action, mayHold, holding, entering, leaving, nextBit, accessStepAt, contenderAfterE, sendsD, togetherD, step, freshChannel}
 use Rattle.contention.specs.Change.{change}
 use Rattle.contention.specs.Channel.Action.{hand, enter}
 use Rattle.contention.specs.Stretch.{saidAt, onward}
@@ -30,11 +30,11 @@ pub data Note : Type 0 where
   bits-torn : ℕ → Note
   bits-sent : ℕ → List ℕ → Note
 
-abbrev doneNotes : ℕ → ℕ → Bool → List Station → List Note
+abbrev doneNotes : ℕ → ℕ → Bool → List Contender → List Note
 doneNotes t i e [] = []
 doneNotes t i e (s ∷ ss) =
     let more = doneNotes t (suc i) e ss in
-    cond (s .active) (cond (eqb (turnAt 8 10 e s .done) 0) more (done t i (turnAt 8 10 e s .done) ∷ more)) more
+    cond (s .active) (cond (eqb (accessStepAt 8 10 e s .done) 0) more (done t i (accessStepAt 8 10 e s .done) ∷ more)) more
 
 abbrev saidNotes : ℕ → Said → List Note
 saidNotes t nothing = []
@@ -44,7 +44,7 @@ saidNotes t (heard body) = body-heard t body ∷ []
 -- the notes of so many opportunities from number t on, and the channel after them
 abbrev through : ℕ → ℕ → Channel → List Note
 through zero t c = []
-through (suc k) t c = doneNotes t 0 (c .heardD) (c .stations) ++ (saidNotes t (saidAt 8 10 c) ++ through k (suc t) (onward 8 10 c))
+through (suc k) t c = doneNotes t 0 (c .heardD) (c .contenders) ++ (saidNotes t (saidAt 8 10 c) ++ through k (suc t) (onward 8 10 c))
 
 abbrev past : ℕ → Channel → Channel
 past zero c = c
@@ -53,12 +53,12 @@ past (suc k) c = past k (onward 8 10 c)
 abbrev notes : ℕ → Channel → List Cue → List Note
 notes t c [] = []
 notes t c (act a ∷ more) = notes t (step 8 10 c a) more
-notes t c (ask ∷ more) = bits-sent t (map (λ (s : Station). s .access .sent) (c .stations)) ∷ notes t c more
+notes t c (ask ∷ more) = bits-sent t (map (λ (s : Contender). s .access .sent) (c .contenders)) ∷ notes t c more
 notes t c (calm k ∷ more) = through k t c ++ notes (t + k) (past k c) more
 
 -- the notes of a scene with n fresh terminals
 pub scene : ℕ → List Cue → List Note
-unfolding lowBits bodyBits numberLowFirst octets stuff image entered countAfter lowAfter afterE lowOf threshold mayStart sendsNext stops completes idles turn startsWith unstuff reversed rest contents between aborted says said next allOctets isBody change mayHold holding entering leaving nextBit turnAt hears sendsD combinedD step freshChannel saidAt onward takenUp left
+unfolding lowBits bodyBits numberLowFirst octets stuff image entered countAfter lowAfter afterE lowOf threshold mayStart sendsNext stops completes idles accessStep startsWith unstuff reversed rest contents between aborted says said next allOctets isBody change mayHold holding entering leaving nextBit accessStepAt contenderAfterE sendsD togetherD step freshChannel saidAt onward takenUp left
 scene n cues = notes 0 (freshChannel n) cues
 
 -- One terminal: C is 8 after eight Es of 1, at opportunity 7, where the first bit leaves. The last of 24 bits leaves at opportunity 30,

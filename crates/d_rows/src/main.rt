@@ -1,9 +1,9 @@
 // Prints some images, and what the reader says to bit strings; the last and longest of these is read from standard input.
+use d_reader::Reader;
+use d_reader::ReaderAnswer;
 use libc::STDIN_FILENO;
 use libc::STDOUT_FILENO;
 use packing::image::Imaged;
-use reader::Reader;
-use reader::ReaderAnswer;
 
 fn text(t: &[u8]) {
     io::write_all(STDOUT_FILENO, t);

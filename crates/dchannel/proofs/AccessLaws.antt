@@ -13,17 +13,17 @@ use lib.Seq.{getD-at, append-snoc, take-suc}
 use borrow.Author.Tests.{ltb-true, ltb-false, leb-true, leb-false, eqb-true, eqb-false, lt-ltb, le-ltb, le-leb, lt-leb, eq-eqb, ne-eqb, not-true}
 use Rattle.hdlc.specs.Bits.{sameBit}
 use Rattle.hdlc.specs.Image.{image, shortestImage, longestImage, IsBody}
-use Rattle.dchannel.specs.Access.{entered, countAfter, lowAfter, afterE, sending, lowOf, threshold, mayStart, sendsNext, stops, completes, idles, turn}
+use Rattle.dchannel.specs.Access.{entered, countAfter, lowAfter, afterE, sending, lowOf, threshold, mayStart, sendsNext, stops, completes, idles, accessStep}
 use Rattle.dchannel.specs.AtRest.{atRest}
 use Rattle.dchannel.specs.Handing.{classNumber, isImageLength, takenUp, handed, left}
 use Rattle.hdlc.specs.Ones.{endingOnes}
-use Rattle.cases.proofs.ByCases.{by-test, both}
-use Rattle.cases.proofs.Operators.{and-both}
+use Rattle.test_lemmas.proofs.ByCases.{by-test, both}
+use Rattle.test_lemmas.proofs.Operators.{and-both}
 use Rattle.hdlc.proofs.OnesLaws.{ending-one}
 use Rattle.hdlc.proofs.ImageLaws.{length-image, image-least, image-most}
 use Rattle.dchannel.specs.declared.access.Access.{Access}
 use Rattle.dchannel.specs.declared.access.Class.{Class}
-use Rattle.dchannel.specs.declared.access.Turn.{Turn}
+use Rattle.dchannel.specs.declared.access.AccessStep.{AccessStep}
 
 pub same-refl : (b : Bool) → sameBit b b ≡ true
 same-refl true = refl
@@ -52,34 +52,34 @@ differ-same false false d = absurd (d refl)
 
 -- The five ways of an opportunity, with what decides between them
 module _ (x1 x2 : ℕ) (e next : Bool) (a : Access) where
-  pub goes-on : 0 < a .sent → e ≡ a .last → a .sent < a .length → turn x1 x2 e next a ≡ sendsNext next (afterE x1 x2 e a)
-  unfolding turn afterE
+  pub goes-on : 0 < a .sent → e ≡ a .last → a .sent < a .length → accessStep x1 x2 e next a ≡ sendsNext next (afterE x1 x2 e a)
+  unfolding accessStep afterE
   goes-on s q l = rw (lt-ltb 0 (a .sent) s, q, same-refl (a .last), lt-leb (a .length) (a .sent) l)
 
-  pub completes-it : 0 < a .sent → e ≡ a .last → a .length ≤ a .sent → turn x1 x2 e next a ≡ completes (afterE x1 x2 e a)
-  unfolding turn afterE
+  pub completes-it : 0 < a .sent → e ≡ a .last → a .length ≤ a .sent → accessStep x1 x2 e next a ≡ completes (afterE x1 x2 e a)
+  unfolding accessStep afterE
   completes-it s q l = rw (lt-ltb 0 (a .sent) s, q, same-refl (a .last), le-leb (a .length) (a .sent) l)
 
-  pub stops-it : 0 < a .sent → (e ≡ a .last → ⊥) → turn x1 x2 e next a ≡ stops (afterE x1 x2 e a)
-  unfolding turn afterE
+  pub stops-it : 0 < a .sent → (e ≡ a .last → ⊥) → accessStep x1 x2 e next a ≡ stops (afterE x1 x2 e a)
+  unfolding accessStep afterE
   stops-it s d = rw (lt-ltb 0 (a .sent) s, differ-same e (a .last) d)
 
-  pub starts-it : a .sent ≡ 0 → mayStart x1 x2 (afterE x1 x2 e a) ≡ true → turn x1 x2 e next a ≡ sendsNext next (afterE x1 x2 e a)
-  unfolding turn
+  pub starts-it : a .sent ≡ 0 → mayStart x1 x2 (afterE x1 x2 e a) ≡ true → accessStep x1 x2 e next a ≡ sendsNext next (afterE x1 x2 e a)
+  unfolding accessStep
   starts-it s m = rw (le-ltb 0 (a .sent) (omega arith), m)
 
-  pub idles-it : a .sent ≡ 0 → mayStart x1 x2 (afterE x1 x2 e a) ≡ false → turn x1 x2 e next a ≡ idles (afterE x1 x2 e a)
-  unfolding turn
+  pub idles-it : a .sent ≡ 0 → mayStart x1 x2 (afterE x1 x2 e a) ≡ false → accessStep x1 x2 e next a ≡ idles (afterE x1 x2 e a)
+  unfolding accessStep
   idles-it s m = rw (le-ltb 0 (a .sent) (omega arith), m)
 
   -- every property of an opportunity, by these ways
-  pub by-ways {ℓ} : (P : Turn → Type ℓ)
+  pub by-ways {ℓ} : (P : AccessStep → Type ℓ)
       → (0 < a .sent → e ≡ a .last → a .sent < a .length → P (sendsNext next (afterE x1 x2 e a)))
       → (0 < a .sent → e ≡ a .last → a .length ≤ a .sent → P (completes (afterE x1 x2 e a)))
       → (0 < a .sent → (e ≡ a .last → ⊥) → P (stops (afterE x1 x2 e a)))
       → (a .sent ≡ 0 → mayStart x1 x2 (afterE x1 x2 e a) ≡ true → P (sendsNext next (afterE x1 x2 e a)))
       → (a .sent ≡ 0 → mayStart x1 x2 (afterE x1 x2 e a) ≡ false → P (idles (afterE x1 x2 e a)))
-      → P (turn x1 x2 e next a)
+      → P (accessStep x1 x2 e next a)
   by-ways P go complete stop start idle =
       by-test (sending a)
       (λ s.
@@ -109,10 +109,10 @@ unfoldable pub leavesAt : ℕ → ℕ → Bool → Access → Bool
 leavesAt x1 x2 e a = cond (sending a) (cond (sameBit e (a .last)) (ltb (a .sent) (a .length)) false) (mayStart x1 x2 (afterE x1 x2 e a))
 
 -- a bit leaves exactly where `leavesAt` says so, and then the opportunity is that of the next bit ..
-pub turn-leaves : (x1 x2 : ℕ) (e next : Bool) (a : Access) → leavesAt x1 x2 e a ≡ true
-    → turn x1 x2 e next a ≡ sendsNext next (afterE x1 x2 e a)
+pub access-step-leaves : (x1 x2 : ℕ) (e next : Bool) (a : Access) → leavesAt x1 x2 e a ≡ true
+    → accessStep x1 x2 e next a ≡ sendsNext next (afterE x1 x2 e a)
 unfolding leavesAt
-turn-leaves x1 x2 e next a =
+access-step-leaves x1 x2 e next a =
     by-ways x1 x2 e next a (λ t. leavesAt x1 x2 e a ≡ true → t ≡ sendsNext next (afterE x1 x2 e a)) (λ s q l h. refl)
     (λ s q l h. absurd (true≢false (sym h ∙ rw (lt-ltb 0 (a .sent) s, q, same-refl (a .last), le-ltb (a .sent) (a .length) l))))
     (λ s d h. absurd (true≢false (sym h ∙ rw (lt-ltb 0 (a .sent) s, differ-same e (a .last) d))))
@@ -121,22 +121,22 @@ turn-leaves x1 x2 e next a =
 
 -- .. elsewhere a sending under way ends, and a terminal that was not sending stays so ..
 module _ (x1 x2 : ℕ) (e next : Bool) (a : Access) (h : leavesAt x1 x2 e a ≡ false) where
-  pub turn-ends : 0 < a .sent → turn x1 x2 e next a ≡ cond (sameBit e (a .last)) (completes (afterE x1 x2 e a)) (stops (afterE x1 x2 e a))
+  pub access-step-ends : 0 < a .sent → accessStep x1 x2 e next a ≡ cond (sameBit e (a .last)) (completes (afterE x1 x2 e a)) (stops (afterE x1 x2 e a))
   unfolding leavesAt
-  turn-ends s =
+  access-step-ends s =
       by-test (sameBit e (a .last))
       (λ q. rw q (completes-it x1 x2 e next a s (same-equal e (a .last) q) (ltb-false (a .sent) (a .length) (rw (lt-ltb 0 (a .sent) s, q) at h))))
       (λ q. rw q (stops-it x1 x2 e next a s (same-differ e (a .last) q)))
 
-  pub turn-idles : a .sent ≡ 0 → turn x1 x2 e next a ≡ idles (afterE x1 x2 e a)
+  pub access-step-idles : a .sent ≡ 0 → accessStep x1 x2 e next a ≡ idles (afterE x1 x2 e a)
   unfolding leavesAt
-  turn-idles s = idles-it x1 x2 e next a s (rw (le-ltb 0 (a .sent) (omega arith)) at h)
+  access-step-idles s = idles-it x1 x2 e next a s (rw (le-ltb 0 (a .sent) (omega arith)) at h)
 
 -- .. and takes no notice of the next bit
-pub turn-silent : (x1 x2 : ℕ) (e n m : Bool) (a : Access) → leavesAt x1 x2 e a ≡ false → turn x1 x2 e n a ≡ turn x1 x2 e m a
+pub access-step-silent : (x1 x2 : ℕ) (e n m : Bool) (a : Access) → leavesAt x1 x2 e a ≡ false → accessStep x1 x2 e n a ≡ accessStep x1 x2 e m a
 unfolding leavesAt
-turn-silent x1 x2 e n m a =
-    by-ways x1 x2 e n a (λ t. leavesAt x1 x2 e a ≡ false → t ≡ turn x1 x2 e m a)
+access-step-silent x1 x2 e n m a =
+    by-ways x1 x2 e n a (λ t. leavesAt x1 x2 e a ≡ false → t ≡ accessStep x1 x2 e m a)
     (λ s q l h. absurd (true≢false (rw (lt-ltb 0 (a .sent) s, q, same-refl (a .last), lt-ltb (a .sent) (a .length) l) at h)))
     (λ s q l h. sym (completes-it x1 x2 e m a s q l)) (λ s d h. sym (stops-it x1 x2 e m a s d))
     (λ s u h. absurd (true≢false (rw (le-ltb 0 (a .sent) (omega arith), u) at h))) (λ s u h. sym (idles-it x1 x2 e m a s u))
@@ -152,10 +152,10 @@ leaves-room x1 x2 e a room h =
     omega (arith, ltb-false 0 (a .sent) s))
 
 -- .. so that two next bits that agree wherever the image has one give the same opportunity
-pub turn-next : (x1 x2 : ℕ) (e n m : Bool) (a : Access) → ((a .held ≡ 0 → ⊥) → 1 ≤ a .length) → (a .sent < a .length → n ≡ m)
-    → turn x1 x2 e n a ≡ turn x1 x2 e m a
-turn-next x1 x2 e n m a room same =
-    by-test (leavesAt x1 x2 e a) (λ t. rw (same (leaves-room x1 x2 e a room t))) (λ t. turn-silent x1 x2 e n m a t)
+pub access-step-next : (x1 x2 : ℕ) (e n m : Bool) (a : Access) → ((a .held ≡ 0 → ⊥) → 1 ≤ a .length) → (a .sent < a .length → n ≡ m)
+    → accessStep x1 x2 e n a ≡ accessStep x1 x2 e m a
+access-step-next x1 x2 e n m a room same =
+    by-test (leavesAt x1 x2 e a) (λ t. rw (same (leaves-room x1 x2 e a room t))) (λ t. access-step-silent x1 x2 e n m a t)
 
 -- C: "A terminal in F7 counts running 1s of E as C"; it "need not pass 11", x2 + 1
 pub count-zero : (x2 c : ℕ) → countAfter x2 false c ≡ 0
@@ -210,9 +210,9 @@ unfolding entered
 entering a = (refl, refl, refl, refl)
 
 -- whatever the terminal does, C is the one that E leaves: it runs while sending too, and neither a stop nor a completion touches it
-pub turn-count : (x1 x2 : ℕ) (e next : Bool) (a : Access) → turn x1 x2 e next a .access .count ≡ countAfter x2 e (a .count)
+pub access-step-count : (x1 x2 : ℕ) (e next : Bool) (a : Access) → accessStep x1 x2 e next a .access .count ≡ countAfter x2 e (a .count)
 unfolding sendsNext completes stops idles afterE
-turn-count x1 x2 e next a =
+access-step-count x1 x2 e next a =
     by-ways x1 x2 e next a (λ t. t .access .count ≡ countAfter x2 e (a .count)) (λ s q l. refl) (λ s q l. refl) (λ s d. refl) (λ s m. refl)
     (λ s m. refl)
 
@@ -236,32 +236,32 @@ level-returns-only x c h =
     (λ t. absurd (true≢false (sym (level-stays x c true (eqb-false c (x + 1) t)) ∙ h)))
 
 -- both levels after an opportunity: they follow C, but for a completed class, which goes low
-pub turn-low1 : (x1 x2 : ℕ) (e next : Bool) (a : Access)
-    → turn x1 x2 e next a .access .low1 ≡ cond (eqb (turn x1 x2 e next a .done) 1) true (lowAfter x1 (countAfter x2 e (a .count)) (a .low1))
+pub access-step-low1 : (x1 x2 : ℕ) (e next : Bool) (a : Access)
+    → accessStep x1 x2 e next a .access .low1 ≡ cond (eqb (accessStep x1 x2 e next a .done) 1) true (lowAfter x1 (countAfter x2 e (a .count)) (a .low1))
 unfolding sendsNext completes stops idles afterE
-turn-low1 x1 x2 e next a =
+access-step-low1 x1 x2 e next a =
     by-ways x1 x2 e next a (λ t. t .access .low1 ≡ cond (eqb (t .done) 1) true (lowAfter x1 (countAfter x2 e (a .count)) (a .low1)))
     (λ s q l. refl) (λ s q l. refl) (λ s d. refl) (λ s m. refl) (λ s m. refl)
 
-pub turn-low2 : (x1 x2 : ℕ) (e next : Bool) (a : Access)
-    → turn x1 x2 e next a .access .low2 ≡ cond (eqb (turn x1 x2 e next a .done) 2) true (lowAfter x2 (countAfter x2 e (a .count)) (a .low2))
+pub access-step-low2 : (x1 x2 : ℕ) (e next : Bool) (a : Access)
+    → accessStep x1 x2 e next a .access .low2 ≡ cond (eqb (accessStep x1 x2 e next a .done) 2) true (lowAfter x2 (countAfter x2 e (a .count)) (a .low2))
 unfolding sendsNext completes stops idles afterE
-turn-low2 x1 x2 e next a =
+access-step-low2 x1 x2 e next a =
     by-ways x1 x2 e next a (λ t. t .access .low2 ≡ cond (eqb (t .done) 2) true (lowAfter x2 (countAfter x2 e (a .count)) (a .low2)))
     (λ s q l. refl) (λ s q l. refl) (λ s d. refl) (λ s m. refl) (λ s m. refl)
 
 -- D is 1 unless a bit is sent, and then it is the image's bit
-pub turn-d : (x1 x2 : ℕ) (e next : Bool) (a : Access) → turn x1 x2 e next a .d ≡ cond (sending (turn x1 x2 e next a .access)) next true
+pub access-step-d : (x1 x2 : ℕ) (e next : Bool) (a : Access) → accessStep x1 x2 e next a .d ≡ cond (sending (accessStep x1 x2 e next a .access)) next true
 unfolding sendsNext completes stops idles afterE
-turn-d x1 x2 e next a =
+access-step-d x1 x2 e next a =
     by-ways x1 x2 e next a (λ t. t .d ≡ cond (sending (t .access)) next true) (λ s q l. rw (lt-ltb 0 (a .sent + 1) (omega arith))) (λ s q l. refl)
     (λ s d. refl) (λ s m. rw (lt-ltb 0 (a .sent + 1) (omega arith))) (λ s m. rw s)
 
 -- while it sends, the bit that left last is remembered for its echo
-pub turn-last : (x1 x2 : ℕ) (e next : Bool) (a : Access) → 0 < turn x1 x2 e next a .access .sent
-    → turn x1 x2 e next a .access .last ≡ turn x1 x2 e next a .d
+pub access-step-last : (x1 x2 : ℕ) (e next : Bool) (a : Access) → 0 < accessStep x1 x2 e next a .access .sent
+    → accessStep x1 x2 e next a .access .last ≡ accessStep x1 x2 e next a .d
 unfolding sendsNext completes stops idles afterE
-turn-last x1 x2 e next a =
+access-step-last x1 x2 e next a =
     by-ways x1 x2 e next a (λ t. 0 < t .access .sent → t .access .last ≡ t .d) (λ s q l h. refl) (λ s q l h. refl) (λ s d h. refl)
     (λ s m h. refl) (λ s m h. absurd (omega arith))
 
@@ -292,7 +292,7 @@ pub record Ready (x1 x2 : ℕ) (e : Bool) (a : Access) : Type 0 where
 
 -- a start: the first bit leaves
 abbrev pub Starts : ℕ → ℕ → Bool → Bool → Access → Type 0
-Starts x1 x2 e next a = (a .sent ≡ 0) × (turn x1 x2 e next a .access .sent ≡ 1)
+Starts x1 x2 e next a = (a .sent ≡ 0) × (accessStep x1 x2 e next a .access .sent ≡ 1)
 
 pub ready-may : (x1 x2 : ℕ) (e : Bool) (a : Access) → Ready x1 x2 e a → mayStart x1 x2 (afterE x1 x2 e a) ≡ true
 ready-may x1 x2 e a r =
@@ -365,11 +365,11 @@ unfolding threshold lowOf
 class2-low e next a s h l = start-at 8 10 e next a 11 (rw (h, l)) s (λ z. omega arith)
 
 -- the first bit of a start goes to the D of the same opportunity
-pub start-bit : (x1 x2 : ℕ) (e next : Bool) (a : Access) → Starts x1 x2 e next a → turn x1 x2 e next a .d ≡ next
-start-bit x1 x2 e next a s = turn-d x1 x2 e next a ∙ rw (s .1)
+pub start-bit : (x1 x2 : ℕ) (e next : Bool) (a : Access) → Starts x1 x2 e next a → accessStep x1 x2 e next a .d ≡ next
+start-bit x1 x2 e next a s = access-step-d x1 x2 e next a ∙ rw (s .1)
 
 -- A stop. "A sent bit unequal to its echo stops the sending; the frame is held and starts over": D is 1, C and the levels follow E alone
-pub record Stopped (x1 x2 : ℕ) (e : Bool) (a : Access) (t : Turn) : Type 0 where
+pub record Stopped (x1 x2 : ℕ) (e : Bool) (a : Access) (t : AccessStep) : Type 0 where
   pub held : t .access .held ≡ a .held
   pub length : t .access .length ≡ a .length
   pub sent : t .access .sent ≡ 0
@@ -379,34 +379,34 @@ pub record Stopped (x1 x2 : ℕ) (e : Bool) (a : Access) (t : Turn) : Type 0 whe
   pub low1 : t .access .low1 ≡ lowAfter x1 (countAfter x2 e (a .count)) (a .low1)
   pub low2 : t .access .low2 ≡ lowAfter x2 (countAfter x2 e (a .count)) (a .low2)
 
-pub stop : (x1 x2 : ℕ) (e next : Bool) (a : Access) → 0 < a .sent → (e ≡ a .last → ⊥) → Stopped x1 x2 e a (turn x1 x2 e next a)
+pub stop : (x1 x2 : ℕ) (e next : Bool) (a : Access) → 0 < a .sent → (e ≡ a .last → ⊥) → Stopped x1 x2 e a (accessStep x1 x2 e next a)
 unfolding stops afterE
 stop x1 x2 e next a s q =
     rw (stops-it x1 x2 e next a s q)
     (record { held = refl; length = refl; sent = refl; d = refl; done = refl; count = refl; low1 = refl; low2 = refl })
 
 -- a frame is held until it is completed
-pub held-kept : (x1 x2 : ℕ) (e next : Bool) (a : Access) → turn x1 x2 e next a .done ≡ 0 → turn x1 x2 e next a .access .held ≡ a .held
+pub held-kept : (x1 x2 : ℕ) (e next : Bool) (a : Access) → accessStep x1 x2 e next a .done ≡ 0 → accessStep x1 x2 e next a .access .held ≡ a .held
 unfolding sendsNext completes stops idles afterE
 held-kept x1 x2 e next a =
     by-ways x1 x2 e next a (λ t. t .done ≡ 0 → t .access .held ≡ a .held) (λ s q l z. refl) (λ s q l z. sym z) (λ s d z. refl) (λ s m z. refl)
     (λ s m z. refl)
 
-pub length-kept : (x1 x2 : ℕ) (e next : Bool) (a : Access) → 0 < a .held → turn x1 x2 e next a .done ≡ 0
-    → turn x1 x2 e next a .access .length ≡ a .length
+pub length-kept : (x1 x2 : ℕ) (e next : Bool) (a : Access) → 0 < a .held → accessStep x1 x2 e next a .done ≡ 0
+    → accessStep x1 x2 e next a .access .length ≡ a .length
 unfolding sendsNext completes stops idles afterE
 length-kept x1 x2 e next a h =
     by-ways x1 x2 e next a (λ t. t .done ≡ 0 → t .access .length ≡ a .length) (λ s q l z. refl) (λ s q l z. absurd (omega arith)) (λ s d z. refl)
     (λ s m z. refl) (λ s m z. refl)
 
-pub length-most : (x1 x2 : ℕ) (e next : Bool) (a : Access) → turn x1 x2 e next a .access .length ≤ a .length
+pub length-most : (x1 x2 : ℕ) (e next : Bool) (a : Access) → accessStep x1 x2 e next a .access .length ≤ a .length
 unfolding sendsNext completes stops idles afterE
 length-most x1 x2 e next a =
     by-ways x1 x2 e next a (λ t. t .access .length ≤ a .length) (λ s q l. omega arith) (λ s q l. omega arith) (λ s d. omega arith)
     (λ s m. omega arith) (λ s m. omega arith)
 
 -- A completion. "The frame is completed when the echo of its last bit agrees", all its bits having left; it is no longer held, and D is 1
-pub record Completed (x1 x2 : ℕ) (e : Bool) (a : Access) (t : Turn) : Type 0 where
+pub record Completed (x1 x2 : ℕ) (e : Bool) (a : Access) (t : AccessStep) : Type 0 where
   pub done : t .done ≡ a .held
   pub held : t .access .held ≡ 0
   pub sent : t .access .sent ≡ 0
@@ -414,7 +414,7 @@ pub record Completed (x1 x2 : ℕ) (e : Bool) (a : Access) (t : Turn) : Type 0 w
   pub count : t .access .count ≡ countAfter x2 e (a .count)
 
 pub complete : (x1 x2 : ℕ) (e next : Bool) (a : Access) → 0 < a .sent → e ≡ a .last → a .length ≤ a .sent
-    → Completed x1 x2 e a (turn x1 x2 e next a)
+    → Completed x1 x2 e a (accessStep x1 x2 e next a)
 unfolding completes afterE
 complete x1 x2 e next a s q l =
     rw (completes-it x1 x2 e next a s q l) (record { done = refl; held = refl; sent = refl; d = refl; count = refl })
@@ -426,8 +426,8 @@ pub record LastEcho (e : Bool) (a : Access) (done : ℕ) : Type 0 where
   pub echo : e ≡ a .last
   pub class : done ≡ a .held
 
-pub completion-only : (x1 x2 : ℕ) (e next : Bool) (a : Access) → (turn x1 x2 e next a .done ≡ 0 → ⊥)
-    → LastEcho e a (turn x1 x2 e next a .done)
+pub completion-only : (x1 x2 : ℕ) (e next : Bool) (a : Access) → (accessStep x1 x2 e next a .done ≡ 0 → ⊥)
+    → LastEcho e a (accessStep x1 x2 e next a .done)
 unfolding sendsNext completes stops idles afterE
 completion-only x1 x2 e next a =
     by-ways x1 x2 e next a (λ t. (t .done ≡ 0 → ⊥) → LastEcho e a (t .done)) (λ s q l h. absurd (h refl))
@@ -435,14 +435,14 @@ completion-only x1 x2 e next a =
     (λ s m h. absurd (h refl))
 
 -- what is completed is nothing, or a frame of the held class
-pub done-held : (x1 x2 : ℕ) (e next : Bool) (a : Access) → (turn x1 x2 e next a .done ≡ 0) ⊎ (turn x1 x2 e next a .done ≡ a .held)
+pub done-held : (x1 x2 : ℕ) (e next : Bool) (a : Access) → (accessStep x1 x2 e next a .done ≡ 0) ⊎ (accessStep x1 x2 e next a .done ≡ a .held)
 unfolding sendsNext completes stops idles afterE
 done-held x1 x2 e next a =
     by-ways x1 x2 e next a (λ t. (t .done ≡ 0) ⊎ (t .done ≡ a .held)) (λ s q l. inl refl) (λ s q l. inr refl) (λ s d. inl refl) (λ s m. inl refl)
     (λ s m. inl refl)
 
 -- .. which is the echo of the last bit, where no more bits have left than the image has
-pub completion-last : (x1 x2 : ℕ) (e next : Bool) (a : Access) → a .sent ≤ a .length → (turn x1 x2 e next a .done ≡ 0 → ⊥)
+pub completion-last : (x1 x2 : ℕ) (e next : Bool) (a : Access) → a .sent ≤ a .length → (accessStep x1 x2 e next a .done ≡ 0 → ⊥)
     → a .sent ≡ a .length
 completion-last x1 x2 e next a s h = omega (arith, completion-only x1 x2 e next a h)
 
@@ -451,35 +451,35 @@ abbrev leaving24 : ℕ → Access
 leaving24 n = record { length = 24; sent = n; count = 0; held = 1; low1 = false; low2 = false; last = false }
 
 -- with the closing flag's last bit to come nothing is completed; at its echo the frame is
-pub closing-flag : (turn 8 10 false false (leaving24 23) .done ≡ 0) × (turn 8 10 false false (leaving24 24) .done ≡ 1)
-unfolding turn afterE sendsNext completes
+pub closing-flag : (accessStep 8 10 false false (leaving24 23) .done ≡ 0) × (accessStep 8 10 false false (leaving24 24) .done ≡ 1)
+unfolding accessStep afterE sendsNext completes
 closing-flag = (refl, refl)
 
 -- "that class then goes low", and no other: the other one follows C
-pub class1-lowers : (x1 x2 : ℕ) (e next : Bool) (a : Access) → turn x1 x2 e next a .done ≡ 1
-    → (turn x1 x2 e next a .access .low1 ≡ true)
-    × (turn x1 x2 e next a .access .low2 ≡ lowAfter x2 (countAfter x2 e (a .count)) (a .low2))
-class1-lowers x1 x2 e next a h = (turn-low1 x1 x2 e next a ∙ rw h, turn-low2 x1 x2 e next a ∙ rw h)
+pub class1-lowers : (x1 x2 : ℕ) (e next : Bool) (a : Access) → accessStep x1 x2 e next a .done ≡ 1
+    → (accessStep x1 x2 e next a .access .low1 ≡ true)
+    × (accessStep x1 x2 e next a .access .low2 ≡ lowAfter x2 (countAfter x2 e (a .count)) (a .low2))
+class1-lowers x1 x2 e next a h = (access-step-low1 x1 x2 e next a ∙ rw h, access-step-low2 x1 x2 e next a ∙ rw h)
 
-pub class2-lowers : (x1 x2 : ℕ) (e next : Bool) (a : Access) → turn x1 x2 e next a .done ≡ 2
-    → (turn x1 x2 e next a .access .low2 ≡ true)
-    × (turn x1 x2 e next a .access .low1 ≡ lowAfter x1 (countAfter x2 e (a .count)) (a .low1))
-class2-lowers x1 x2 e next a h = (turn-low2 x1 x2 e next a ∙ rw h, turn-low1 x1 x2 e next a ∙ rw h)
+pub class2-lowers : (x1 x2 : ℕ) (e next : Bool) (a : Access) → accessStep x1 x2 e next a .done ≡ 2
+    → (accessStep x1 x2 e next a .access .low2 ≡ true)
+    × (accessStep x1 x2 e next a .access .low1 ≡ lowAfter x1 (countAfter x2 e (a .count)) (a .low1))
+class2-lowers x1 x2 e next a h = (access-step-low2 x1 x2 e next a ∙ rw h, access-step-low1 x1 x2 e next a ∙ rw h)
 
 -- a class goes low only at its completion
 lowers-only : (x c n k : ℕ) (low : Bool) → low ≡ false → cond (eqb n k) true (lowAfter x c low) ≡ true → n ≡ k
 lowers-only x c n k low l h =
     by-test (eqb n k) (λ t. eqb-true n k t) (λ t. absurd (true≢false (sym (rw (t, l) at h) ∙ level-normal x c)))
 
-pub class1-lowers-only : (x1 x2 : ℕ) (e next : Bool) (a : Access) → a .low1 ≡ false → turn x1 x2 e next a .access .low1 ≡ true
-    → turn x1 x2 e next a .done ≡ 1
+pub class1-lowers-only : (x1 x2 : ℕ) (e next : Bool) (a : Access) → a .low1 ≡ false → accessStep x1 x2 e next a .access .low1 ≡ true
+    → accessStep x1 x2 e next a .done ≡ 1
 class1-lowers-only x1 x2 e next a l h =
-    lowers-only x1 (countAfter x2 e (a .count)) (turn x1 x2 e next a .done) 1 (a .low1) l (sym (turn-low1 x1 x2 e next a) ∙ h)
+    lowers-only x1 (countAfter x2 e (a .count)) (accessStep x1 x2 e next a .done) 1 (a .low1) l (sym (access-step-low1 x1 x2 e next a) ∙ h)
 
-pub class2-lowers-only : (x1 x2 : ℕ) (e next : Bool) (a : Access) → a .low2 ≡ false → turn x1 x2 e next a .access .low2 ≡ true
-    → turn x1 x2 e next a .done ≡ 2
+pub class2-lowers-only : (x1 x2 : ℕ) (e next : Bool) (a : Access) → a .low2 ≡ false → accessStep x1 x2 e next a .access .low2 ≡ true
+    → accessStep x1 x2 e next a .done ≡ 2
 class2-lowers-only x1 x2 e next a l h =
-    lowers-only x2 (countAfter x2 e (a .count)) (turn x1 x2 e next a .done) 2 (a .low2) l (sym (turn-low2 x1 x2 e next a) ∙ h)
+    lowers-only x2 (countAfter x2 e (a .count)) (accessStep x1 x2 e next a .done) 2 (a .low2) l (sym (access-step-low2 x1 x2 e next a) ∙ h)
 
 -- a class at the low level "returns to normal when C equals the low value", and only there
 returns-only : (x c n k : ℕ) (low : Bool) → low ≡ true → cond (eqb n k) true (lowAfter x c low) ≡ false → c ≡ x + 1
@@ -487,24 +487,24 @@ returns-only x c n k low l h =
     by-test (eqb n k) (λ t. absurd (true≢false (rw t at h))) (λ t. level-returns-only x c (rw (t, l) at h))
 
 pub class1-returns : (x1 x2 : ℕ) (e next : Bool) (a : Access) → countAfter x2 e (a .count) ≡ x1 + 1
-    → (turn x1 x2 e next a .done ≡ 1 → ⊥) → turn x1 x2 e next a .access .low1 ≡ false
+    → (accessStep x1 x2 e next a .done ≡ 1 → ⊥) → accessStep x1 x2 e next a .access .low1 ≡ false
 class1-returns x1 x2 e next a c h =
-    turn-low1 x1 x2 e next a ∙ rw (ne-eqb (turn x1 x2 e next a .done) 1 h, level-returns x1 (countAfter x2 e (a .count)) (a .low1) c)
+    access-step-low1 x1 x2 e next a ∙ rw (ne-eqb (accessStep x1 x2 e next a .done) 1 h, level-returns x1 (countAfter x2 e (a .count)) (a .low1) c)
 
-pub class1-returns-only : (x1 x2 : ℕ) (e next : Bool) (a : Access) → a .low1 ≡ true → turn x1 x2 e next a .access .low1 ≡ false
+pub class1-returns-only : (x1 x2 : ℕ) (e next : Bool) (a : Access) → a .low1 ≡ true → accessStep x1 x2 e next a .access .low1 ≡ false
     → countAfter x2 e (a .count) ≡ x1 + 1
 class1-returns-only x1 x2 e next a l h =
-    returns-only x1 (countAfter x2 e (a .count)) (turn x1 x2 e next a .done) 1 (a .low1) l (sym (turn-low1 x1 x2 e next a) ∙ h)
+    returns-only x1 (countAfter x2 e (a .count)) (accessStep x1 x2 e next a .done) 1 (a .low1) l (sym (access-step-low1 x1 x2 e next a) ∙ h)
 
 pub class2-returns : (x1 x2 : ℕ) (e next : Bool) (a : Access) → countAfter x2 e (a .count) ≡ x2 + 1
-    → (turn x1 x2 e next a .done ≡ 2 → ⊥) → turn x1 x2 e next a .access .low2 ≡ false
+    → (accessStep x1 x2 e next a .done ≡ 2 → ⊥) → accessStep x1 x2 e next a .access .low2 ≡ false
 class2-returns x1 x2 e next a c h =
-    turn-low2 x1 x2 e next a ∙ rw (ne-eqb (turn x1 x2 e next a .done) 2 h, level-returns x2 (countAfter x2 e (a .count)) (a .low2) c)
+    access-step-low2 x1 x2 e next a ∙ rw (ne-eqb (accessStep x1 x2 e next a .done) 2 h, level-returns x2 (countAfter x2 e (a .count)) (a .low2) c)
 
-pub class2-returns-only : (x1 x2 : ℕ) (e next : Bool) (a : Access) → a .low2 ≡ true → turn x1 x2 e next a .access .low2 ≡ false
+pub class2-returns-only : (x1 x2 : ℕ) (e next : Bool) (a : Access) → a .low2 ≡ true → accessStep x1 x2 e next a .access .low2 ≡ false
     → countAfter x2 e (a .count) ≡ x2 + 1
 class2-returns-only x1 x2 e next a l h =
-    returns-only x2 (countAfter x2 e (a .count)) (turn x1 x2 e next a .done) 2 (a .low2) l (sym (turn-low2 x1 x2 e next a) ∙ h)
+    returns-only x2 (countAfter x2 e (a .count)) (accessStep x1 x2 e next a .done) 2 (a .low2) l (sym (access-step-low2 x1 x2 e next a) ∙ h)
 
 -- A hand-over. Every body's image has a length that an image may have ..
 pub image-fits : (body : List ℕ) → IsBody body → isImageLength (length (image body)) ≡ true
@@ -524,8 +524,8 @@ unfolding left
 leaving a = (refl, refl, refl, refl)
 
 -- A whole sending. One opportunity of a terminal with the image `bits` in hand
-unfoldable pub step : ℕ → ℕ → List Bool → Bool → Access → Turn
-step x1 x2 bits e a = turn x1 x2 e (getD bits (a .sent) true) a
+unfoldable pub step : ℕ → ℕ → List Bool → Bool → Access → AccessStep
+step x1 x2 bits e a = accessStep x1 x2 e (getD bits (a .sent) true) a
 
 -- over a list of E: the D bits, the completed classes, and the record after it
 unfoldable pub sentBits : ℕ → ℕ → List Bool → List Bool → Access → List Bool
@@ -595,10 +595,10 @@ module _ (x1 x2 : ℕ) (bits : List Bool) where
   run-rest : (ahead past : List Bool) (b : Bool) (a : Access) → Underway bits past ahead b a
       → (c : Access) × (c .held ≡ a .held) × (run x1 x2 bits (b ∷ ahead) a ≡ completes c .access)
   unfolding run sendsNext afterE
-  run-rest [] past b a u = (afterE x1 x2 b a, refl, ap (λ (t : Turn). t .access) (ends past b a u))
+  run-rest [] past b a u = (afterE x1 x2 b a, refl, ap (λ (t : AccessStep). t .access) (ends past b a u))
   run-rest (c ∷ ahead) past b a u =
       let w = run-rest ahead (past ++ (c ∷ [])) c (sendsNext c (afterE x1 x2 b a) .access) (goes-under past ahead b c a u) in
-      (w .0, w .1, ap (λ (t : Turn). run x1 x2 bits (c ∷ ahead) (t .access)) (goes past ahead b c a u) ∙ w .2)
+      (w .0, w .1, ap (λ (t : AccessStep). run x1 x2 bits (c ∷ ahead) (t .access)) (goes past ahead b c a u) ∙ w .2)
 
 -- the start of it
 starts-step : (x1 x2 : ℕ) (c : Bool) (ahead : List Bool) (e : Bool) (a : Access) → Ready x1 x2 e a
@@ -630,7 +630,7 @@ sends-whole x1 x2 (c ∷ ahead) e a n l r =
     let u : Underway (c ∷ ahead) (c ∷ []) ahead c (sendsNext c (afterE x1 x2 e a) .access) = starts-under x1 x2 c ahead e a r l in
     let w = run-rest x1 x2 (c ∷ ahead) ahead (c ∷ []) c (sendsNext c (afterE x1 x2 e a) .access) u in
     let z : run x1 x2 (c ∷ ahead) (e ∷ c ∷ ahead) a ≡ completes (w .0) .access =
-    ap (λ (t : Turn). run x1 x2 (c ∷ ahead) (c ∷ ahead) (t .access)) (starts-step x1 x2 c ahead e a r) ∙ w .2
+    ap (λ (t : AccessStep). run x1 x2 (c ∷ ahead) (c ∷ ahead) (t .access)) (starts-step x1 x2 c ahead e a r) ∙ w .2
     in
     record {
       sent-bits =
@@ -650,7 +650,7 @@ pub image-whole : (x1 x2 : ℕ) (body : List ℕ) (e : Bool) (a : Access) → a 
 image-whole x1 x2 body e a l r = sends-whole x1 x2 (image body) e a (omega (arith, length-image body)) l r
 
 -- An access at rest: an E of 1 changes nothing, nothing leaves and nothing is completed.
-pub rests : (x1 x2 : ℕ) (next : Bool) (a : Access) → x1 < x2 → atRest x2 a ≡ true → turn x1 x2 true next a ≡ idles a
+pub rests : (x1 x2 : ℕ) (next : Bool) (a : Access) → x1 < x2 → atRest x2 a ≡ true → accessStep x1 x2 true next a ≡ idles a
 unfolding atRest afterE countAfter lowAfter mayStart
 rests x1 x2 next a l h =
     let p = and-both _ _ h in

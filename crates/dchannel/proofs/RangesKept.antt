@@ -5,16 +5,16 @@ use Prim.Native.Nat.{ℕ, _+_, _≤_, _<_}
 use native.Mathlib.Omega.{arith}
 use lib.Dec.{leb, eqb}
 use borrow.Author.Tests.{leb-true, le-leb}
-use Rattle.cases.proofs.ByCases.{by-test}
+use Rattle.test_lemmas.proofs.ByCases.{by-test}
 use Rattle.hdlc.specs.Image.{shortestImage, longestImage}
-use Rattle.dchannel.specs.Access.{fresh, entered, afterE, sendsNext, stops, completes, idles, turn}
+use Rattle.dchannel.specs.Access.{fresh, entered, afterE, sendsNext, stops, completes, idles, accessStep}
 use Rattle.dchannel.specs.Handing.{classNumber, isImageLength, takenUp, handed, left}
 use Rattle.dchannel.specs.Ranges.{accessInRange}
 use Rattle.dchannel.specs.declared.access.Access.{Access}
 use Rattle.dchannel.specs.declared.access.Class.{Class}
 use Rattle.dchannel.specs.declared.access.Class.the-variants.{One, Two}
 use Rattle.dchannel.proofs.AccessLaws.{by-ways, count-most}
-use Rattle.cases.proofs.Operators.{and-both}
+use Rattle.test_lemmas.proofs.Operators.{and-both}
 
 -- what the range of an access record says
 pub record AccessFits (x2 : ℕ) (a : Access) : Type 0 where
@@ -94,9 +94,9 @@ module _ (x2 : ℕ) where
       sends-fits l =
           record { held-fits = fits .held-fits; length-fits = fits .length-fits; sent-fits = omega arith; count-fits = count-most x2 e (a .count) }
 
-      turn-fits : AccessFits x2 (turn x1 x2 e next a .access)
+      access-step-fits : AccessFits x2 (accessStep x1 x2 e next a .access)
       unfolding completes stops idles afterE
-      turn-fits =
+      access-step-fits =
           by-ways x1 x2 e next a (λ t. AccessFits x2 (t .access)) (λ s q l. sends-fits (omega (arith, fits .length-fits)))
           (λ s q l. record { held-fits = omega arith; length-fits = omega arith; sent-fits = omega arith; count-fits = count-most x2 e (a .count) })
           (λ s d.
@@ -105,5 +105,5 @@ module _ (x2 : ℕ) where
           (λ s m.
           record { held-fits = fits .held-fits; length-fits = fits .length-fits; sent-fits = fits .sent-fits; count-fits = count-most x2 e (a .count) })
 
-      pub turn-in-range : accessInRange x2 (turn x1 x2 e next a .access) ≡ true
-      turn-in-range = fits-access x2 (turn x1 x2 e next a .access) turn-fits
+      pub access-step-in-range : accessInRange x2 (accessStep x1 x2 e next a .access) ≡ true
+      access-step-in-range = fits-access x2 (accessStep x1 x2 e next a .access) access-step-fits

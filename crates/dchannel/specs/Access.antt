@@ -5,7 +5,7 @@ use Prim.Native.Nat.{ℕ, _+_}
 use lib.Dec.{ltb, leb, eqb}
 use Rattle.hdlc.specs.Bits.{sameBit}
 use Rattle.dchannel.specs.declared.access.Access.{Access}
-use Rattle.dchannel.specs.declared.access.Turn.{Turn}
+use Rattle.dchannel.specs.declared.access.AccessStep.{AccessStep}
 
 -- "8 (class 1) or 10 (class 2)"
 abbrev pub normal1 : ℕ
@@ -61,7 +61,7 @@ unfoldable pub mayStart : ℕ → ℕ → Access → Bool
 mayStart x1 x2 a = cond (eqb (a .held) 0) false (leb (threshold x1 x2 (a .held) (lowOf (a .held) a)) (a .count))
 
 -- the next bit leaves
-unfoldable pub sendsNext : Bool → Access → Turn
+unfoldable pub sendsNext : Bool → Access → AccessStep
 sendsNext next a =
     record {
       access = record { length = a .length; sent = a .sent + 1; count = a .count; held = a .held; low1 = a .low1; low2 = a .low2; last = next };
@@ -70,7 +70,7 @@ sendsNext next a =
     }
 
 -- "A sent bit unequal to its echo stops the sending; the frame is held and starts over"
-unfoldable pub stops : Access → Turn
+unfoldable pub stops : Access → AccessStep
 stops a =
     record {
       access = record { length = a .length; sent = 0; count = a .count; held = a .held; low1 = a .low1; low2 = a .low2; last = true };
@@ -79,7 +79,7 @@ stops a =
     }
 
 -- "The frame is completed when the echo of its last bit agrees; that class then goes low"
-unfoldable pub completes : Access → Turn
+unfoldable pub completes : Access → AccessStep
 completes a =
     record {
       access =
@@ -97,18 +97,18 @@ completes a =
     }
 
 -- nothing leaves: 1 on D
-unfoldable pub idles : Access → Turn
+unfoldable pub idles : Access → AccessStep
 idles a = record { access = a; d = true; done = 0 }
 
 -- a sending under way, after its E: it stops, is completed or goes on
-abbrev pub goesOn : Bool → Bool → Access → Turn
+abbrev pub goesOn : Bool → Bool → Access → AccessStep
 goesOn e next a = cond (sameBit e (a .last)) (cond (leb (a .length) (a .sent)) (completes a) (sendsNext next a)) (stops a)
 
 -- no sending under way, after the E: a held frame starts if it may
-abbrev pub tries : ℕ → ℕ → Bool → Access → Turn
+abbrev pub tries : ℕ → ℕ → Bool → Access → AccessStep
 tries x1 x2 next a = cond (mayStart x1 x2 a) (sendsNext next a) (idles a)
 
 -- One D opportunity in F7 with the E heard and the image's bit number `sent`, in the order of docs/DECISIONS.md, reading 1: C and the
 -- levels first; then what a terminal does that was sending as E came, or was not.
-unfoldable pub turn : ℕ → ℕ → Bool → Bool → Access → Turn
-turn x1 x2 e next a = cond (sending a) (goesOn e next (afterE x1 x2 e a)) (tries x1 x2 next (afterE x1 x2 e a))
+unfoldable pub accessStep : ℕ → ℕ → Bool → Bool → Access → AccessStep
+accessStep x1 x2 e next a = cond (sending a) (goesOn e next (afterE x1 x2 e a)) (tries x1 x2 next (afterE x1 x2 e a))

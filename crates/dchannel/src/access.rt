@@ -1,7 +1,7 @@
 // One terminal's access to the D channel (document 01, "D access (6.1)").
 ghost use mathlib.Core.Path.{_≡_};
 ghost use mathlib.Core.Bool.{cond};
-ghost use Rattle.dchannel.specs.Access.{normal1, normal2, fresh, entered, afterE, mayStart, completes, stops, turn};
+ghost use Rattle.dchannel.specs.Access.{normal1, normal2, fresh, entered, afterE, mayStart, completes, stops, accessStep};
 ghost use Rattle.dchannel.specs.AtRest.{atRest};
 ghost use Rattle.dchannel.specs.Handing.{handed, left};
 ghost use Rattle.dchannel.specs.Ranges.{accessInRange};
@@ -42,7 +42,7 @@ pub struct Access {
 }
 
 // What one D opportunity gives: the record after it, the bit for D and the class of a completed frame, 0 for none.
-pub struct Turn {
+pub struct AccessStep {
     pub access: Access,
     pub d: bool,
     pub done: u8,
@@ -137,8 +137,8 @@ impl Access {
     }
 
     // One D opportunity in F7: the E heard, and the image's bit number `sent`.
-    pub fn turn(self, e: bool, next: bool) -> Turn
-        ensures { λ r. ⌜ r ≡ turn normal1 normal2 e next self ⌝ }
+    pub fn access_step(self, e: bool, next: bool) -> AccessStep
+        ensures { λ r. ⌜ r ≡ accessStep normal1 normal2 e next self ⌝ }
     {
         let heard = self.after_e(e);
         let leaves = if 0 < self.sent {
@@ -147,7 +147,7 @@ impl Access {
             heard.may_start()
         };
         if leaves {
-            return Turn {
+            return AccessStep {
                 access: Access {
                     length: self.length,
                     sent: self.sent + 1,
@@ -164,7 +164,7 @@ impl Access {
         if 0 < self.sent {
             heard.ends(e == self.last)
         } else {
-            Turn {
+            AccessStep {
                 access: heard,
                 d: true,
                 done: 0,
@@ -197,11 +197,11 @@ impl Access {
     }
 
     // A sending under way ends: the frame is completed, or it is held and starts over.
-    fn ends(self, completed: bool) -> Turn
+    fn ends(self, completed: bool) -> AccessStep
         ensures { λ r. ⌜ r ≡ cond completed (completes self) (stops self) ⌝ }
     {
         if completed {
-            Turn {
+            AccessStep {
                 access: Access {
                     length: 0,
                     sent: 0,
@@ -215,7 +215,7 @@ impl Access {
                 done: self.held,
             }
         } else {
-            Turn {
+            AccessStep {
                 access: Access {
                     length: self.length,
                     sent: 0,

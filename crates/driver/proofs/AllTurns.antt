@@ -5,16 +5,16 @@ use mathlib.Core.Path.{_≡_, refl, sym, ap, _∙_}
 use Prim.Native.Nat.{ℕ}
 use native.Mathlib.Omega.{arith}
 use lib.ListN.{take}
-use Rattle.cases.proofs.ByCases.{clash}
+use Rattle.test_lemmas.proofs.ByCases.{clash}
 use Rattle.book_reader.specs.Book.{answers}
 use Rattle.book_reader.specs.Parts.{toCome, joined}
-use Rattle.report.specs.Report.{callsOf, report, bookCalls}
+use Rattle.report.specs.Report.{callsOfAnswers, report, bookCalls}
 use Rattle.report.specs.Ahead.{textAhead, answersAhead, TEXT, OVER}
 use Rattle.report.proofs.AheadLaws.{no-text}
 use Rattle.report.proofs.Books.{books-octets}
 use Rattle.report.proofs.ToldRight.{told-right}
-use Rattle.book.specs.Progress.{freshProgress}
-use Rattle.driver.specs.Turn.{Turned, Chain, TurnsRight, RunRight, first, standing}
+use Rattle.book_go_on.specs.Progress.{freshProgress}
+use Rattle.driver.specs.Turn.{Turned, Chain, TurnsRight, RunRight, first, heldState}
 use Rattle.driver.specs.Turn.Chain.{none, more}
 use Rattle.driver.specs.declared.turn.Held.{Held}
 
@@ -52,8 +52,8 @@ module _ {most : ℕ} {text₀ room₀ images₀ octets₀ letters₀ : List ℕ
   wrote-ahead : {h : Held} {text room images octets letters : List ℕ} {parts : List (List ℕ)} {out : List ℕ}
       → Chain most first text₀ room₀ images₀ octets₀ letters₀ h text room images octets letters parts out
       → (later : List ℕ) → (h .whole ≡ true → later ≡ [])
-      → textAhead (standing first images₀ octets₀ letters₀) (joined parts ++ later)
-      ≡ out ++ textAhead (standing h images octets letters) (take (h .have) text ++ later)
+      → textAhead (heldState first images₀ octets₀ letters₀) (joined parts ++ later)
+      ≡ out ++ textAhead (heldState h images octets letters) (take (h .have) text ++ later)
   unfolding joined
   wrote-ahead none later fit = refl
   wrote-ahead (more {h = h} {text = text} {room′ = room′} {parts = parts} {out = out} c due t) later fit =
@@ -68,9 +68,9 @@ pub turns-right : TurnsRight
 unfolding textAhead answersAhead toCome report bookCalls freshProgress
 turns-right most text room images octets letters h text′ room′ images′ octets′ letters′ parts out unread i o l c over fit =
     let book = joined parts ++ unread in
-    let nothing = no-text (standing h images′ octets′ letters′) (take (h .have) text′ ++ unread) (is-over c over) in
+    let nothing = no-text (heldState h images′ octets′ letters′) (take (h .have) text′ ++ unread) (is-over c over) in
     sym (wrote-ahead c unread fit ∙ rw (nothing, append-nil out))
-    ∙ rw (told-right images octets letters (callsOf 0 (answers book)) i o l (books-octets book))
+    ∙ rw (told-right images octets letters (callsOfAnswers 0 (answers book)) i o l (books-octets book))
 
 pub run-right : RunRight
 run-right most room room′ unread r over fit =

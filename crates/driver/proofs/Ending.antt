@@ -8,7 +8,7 @@ use lib.Dec.{eqb}
 use lib.ListN.{length, take, length-append}
 use lib.Seq.{length-take-le}
 use borrow.Author.Tests.{eqb-true, eqb-false, ne-eqb}
-use Rattle.cases.proofs.ByCases.{by-test, clash}
+use Rattle.test_lemmas.proofs.ByCases.{by-test, clash}
 use Rattle.book_reader.specs.Parts.{joined}
 use Rattle.period_text.specs.PeriodText.{periodRoom}
 use Rattle.report.specs.Ahead.{TEXT, ROOM, OVER}

@@ -7,13 +7,13 @@ use native.Mathlib.Omega.{arith}
 use lib.Dec.{eqb, ltb}
 use lib.ListN.{length, length-append}
 use borrow.Author.Tests.{eqb-false, ne-eqb, ltb-true, ltb-false}
-use Rattle.cases.proofs.ByCases.{by-test, clash, and-left, and-right, and-both-true}
+use Rattle.test_lemmas.proofs.ByCases.{by-test, clash, and-left, and-right, and-both-true}
 use Rattle.hdlc.specs.Image.{longestBody}
 use Rattle.bus_event.specs.Event.{imagesRoom, areLetters}
 use Rattle.period_text.specs.PeriodText.{periodRoom}
 use Rattle.report.specs.Ahead.{TEXT, OVER}
-use Rattle.book.specs.Progress.{freshProgress}
-use Rattle.book.specs.declared.progress.Progress.{Progress}
+use Rattle.book_go_on.specs.Progress.{freshProgress}
+use Rattle.book_go_on.specs.declared.progress.Progress.{Progress}
 use Rattle.driver.specs.Turn.{Turned, Due, Chain, Drives, Runs, first, mostTurns}
 use Rattle.driver.specs.Turn.Chain.{none, more}
 use Rattle.driver.specs.declared.turn.Held.{Held}

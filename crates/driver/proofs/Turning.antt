@@ -13,25 +13,25 @@ use Rattle.book_line.specs.Line.{longestLine}
 use Rattle.book_reader.specs.Rest.{restOf, kept}
 use Rattle.report.specs.Ahead.{Stopped, TEXT}
 use Rattle.report.proofs.Driving.{text-few, fresh-sound, stays-sound}
-use Rattle.book.specs.Progress.{standOf, freshProgress}
-use Rattle.book.specs.GoOn.{GoesOn}
-use Rattle.book.proofs.Going.{never-refused}
-use Rattle.book.specs.declared.progress.Progress.{Progress}
-use Rattle.book.specs.declared.progress.Went.{Went}
-use Rattle.driver.specs.Turn.{Fills, Turned, Going, standing, first}
+use Rattle.book_go_on.specs.Progress.{bookStateOf, freshProgress}
+use Rattle.book_go_on.specs.GoOn.{GoesOn}
+use Rattle.book_go_on.proofs.Going.{never-refused}
+use Rattle.book_go_on.specs.declared.progress.Progress.{Progress}
+use Rattle.book_go_on.specs.declared.progress.GoneOn.{GoneOn}
+use Rattle.driver.specs.Turn.{Fills, Turned, Going, heldState, first}
 use Rattle.driver.specs.declared.turn.Held.{Held}
 
 -- ---- A turn.
 module _ (most : ℕ) (h : Held) (text room images octets letters : List ℕ) (g : Going h text images octets letters)
     (have : ℕ) (whole : Bool) (filled : List ℕ) (f : Fills most text (h .have) (h .why) (h .whole) filled have whole)
-    (w : Went) (room′ images′ octets′ letters′ : List ℕ)
+    (w : GoneOn) (room′ images′ octets′ letters′ : List ℕ)
     (o : GoesOn (h .progress) images octets letters (take have filled) room whole w images′ octets′ letters′ room′) where
   abbrev rest : List ℕ
   rest = restOf (w .taken) have filled
 
-  goes : Stopped (standing h images octets letters) (take have filled) room whole
-      (standOf (w .progress) images′ octets′ letters′) (w .taken) (w .wrote) (w .why) room′
-  goes = o .stops (o .replies ∙ never-refused (standing h images octets letters) (g .sound))
+  goes : Stopped (heldState h images octets letters) (take have filled) room whole
+      (bookStateOf (w .progress) images′ octets′ letters′) (w .taken) (w .wrote) (w .why) room′
+  goes = o .stops (o .replies ∙ never-refused (heldState h images octets letters) (g .sound))
 
   pub wrote-fits : w .wrote ≤ length room′
   wrote-fits = omega (arith, goes .went .fits, goes .went .long)
@@ -50,8 +50,8 @@ module _ (most : ℕ) (h : Held) (text room images octets letters : List ℕ) (g
         wrote = w .wrote;
         stopped =
             subst
-            (λ (l : List ℕ). Stopped (standing h images octets letters) l room whole
-            (standOf (w .progress) images′ octets′ letters′) (w .taken) (w .wrote) (w .why) room′)
+            (λ (l : List ℕ). Stopped (heldState h images octets letters) l room whole
+            (bookStateOf (w .progress) images′ octets′ letters′) (w .taken) (w .wrote) (w .why) room′)
             (f .behind) goes;
         rest = rw (n, is) (take-append-seam rest _ ∙ ap (drop (w .taken)) (f .behind));
         within = rw (n, is) (omega (arith, length-append rest (drop (length rest) filled)));

@@ -10,9 +10,9 @@ use Rattle.bus_event.specs.Event.{imagesRoom, areLetters}
 use Rattle.book_line.specs.Line.{longestLine}
 use Rattle.book_reader.specs.Parts.{joined}
 use Rattle.period_text.specs.PeriodText.{periodRoom}
-use Rattle.report.specs.Ahead.{Stand, Sound, Stopped, TEXT, OVER}
+use Rattle.report.specs.Ahead.{BookState, Sound, Stopped, TEXT, OVER}
 use Rattle.report.specs.Report.{report}
-use Rattle.book.specs.Progress.{standOf, freshProgress}
+use Rattle.book_go_on.specs.Progress.{bookStateOf, freshProgress}
 use Rattle.driver.specs.declared.turn.Held.{Held}
 
 -- The octets of the book in hand are those at the text's front. A part of the book, of at most `most` octets, comes behind them, where the last
@@ -25,8 +25,8 @@ pub record Fills (most : ℕ) (text : List ℕ) (have why : ℕ) (whole : Bool) 
   pub asked : why ≡ TEXT → whole′ ≡ eqb (length part) 0
   pub unasked : (why ≡ TEXT → ⊥) → (part ≡ []) × (whole′ ≡ whole)
 
-abbrev pub standing : Held → List ℕ → List ℕ → List ℕ → Stand
-standing h images octets letters = standOf (h .progress) images octets letters
+abbrev pub heldState : Held → List ℕ → List ℕ → List ℕ → BookState
+heldState h images octets letters = bookStateOf (h .progress) images octets letters
 
 -- One call on what is in hand and the part behind it; what it has not taken is in hand then.
 pub record Turned (most : ℕ) (h : Held) (text room images octets letters : List ℕ) (r : Held) (text′ room′ images′ octets′ letters′ : List ℕ)
@@ -37,15 +37,15 @@ pub record Turned (most : ℕ) (h : Held) (text room images octets letters : Lis
   pub unasked : (h .why ≡ TEXT → ⊥) → (part ≡ []) × (r .whole ≡ h .whole)
   pub taken : ℕ
   pub wrote : ℕ
-  pub stopped : Stopped (standing h images octets letters) (take (h .have) text ++ part) room (r .whole)
-      (standing r images′ octets′ letters′) taken wrote (r .why) room′
+  pub stopped : Stopped (heldState h images octets letters) (take (h .have) text ++ part) room (r .whole)
+      (heldState r images′ octets′ letters′) taken wrote (r .why) room′
   pub rest : take (r .have) text′ ≡ drop taken (take (h .have) text ++ part)
   pub within : r .have ≤ length text′
 
 -- What holds before every turn: no call will be refused, what is in hand is there, and where text is needed less than a line is in hand, so
 -- that a read is offered room.
 pub record Going (h : Held) (text images octets letters : List ℕ) : Type 0 where
-  pub sound : Sound (standing h images octets letters)
+  pub sound : Sound (heldState h images octets letters)
   pub within : h .have ≤ length text
   pub few : h .why ≡ TEXT → h .have < longestLine
 

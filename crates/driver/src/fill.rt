@@ -4,7 +4,7 @@ ghost use Prim.Native.Nat.{_≤_, _<_};
 ghost use lib.ListN.{length};
 ghost use Rattle.report.specs.Ahead.{TEXT};
 ghost use Rattle.driver.specs.Turn.{Fills};
-use book::progress::TEXT;
+use book_go_on::progress::TEXT;
 use streams::read::read_in;
 use text::length::least;
 

@@ -4,8 +4,8 @@ ghost use lib.ListN.{length};
 ghost use Rattle.book_line.specs.Line.{longestLine};
 ghost use Rattle.driver.specs.Turn.{Turned, Going};
 use super::fill::fill;
-use book::go_on::go_on;
-use book::progress::Progress;
+use book_go_on::go_on::go_on;
+use book_go_on::progress::Progress;
 use book_reader::rest::keep;
 use streams::write::write_out;
 

@@ -10,19 +10,19 @@ use Rattle.framed.specs.Framed.{firstPulse, framedIn, framedUp, hasPulse}
 use Rattle.info.specs.Info.{info0, info1}
 use Rattle.hdlc.specs.Bits.{lowBits, bodyBits}
 use Rattle.hdlc.specs.Image.{flag, stuff, image}
-use Rattle.dchannel.specs.Access.{normal1, normal2, countAfter, lowAfter, afterE, lowOf, threshold, mayStart, sendsNext, stops, completes, idles, turn}
+use Rattle.dchannel.specs.Access.{normal1, normal2, countAfter, lowAfter, afterE, lowOf, threshold, mayStart, sendsNext, stops, completes, idles, accessStep}
 use Rattle.dchannel.specs.Ranges.{accessInRange}
 use Rattle.dchannel.specs.Access as access
 use Rattle.dchannel.specs.declared.access.Access.{Access}
-use Rattle.dchannel.specs.declared.access.Turn.{Turn}
-use Rattle.cells.specs.Cells.{cellIn}
+use Rattle.dchannel.specs.declared.access.AccessStep.{AccessStep}
+use Rattle.notes_and_cells.specs.Cells.{cellIn}
 use Rattle.table_6_2.specs.Table62.{F6}
 use Rattle.table_6_3.specs.Table63.{G1, G4}
 use Rattle.timing.specs.Timers.{due, startedBy, timerAfter}
 use Rattle.alignment.specs.Alignment.{unaligned, inAlignment, followed}
-use Rattle.hearing.specs.Heard.{upwardEvent, lossUp}
-use Rattle.cells.specs.Notes.{noted}
-use Rattle.hearing.specs.Sensing.{shownUp}
+use Rattle.heard_line.specs.Heard.{upwardEvent, lossUp}
+use Rattle.notes_and_cells.specs.Notes.{noted}
+use Rattle.heard_line.specs.Sensing.{shownUp}
 use Rattle.network.specs.Network as network
 use Rattle.network.specs.Calls as networkCalls
 use Rattle.terminal.specs.Terminal as terminal
@@ -54,8 +54,8 @@ starts k low c = mayStart normal1 normal2 (holding k low 24 c)
 abbrev completed : ℕ → List Bool → List Bool → Access → Access → Bool → ℕ → ℕ → List ℕ
 completed zero x y a b e m n = m ∷ n ∷ []
 completed (suc k) x y a b e m n =
-    let s : Turn = turn normal1 normal2 e (getD x (a .sent) true) a in
-    let t : Turn = turn normal1 normal2 e (getD y (b .sent) true) b in
+    let s : AccessStep = accessStep normal1 normal2 e (getD x (a .sent) true) a in
+    let t : AccessStep = accessStep normal1 normal2 e (getD y (b .sent) true) b in
     completed k x y (s .access) (t .access) (cond (s .d) (t .d) false) (m + s .done) (n + t .done)
 
 abbrev first00 : List ℕ
@@ -63,10 +63,10 @@ first00 = completed 25 (image (0 ∷ [])) (image (1 ∷ [])) (holding 1 false 24
 
 -- the state of the network end in G4 after it has heard a line, and of a terminal in F6 after its T3 is due
 abbrev g4Hears : List ℕ → ℕ
-g4Hears line = networkCalls.heard (shownUp line) (record { 0 = 9 }) (record { t1 = 0; t2 = 0; state = G4; alignment = unaligned 0 }) .network .state
+g4Hears line = networkCalls.hearCall (shownUp line) (record { 0 = 9 }) (record { t1 = 0; t2 = 0; state = G4; alignment = unaligned 0 }) .network .state
 
 abbrev f6Due : ℕ
-f6Due = terminalCalls.timerDue (record { 0 = 9 }) (record { t3 = 9; access = access.fresh; state = F6; alignment = inAlignment 0 }) .terminal .state
+f6Due = terminalCalls.timerCall (record { 0 = 9 }) (record { t3 = 9; access = access.fresh; state = F6; alignment = inAlignment 0 }) .terminal .state
 
 -- an upward line whose first pulse after symbol 2 is minus and stands at a position
 abbrev pulseAt : ℕ → ℕ → List ℕ
@@ -105,5 +105,5 @@ all [] = true
 all (b ∷ bs) = cond b (all bs) false
 
 pub edges-hold : all edges ≡ true
-unfolding edges image stuff bodyBits lowBits mayStart threshold lowOf turn afterE countAfter lowAfter sendsNext stops completes idles sameSymbols framedIn firstPulse hasPulse shownUp networkCalls.checked networkCalls.ready networkCalls.networkInRange network.hears network.heardAs network.andThen network.happens network.acts network.moved network.aligned lossUp upwardEvent followed noted cellIn timerAfter startedBy due terminalCalls.checked terminal.timer terminalCalls.ready terminalCalls.terminalInRange terminal.happens terminal.acts terminal.noTimer accessInRange
+unfolding edges image stuff bodyBits lowBits mayStart threshold lowOf accessStep afterE countAfter lowAfter sendsNext stops completes idles sameSymbols framedIn firstPulse hasPulse shownUp networkCalls.checked networkCalls.ready networkCalls.networkInRange network.hears network.heardAs network.andThen network.happens network.acts network.moved network.aligned lossUp upwardEvent followed noted cellIn timerAfter startedBy due terminalCalls.checked terminal.timer terminalCalls.ready terminalCalls.terminalInRange terminal.happens terminal.acts terminal.noTimer accessInRange
 edges-hold = refl

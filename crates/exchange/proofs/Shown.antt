@@ -9,29 +9,29 @@ use native.Mathlib.Omega.{arith}
 use lib.Dec.{eqb, ltb}
 use lib.ListN.{length, getD, length-map}
 use borrow.Author.Tests.{lt-ltb, le-ltb, eq-eqb, eqb-true, eqb-false, ne-eqb}
-use Rattle.cases.proofs.ByCases.{by-test}
-use Rattle.frame.specs.Four.{padded}
+use Rattle.test_lemmas.proofs.ByCases.{by-test}
+use Rattle.frame.specs.Four.{filledWithOnes}
 use Rattle.frame.specs.Down.{eIndex}
 use Rattle.combining.specs.Hit.{keepLetter, struckBit}
 use Rattle.hdlc.specs.Bits.{numberLowFirst}
-use Rattle.walks.proofs.Over.{length-mapped}
-use Rattle.walks.specs.Over.{mapFrom, foldFrom}
+use Rattle.slice_lemmas.proofs.Over.{length-mapped}
+use Rattle.slice_lemmas.specs.Over.{mapFrom, foldFrom}
 use Rattle.terminal.specs.declared.Terminal.{Terminal}
-use Rattle.bus.specs.Bus.{Seat, Hit, Bus}
-use Rattle.bus.specs.Bus.Hit.{none, given}
-use Rattle.bus.specs.Exchange.{Sender, seatsOf, anySends, anyInfo1, anyInfo3, inF7, turnOf, turned, doneOf, hearsE, eComes, sendersAfter, dComes, onward, seated, begins, opportunitiesOf, exchanged}
-use Rattle.bus.specs.Exchange.{Moment as Lines}
-use Rattle.bus.specs.Event.{among}
-use Rattle.bus.specs.Quick.{sentE, struckAt, allD, InStep}
-use Rattle.bus.proofs.Quick.{quick-e, quick-d, info1-hears, info3-hears, one-more, in-step-begins, in-step-onward}
-use Rattle.bus.proofs.Seats.{seats-seated, seats-hear}
-use Rattle.bus.proofs.OneDone.{among-append}
-use Rattle.exchange.specs.Moment.{begun, also, combinedD, ended}
-use Rattle.exchange.specs.Part.{seatIn, turnedIn, doneIn, goneThrough}
-use Rattle.exchange.specs.Opportunities.{momentAfter, terminalsAfter, momentAfterFour, terminalsAfterFour}
-use Rattle.exchange.specs.Shown.{lettersOf, doneOctet, firstOf, ExchangeShown}
-use Rattle.exchange.specs.declared.moment.Letters.{Letters}
-use Rattle.exchange.specs.declared.moment.Moment.{Moment}
+use Rattle.bus_rules.specs.Bus.{Station, Hit, Bus}
+use Rattle.bus_rules.specs.Bus.Hit.{none, given}
+use Rattle.bus_rules.specs.Exchange.{Sender, stationsOf, anySends, anyInfo1, anyInfo3, inF7, accessStepOf, stationAfterE, doneOf, hearsE, eComes, sendersAfter, dComes, onward, asSender, begins, opportunitiesOf, exchanged}
+use Rattle.bus_rules.specs.Exchange.{Opportunity as Lines}
+use Rattle.bus_rules.specs.Event.{among}
+use Rattle.bus_rules.specs.Quick.{sentE, struckAt, allD, InStep}
+use Rattle.bus_rules.proofs.Quick.{quick-e, quick-d, info1-hears, info3-hears, one-more, in-step-begins, in-step-onward}
+use Rattle.bus_rules.proofs.Stations.{stations-stationed, stations-hear}
+use Rattle.bus_rules.proofs.OneDone.{among-append}
+use Rattle.exchange.specs.Tally.{begun, also, dHeard, ended}
+use Rattle.exchange.specs.Part.{stationIn, terminalAfterE, completedClass, goneThrough}
+use Rattle.exchange.specs.Opportunities.{tallyAfter, terminalsAfter, tallyAfterFour, terminalsAfterFour}
+use Rattle.exchange.specs.Shown.{lettersAtE, doneOctet, firstTallyOf, ExchangeShown}
+use Rattle.exchange.specs.declared.tally.Letters.{Letters}
+use Rattle.exchange.specs.declared.tally.Tally.{Tally}
 use Rattle.exchange.proofs.Turning.{turnAll, eitherAll, turn-all}
 
 eqb-turned : (a b : ℕ) → eqb a b ≡ eqb b a
@@ -40,14 +40,14 @@ eqb-turned a b =
 
 -- ---- All terminals gone through.
 -- whether a seat completes a frame of a class at an E
-abbrev newly : ℕ → Bool → Seat → Bool
-newly class e s = eqb (cond (inF7 s) (turnOf e s .done) 0) class
+abbrev newly : ℕ → Bool → Station → Bool
+newly class e s = eqb (cond (inF7 s) (accessStepOf e s .done) 0) class
 
-abbrev seatsFrom : List ℕ → ℕ → List Terminal → List Seat
-seatsFrom images i ts = mapFrom (seatIn images) i ts
+abbrev stationsFrom : List ℕ → ℕ → List Terminal → List Station
+stationsFrom images i ts = mapFrom (stationIn images) i ts
 
 -- the exchange with seats gone through
-abbrev through : List Seat → Moment → Moment
+abbrev through : List Station → Tally → Tally
 through ss m =
     record {
       letters = m .letters;
@@ -56,53 +56,53 @@ through ss m =
       place = m .place;
       done1 = turnAll (m .done1) (map (newly 1 (m .e)) ss);
       done2 = turnAll (m .done2) (map (newly 2 (m .e)) ss);
-      heard = m .heard;
+      echo = m .echo;
       e = m .e;
       d = m .d && allD (m .e) ss;
-      calling = m .calling || anyInfo1 ss;
-      frames = m .frames || anyInfo3 ss;
+      info1 = m .info1 || anyInfo1 ss;
+      info3 = m .info3 || anyInfo3 ss;
     }
 
-gone-through : (images : List ℕ) (i : ℕ) (m : Moment) (ts : List Terminal) → foldFrom (goneThrough images) i m ts ≡ through (seatsFrom images i ts) m
-unfolding foldFrom mapFrom allD anySends goneThrough also doneIn
-gone-through images i m [] = rw (and-true (m .d), or-false (m .calling), or-false (m .frames))
+gone-through : (images : List ℕ) (i : ℕ) (m : Tally) (ts : List Terminal) → foldFrom (goneThrough images) i m ts ≡ through (stationsFrom images i ts) m
+unfolding foldFrom mapFrom allD anySends goneThrough also completedClass
+gone-through images i m [] = rw (and-true (m .d), or-false (m .info1), or-false (m .info3))
 gone-through images i m (t ∷ ts) = gone-through images (suc i) (goneThrough images i m t) ts ∙ simp (and-assoc, or-assoc)
 
 -- ---- The seats.
-seat-turned : (images : List ℕ) (e : Bool) (i : ℕ) (t : Terminal) → turned e (seatIn images i t) ≡ seatIn images i (turnedIn images e i t)
-unfolding turnedIn turned
-seat-turned images e i t = by-test (inF7 (seatIn images i t)) (λ h. rw (turnedIn, h)) (λ h. rw (turnedIn, h))
+station-turned : (images : List ℕ) (e : Bool) (i : ℕ) (t : Terminal) → stationAfterE e (stationIn images i t) ≡ stationIn images i (terminalAfterE images e i t)
+unfolding terminalAfterE stationAfterE
+station-turned images e i t = by-test (inF7 (stationIn images i t)) (λ h. rw (terminalAfterE, h)) (λ h. rw (terminalAfterE, h))
 
-seats-turned : (images : List ℕ) (e : Bool) (i : ℕ) (ts : List Terminal) → map (turned e) (seatsFrom images i ts) ≡ seatsFrom images i (mapFrom (turnedIn images e) i ts)
+stations-turned : (images : List ℕ) (e : Bool) (i : ℕ) (ts : List Terminal) → map (stationAfterE e) (stationsFrom images i ts) ≡ stationsFrom images i (mapFrom (terminalAfterE images e) i ts)
 unfolding mapFrom
-seats-turned images e i [] = refl
-seats-turned images e i (t ∷ ts) = rw (seat-turned images e i t, seats-turned images e (suc i) ts)
+stations-turned images e i [] = refl
+stations-turned images e i (t ∷ ts) = rw (station-turned images e i t, stations-turned images e (suc i) ts)
 
-terminals-in : (images : List ℕ) (i : ℕ) (ts : List Terminal) → map (λ (s : Seat). s .terminal) (seatsFrom images i ts) ≡ ts
+terminals-in : (images : List ℕ) (i : ℕ) (ts : List Terminal) → map (λ (s : Station). s .terminal) (stationsFrom images i ts) ≡ ts
 unfolding mapFrom
 terminals-in images i [] = refl
 terminals-in images i (t ∷ ts) = rw (terminals-in images (suc i) ts)
 
 -- ---- Who has completed a frame.
-done-newly : (class : ℕ) (e : Bool) (s : Seat) → 0 < class → among class (doneOf e s) ≡ newly class e s
+done-newly : (class : ℕ) (e : Bool) (s : Station) → 0 < class → among class (doneOf e s) ≡ newly class e s
 unfolding doneOf
 done-newly class e s h =
     let zero-is-none : eqb 0 class ≡ false = ne-eqb 0 class (λ z. omega arith) in
     by-test (inF7 s)
     (λ t. rw t
-    (by-test (eqb (turnOf e s .done) 0)
-    (λ u. rw (u, eqb-true (turnOf e s .done) 0 u, zero-is-none))
-    (λ u. rw (u, or-false (eqb class (turnOf e s .done))) (eqb-turned class (turnOf e s .done)))))
+    (by-test (eqb (accessStepOf e s .done) 0)
+    (λ u. rw (u, eqb-true (accessStepOf e s .done) 0 u, zero-is-none))
+    (λ u. rw (u, or-false (eqb class (accessStepOf e s .done))) (eqb-turned class (accessStepOf e s .done)))))
     (λ t. rw (t, zero-is-none))
 
 abbrev doneBits : ℕ → List Sender → List Bool
 doneBits class ss = map (λ (s : Sender). among class (s .done)) ss
 
-either-done : (class : ℕ) (e : Bool) (ss : List Sender) → 0 < class → eitherAll (doneBits class ss) (map (newly class e) (seatsOf ss)) ≡ doneBits class (map (hearsE e) ss)
+either-done : (class : ℕ) (e : Bool) (ss : List Sender) → 0 < class → eitherAll (doneBits class ss) (map (newly class e) (stationsOf ss)) ≡ doneBits class (map (hearsE e) ss)
 unfolding hearsE
 either-done class e [] h = refl
 either-done class e (s ∷ ss) h =
-    rw (among-append class (s .done) (doneOf e (s .seat)), done-newly class e (s .seat) h, either-done class e ss h)
+    rw (among-append class (s .done) (doneOf e (s .station)), done-newly class e (s .station) h, either-done class e ss h)
 
 -- ---- The relation of the two as E number k comes, k from 0.
 abbrev letterAt : Hit → ℕ → ℕ
@@ -122,31 +122,31 @@ unfolding struckAt
 struck-first none k e b = refl
 struck-first (given letters) k e b = rw (lt-ltb k 4 b)
 
-record Codes (images : List ℕ) (any1 any3 : Bool) (k : ℕ) (m : Moment) (l : Lines) (ts : List Terminal) : Type 0 where
+record Codes (images : List ℕ) (any1 any3 : Bool) (k : ℕ) (m : Tally) (l : Lines) (ts : List Terminal) : Type 0 where
   gone : length (l .es) ≡ k
   letters-are : m .letters ≡ lettersFrom k (l .hit)
   state-is : m .state ≡ l .network
   place-is : k < 4 → m .place ≡ k
-  heard-is : m .heard ≡ l .heardD
+  heard-is : m .echo ≡ l .heardD
   done1-is : m .done1 ≡ doneOctet 1 (l .senders)
   done2-is : m .done2 ≡ doneOctet 2 (l .senders)
-  seats-are : seatsOf (l .senders) ≡ seatsFrom images 0 ts
+  stations-are : stationsOf (l .senders) ≡ stationsFrom images 0 ts
   eight : length (l .senders) ≡ 8
   in-step : InStep (length (l .es)) (l .senders)
-  info1-is : anyInfo1 (seatsOf (l .senders)) ≡ any1
-  info3-is : anyInfo3 (seatsOf (l .senders)) ≡ any3
+  info1-is : anyInfo1 (stationsOf (l .senders)) ≡ any1
+  info3-is : anyInfo3 (stationsOf (l .senders)) ≡ any3
 
-combined-is : (m : Moment) (l : Lines) → length (l .es) < 4 → InStep (length (l .es)) (l .senders) → m .place ≡ length (l .es) → m .calling ≡ anyInfo1 (seatsOf (l .senders)) → m .d ≡ allD (eComes l) (seatsOf (l .senders)) → combinedD m ≡ dComes l
-unfolding combinedD
+combined-is : (m : Tally) (l : Lines) → length (l .es) < 4 → InStep (length (l .es)) (l .senders) → m .place ≡ length (l .es) → m .info1 ≡ anyInfo1 (stationsOf (l .senders)) → m .d ≡ allD (eComes l) (stationsOf (l .senders)) → dHeard m ≡ dComes l
+unfolding dHeard
 combined-is m l b i p c d = rw (p, c, d) (sym (quick-d l b i))
 
 -- ---- One opportunity.
-module _ (images : List ℕ) (any1 any3 : Bool) (k : ℕ) (m : Moment) (l : Lines) (ts : List Terminal) (c : Codes images any1 any3 k m l ts) (b : k < 4) where
-  abbrev seatsOn : List Seat
-  seatsOn = seatsOf (l .senders)
+module _ (images : List ℕ) (any1 any3 : Bool) (k : ℕ) (m : Tally) (l : Lines) (ts : List Terminal) (c : Codes images any1 any3 k m l ts) (b : k < 4) where
+  abbrev stationsOn : List Station
+  stationsOn = stationsOf (l .senders)
 
-  abbrev toEnd : Moment
-  toEnd = through seatsOn (begun m)
+  abbrev toEnd : Tally
+  toEnd = through stationsOn (begun m)
 
   few : length (l .es) < 4
   few = rw (c .gone) b
@@ -157,25 +157,25 @@ module _ (images : List ℕ) (any1 any3 : Bool) (k : ℕ) (m : Moment) (l : Line
       rw (c .letters-are, c .state-is, c .heard-is)
       (struck-first (l .hit) k (sentE (l .network) (l .heardD)) b ∙ rw (← c .gone) (sym (quick-e l few)))
 
-  after-is : momentAfter images m ts ≡ ended toEnd
-  unfolding momentAfter
-  after-is = rw (c .seats-are, gone-through images 0 (begun m) ts)
+  after-is : tallyAfter images m ts ≡ ended toEnd
+  unfolding tallyAfter
+  after-is = rw (c .stations-are, gone-through images 0 (begun m) ts)
 
-  d-is : combinedD toEnd ≡ dComes l
+  d-is : dHeard toEnd ≡ dComes l
   unfolding begun
-  d-is = combined-is toEnd l few (c .in-step) (c .place-is b ∙ sym (c .gone)) refl (ap (λ (e : Bool). allD e seatsOn) e-is)
+  d-is = combined-is toEnd l few (c .in-step) (c .place-is b ∙ sym (c .gone)) refl (ap (λ (e : Bool). allD e stationsOn) e-is)
 
-  done-is : (class octet : ℕ) → 0 < class → octet ≡ doneOctet class (l .senders) → turnAll octet (map (newly class (begun m .e)) seatsOn) ≡ doneOctet class (onward l .senders)
+  done-is : (class octet : ℕ) → 0 < class → octet ≡ doneOctet class (l .senders) → turnAll octet (map (newly class (begun m .e)) stationsOn) ≡ doneOctet class (onward l .senders)
   unfolding doneOctet onward sendersAfter
   done-is class octet h is =
       rw (is, e-is)
-      (turn-all (doneBits class (l .senders)) (map (newly class (eComes l)) seatsOn) (rw length-map (c .eight)) (rw (length-map, length-map) (c .eight))
+      (turn-all (doneBits class (l .senders)) (map (newly class (eComes l)) stationsOn) (rw length-map (c .eight)) (rw (length-map, length-map) (c .eight))
       ∙ ap numberLowFirst (either-done class (eComes l) (l .senders) h))
 
-  seats-on : seatsOf (onward l .senders) ≡ seatsFrom images 0 (terminalsAfter images m ts)
+  stations-on : stationsOf (onward l .senders) ≡ stationsFrom images 0 (terminalsAfter images m ts)
   unfolding onward sendersAfter terminalsAfter
-  seats-on =
-      seats-hear (eComes l) (l .senders) ∙ rw (c .seats-are, e-is) (seats-turned images (eComes l) 0 ts)
+  stations-on =
+      stations-hear (eComes l) (l .senders) ∙ rw (c .stations-are, e-is) (stations-turned images (eComes l) 0 ts)
 
   next : Codes images any1 any3 (suc k) (ended toEnd) (onward l) (terminalsAfter images m ts)
   unfolding onward sendersAfter ended begun
@@ -188,7 +188,7 @@ module _ (images : List ℕ) (any1 any3 : Bool) (k : ℕ) (m : Moment) (l : Line
         heard-is = d-is;
         done1-is = done-is 1 (m .done1) (omega arith) (c .done1-is);
         done2-is = done-is 2 (m .done2) (omega arith) (c .done2-is);
-        seats-are = seats-on;
+        stations-are = stations-on;
         eight = rw length-map (c .eight);
         in-step = in-step-onward l (c .in-step);
         info1-is = info1-hears (eComes l) (l .senders) ∙ c .info1-is;
@@ -200,22 +200,22 @@ module _ (images : List ℕ) (any1 any3 : Bool) (k : ℕ) (m : Moment) (l : Line
   unfolding ended begun
   ds-are = rw d-is
 
-  calling-is : ended toEnd .calling ≡ any1
+  calling-is : ended toEnd .info1 ≡ any1
   unfolding ended begun
   calling-is = c .info1-is
 
-  frames-are : ended toEnd .frames ≡ any3
+  frames-are : ended toEnd .info3 ≡ any3
   unfolding ended begun
   frames-are = c .info3-is
 
--- the same of `momentAfter`
-record Stepped (images : List ℕ) (any1 any3 : Bool) (k : ℕ) (m : Moment) (l : Lines) (ts : List Terminal) : Type 0 where
-  codes : Codes images any1 any3 (suc k) (momentAfter images m ts) (onward l) (terminalsAfter images m ts)
-  ds-come : momentAfter images m ts .ds ≡ record { first = m .ds .second; second = m .ds .third; third = m .ds .fourth; fourth = dComes l }
-  calling-comes : momentAfter images m ts .calling ≡ any1
-  frames-come : momentAfter images m ts .frames ≡ any3
+-- the same of `tallyAfter`
+record Stepped (images : List ℕ) (any1 any3 : Bool) (k : ℕ) (m : Tally) (l : Lines) (ts : List Terminal) : Type 0 where
+  codes : Codes images any1 any3 (suc k) (tallyAfter images m ts) (onward l) (terminalsAfter images m ts)
+  ds-come : tallyAfter images m ts .ds ≡ record { first = m .ds .second; second = m .ds .third; third = m .ds .fourth; fourth = dComes l }
+  calling-comes : tallyAfter images m ts .info1 ≡ any1
+  frames-come : tallyAfter images m ts .info3 ≡ any3
 
-stepped : (images : List ℕ) (any1 any3 : Bool) (k : ℕ) (m : Moment) (l : Lines) (ts : List Terminal) → Codes images any1 any3 k m l ts → k < 4 → Stepped images any1 any3 k m l ts
+stepped : (images : List ℕ) (any1 any3 : Bool) (k : ℕ) (m : Tally) (l : Lines) (ts : List Terminal) → Codes images any1 any3 k m l ts → k < 4 → Stepped images any1 any3 k m l ts
 stepped images any1 any3 k m l ts c b =
     record {
       codes = rw (after-is images any1 any3 k m l ts c b) (next images any1 any3 k m l ts c b);
@@ -225,17 +225,17 @@ stepped images any1 any3 k m l ts c b =
     }
 
 -- ---- The four.
-letters-first : (h : Hit) → lettersOf h ≡ lettersFrom 0 h
-unfolding lettersOf
+letters-first : (h : Hit) → lettersAtE h ≡ lettersFrom 0 h
+unfolding lettersAtE
 letters-first none = refl
 letters-first (given letters) = refl
 
-none-done : (class : ℕ) (ss : List Seat) → numberLowFirst (doneBits class (map seated ss)) ≡ 0
-unfolding numberLowFirst seated
+none-done : (class : ℕ) (ss : List Station) → numberLowFirst (doneBits class (map asSender ss)) ≡ 0
+unfolding numberLowFirst asSender
 none-done class [] = refl
 none-done class (s ∷ ss) = rw (none-done class ss)
 
-codes-first : (images : List ℕ) (b : Bus) (ts : List Terminal) → length ts ≡ 8 → b .seats ≡ seatsFrom images 0 ts → Codes images (anyInfo1 (b .seats)) (anyInfo3 (b .seats)) 0 (firstOf b) (begins b) ts
+codes-first : (images : List ℕ) (b : Bus) (ts : List Terminal) → length ts ≡ 8 → b .stations ≡ stationsFrom images 0 ts → Codes images (anyInfo1 (b .stations)) (anyInfo3 (b .stations)) 0 (firstTallyOf b) (begins b) ts
 unfolding begins doneOctet
 codes-first images b ts eight is =
     record {
@@ -244,13 +244,13 @@ codes-first images b ts eight is =
       state-is = refl;
       place-is = λ _. refl;
       heard-is = refl;
-      done1-is = sym (none-done 1 (b .seats));
-      done2-is = sym (none-done 2 (b .seats));
-      seats-are = seats-seated (b .seats) ∙ is;
-      eight = rw (length-map, is, length-mapped (seatIn images) 0 ts) eight;
+      done1-is = sym (none-done 1 (b .stations));
+      done2-is = sym (none-done 2 (b .stations));
+      stations-are = stations-stationed (b .stations) ∙ is;
+      eight = rw (length-map, is, length-mapped (stationIn images) 0 ts) eight;
       in-step = in-step-begins b;
-      info1-is = rw seats-seated;
-      info3-is = rw seats-seated;
+      info1-is = rw stations-stationed;
+      info3-is = rw stations-stationed;
     }
 
 network-kept : (b : Bus) → exchanged b .network ≡ b .network .state
@@ -258,22 +258,22 @@ unfolding exchanged onward begins
 network-kept b = refl
 
 pub exchange-shown : ExchangeShown
-unfolding momentAfterFour terminalsAfterFour exchanged opportunitiesOf padded
+unfolding tallyAfterFour terminalsAfterFour exchanged opportunitiesOf filledWithOnes
 exchange-shown images b ts eight is =
-    let any1 : Bool = anyInfo1 (b .seats) in
-    let any3 : Bool = anyInfo3 (b .seats) in
-    let s1 = stepped images any1 any3 0 (firstOf b) (begins b) ts (codes-first images b ts eight is) (omega arith) in
+    let any1 : Bool = anyInfo1 (b .stations) in
+    let any3 : Bool = anyInfo3 (b .stations) in
+    let s1 = stepped images any1 any3 0 (firstTallyOf b) (begins b) ts (codes-first images b ts eight is) (omega arith) in
     let s2 = stepped images any1 any3 1 _ _ _ (s1 .codes) (omega arith) in
     let s3 = stepped images any1 any3 2 _ _ _ (s2 .codes) (omega arith) in
     let s4 = stepped images any1 any3 3 _ _ _ (s3 .codes) (omega arith) in
     record {
-      seats = s4 .codes .seats-are;
-      terminals = rw (s4 .codes .seats-are, terminals-in);
+      stations = s4 .codes .stations-are;
+      terminals = rw (s4 .codes .stations-are, terminals-in);
       ds = rw (s4 .ds-come, s3 .ds-come, s2 .ds-come, s1 .ds-come);
-      heard = s4 .codes .heard-is;
+      echo = s4 .codes .heard-is;
       state = s4 .codes .state-is ∙ network-kept b;
-      calling = s4 .calling-comes;
-      frames = s4 .frames-come;
+      info1 = s4 .calling-comes;
+      info3 = s4 .frames-come;
       done1 = s4 .codes .done1-is;
       done2 = s4 .codes .done2-is;
     }

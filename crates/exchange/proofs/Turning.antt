@@ -10,12 +10,12 @@ use lib.ListN.{length, length-append}
 use borrow.Author.Tests.{eq-eqb, ne-eqb}
 use Rattle.hdlc.specs.Bits.{numberLowFirst}
 use Rattle.packing.proofs.KeptLaws.{shift-in}
-use Rattle.exchange.specs.Moment.{turnedBit}
+use Rattle.exchange.specs.Tally.{rotatedBit}
 
 -- an octet after a bit for each of some terminals
 abbrev pub turnAll : ℕ → List Bool → ℕ
 turnAll octet [] = octet
-turnAll octet (b ∷ bs) = turnAll (turnedBit octet b) bs
+turnAll octet (b ∷ bs) = turnAll (rotatedBit octet b) bs
 
 -- one list of bits or another, bit by bit
 abbrev pub eitherAll : List Bool → List Bool → List Bool
@@ -28,7 +28,7 @@ unfolding numberLowFirst
 low-bit true t = eq-eqb ((1 + 2 * numberLowFirst t) % 2) 1 (omega arith)
 low-bit false t = ne-eqb ((0 + 2 * numberLowFirst t) % 2) 1 (λ z. omega arith)
 
-turned-one : (x : Bool) (t : List Bool) (b : Bool) → length t ≡ 7 → turnedBit (numberLowFirst (x ∷ t)) b ≡ numberLowFirst (t ++ ((x || b) ∷ []))
+turned-one : (x : Bool) (t : List Bool) (b : Bool) → length t ≡ 7 → rotatedBit (numberLowFirst (x ∷ t)) b ≡ numberLowFirst (t ++ ((x || b) ∷ []))
 turned-one x t b l = rw (low-bit x t) (sym (shift-in x t (x || b) l))
 
 -- those gone through stand behind those to come

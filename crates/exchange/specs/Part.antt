@@ -1,15 +1,15 @@
 -- One terminal's part in a D opportunity, with the images that are lent: eight of them one after the other, each in octets for the longest.
--- This is how the code goes; the law `exchange-shown` (Shown.antt) holds it to crate `bus`.
+-- This is how the code goes; the law `exchange-shown` (Shown.antt) holds it to crate `bus_rules`.
 use mathlib.Core.Bool.{Bool, true, cond}
 use mathlib.Core.List.{List, [], _∷_}
 use Prim.Native.Nat.{ℕ, zero, suc, _+_, _*_}
 use lib.Dec.{ltb}
 use Rattle.packing.specs.Packing.{imageRoom, packedBit}
 use Rattle.terminal.specs.declared.Terminal.{Terminal}
-use Rattle.bus.specs.Bus.{Seat, terminals}
-use Rattle.bus.specs.Exchange.{turned, turnOf, dOf, inF7}
-use Rattle.exchange.specs.Moment.{also}
-use Rattle.exchange.specs.declared.moment.Moment.{Moment}
+use Rattle.bus_rules.specs.Bus.{Station, terminals}
+use Rattle.bus_rules.specs.Exchange.{stationAfterE, accessStepOf, dOf, inF7}
+use Rattle.exchange.specs.Tally.{also}
+use Rattle.exchange.specs.declared.tally.Tally.{Tally}
 use Rattle.exchange.specs.declared.part.Part.{Part}
 
 -- the bits of one image's room
@@ -30,20 +30,20 @@ unfoldable pub imageBit : List ℕ → ℕ → ℕ → Bool
 imageBit images i sent = cond (ltb i terminals) (cond (ltb sent imageBits) (packedBit images (i * imageBits + sent)) true) true
 
 -- terminal i with what is lent for it
-abbrev pub seatIn : List ℕ → ℕ → Terminal → Seat
-seatIn images i t = record { terminal = t; image = imageOf images i; body = [] }
+abbrev pub stationIn : List ℕ → ℕ → Terminal → Station
+stationIn images i t = record { terminal = t; image = imageOf images i; body = [] }
 
 -- a terminal after the E that has come
-unfoldable pub turnedIn : List ℕ → Bool → ℕ → Terminal → Terminal
-turnedIn images e i t = turned e (seatIn images i t) .terminal
+unfoldable pub terminalAfterE : List ℕ → Bool → ℕ → Terminal → Terminal
+terminalAfterE images e i t = stationAfterE e (stationIn images i t) .terminal
 
 -- the class of the frame that it completes, 0 for none
-unfoldable pub doneIn : List ℕ → Bool → ℕ → Terminal → ℕ
-doneIn images e i t = cond (inF7 (seatIn images i t)) (turnOf e (seatIn images i t) .done) 0
+unfoldable pub completedClass : List ℕ → Bool → ℕ → Terminal → ℕ
+completedClass images e i t = cond (inF7 (stationIn images i t)) (accessStepOf e (stationIn images i t) .done) 0
 
 -- the exchange with it gone through
-unfoldable pub goneThrough : List ℕ → ℕ → Moment → Terminal → Moment
-goneThrough images i m t = also (t .state) (dOf (m .e) (seatIn images i t)) (doneIn images (m .e) i t) m
+unfoldable pub goneThrough : List ℕ → ℕ → Tally → Terminal → Tally
+goneThrough images i m t = also (t .state) (dOf (m .e) (stationIn images i t)) (completedClass images (m .e) i t) m
 
-unfoldable pub taken : List ℕ → ℕ → Moment → Terminal → Part
-taken images i m t = record { terminal = turnedIn images (m .e) i t; moment = goneThrough images i m t }
+unfoldable pub taken : List ℕ → ℕ → Tally → Terminal → Part
+taken images i m t = record { terminal = terminalAfterE images (m .e) i t; tally = goneThrough images i m t }

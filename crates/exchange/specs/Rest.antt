@@ -7,18 +7,18 @@ use mathlib.Core.List.{List, [], _∷_, map}
 use Prim.Native.Nat.{ℕ}
 use lib.Dec.{eqb}
 use Rattle.combining.specs.Hit.{struckBit}
-use Rattle.cells.specs.Cells.{infoIn}
+use Rattle.notes_and_cells.specs.Cells.{infoIn}
 use Rattle.table_6_2.specs.Table62.{F7, infoSent}
 use Rattle.dchannel.specs.Access.{normal2}
 use Rattle.dchannel.specs.AtRest.{atRest}
 use Rattle.terminal.specs.declared.Terminal.{Terminal}
-use Rattle.walks.specs.Over.{foldFrom}
-use Rattle.bus.specs.Exchange.{anySends}
-use Rattle.bus.specs.Quick.{sentE}
-use Rattle.exchange.specs.Moment.{noLetters, firstMoment}
-use Rattle.exchange.specs.Opportunities.{momentAfterFour, terminalsAfterFour}
-use Rattle.exchange.specs.declared.moment.Letters.{Letters}
-use Rattle.exchange.specs.declared.moment.Moment.{Moment}
+use Rattle.slice_lemmas.specs.Over.{foldFrom}
+use Rattle.bus_rules.specs.Exchange.{anySends}
+use Rattle.bus_rules.specs.Quick.{sentE}
+use Rattle.exchange.specs.Tally.{noLetters, firstTally}
+use Rattle.exchange.specs.Opportunities.{tallyAfterFour, terminalsAfterFour}
+use Rattle.exchange.specs.declared.tally.Letters.{Letters}
+use Rattle.exchange.specs.declared.tally.Tally.{Tally}
 use Rattle.exchange.specs.declared.rest.Rest.{Rest}
 
 -- whether an E changes nothing in a terminal, and a 1 leaves it for D
@@ -36,10 +36,10 @@ statesOf ts = map (λ (t : Terminal). t .state) ts
 -- ---- As the code gathers it, for an E of 1 and where none sends INFO 1.
 -- no terminal gone through
 abbrev pub noneGone : Rest
-noneGone = record { still = true; frames = false }
+noneGone = record { still = true; info3 = false }
 
 abbrev pub alsoRests : ℕ → Rest → Terminal → Rest
-alsoRests i r t = record { still = (r .still && partRests true t) && not (eqb (infoIn infoSent (t .state)) 1); frames = r .frames || eqb (infoIn infoSent (t .state)) 3 }
+alsoRests i r t = record { still = (r .still && partRests true t) && not (eqb (infoIn infoSent (t .state)) 1); info3 = r .info3 || eqb (infoIn infoSent (t .state)) 3 }
 
 unfoldable pub restOf : List Terminal → Rest
 restOf ts = foldFrom alsoRests 0 noneGone ts
@@ -49,37 +49,37 @@ abbrev pub eSent : ℕ → ℕ → Bool → Bool
 eSent state letter heardD = struckBit letter (sentE state heardD)
 
 -- whether all four E are 1
-unfoldable pub onesSent : Moment → Bool
+unfoldable pub onesSent : Tally → Bool
 onesSent m =
-    ((eSent (m .state) (m .letters .first) (m .heard) && eSent (m .state) (m .letters .second) true)
+    ((eSent (m .state) (m .letters .first) (m .echo) && eSent (m .state) (m .letters .second) true)
     && eSent (m .state) (m .letters .third) true)
     && eSent (m .state) (m .letters .fourth) true
 
 -- whether this is an exchange as its first E comes
-unfoldable pub isFirst : Moment → Bool
+unfoldable pub isFirst : Tally → Bool
 isFirst m =
     (((((((((m .ds .first && m .ds .second) && m .ds .third) && m .ds .fourth) && eqb (m .place) 0) && eqb (m .done1) 0) && eqb (m .done2) 0)
-    && m .e) && m .d) && not (m .calling)) && not (m .frames)
+    && m .e) && m .d) && not (m .info1)) && not (m .info3)
 
 -- whether it is enough to look at the terminals
-unfoldable pub mayRest : Moment → Bool
+unfoldable pub mayRest : Tally → Bool
 mayRest m = isFirst m && onesSent m
 
 -- what it leaves, with whether any terminal sends INFO 1, and INFO 3
-abbrev pub restMoment : ℕ → Letters → Bool → Bool → Moment
-restMoment state letters calling frames =
+abbrev pub restTally : ℕ → Letters → Bool → Bool → Tally
+restTally state letters info1 info3 =
     record {
       letters = noLetters;
-      ds = record { first = true; second = not calling; third = true; fourth = true };
+      ds = record { first = true; second = not info1; third = true; fourth = true };
       state = state;
       place = 0;
       done1 = 0;
       done2 = 0;
-      heard = true;
+      echo = true;
       e = eSent state (letters .fourth) true;
       d = true;
-      calling = calling;
-      frames = frames;
+      info1 = info1;
+      info3 = info3;
     }
 
 -- ---- The four opportunities, where all terminals rest at each of the four E (proofs/Resting.antt).
@@ -92,5 +92,5 @@ pub record RestsThrough (state : ℕ) (letters : Letters) (heardD : Bool) (ts : 
 abbrev pub RestFour : Type 0
 RestFour =
     (images : List ℕ) (state : ℕ) (letters : Letters) (heardD : Bool) (ts : List Terminal) → RestsThrough state letters heardD ts
-    → (momentAfterFour images (firstMoment state letters heardD) ts ≡ restMoment state letters (anySends 1 (statesOf ts)) (anySends 3 (statesOf ts)))
-    × (terminalsAfterFour images (firstMoment state letters heardD) ts ≡ ts)
+    → (tallyAfterFour images (firstTally state letters heardD) ts ≡ restTally state letters (anySends 1 (statesOf ts)) (anySends 3 (statesOf ts)))
+    × (terminalsAfterFour images (firstTally state letters heardD) ts ≡ ts)

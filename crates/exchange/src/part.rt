@@ -1,7 +1,7 @@
 // One terminal's part in a D opportunity.
 ghost use mathlib.Core.Path.{_≡_};
 ghost use Rattle.exchange.specs.Part.{imageBit, taken};
-use super::moment::Moment;
+use super::tally::Tally;
 use combining::combine::TERMINALS;
 use packing::image::IMAGE_ROOM;
 use packing::image::packed_bit;
@@ -14,7 +14,7 @@ const IMAGE_BITS: u16 = 8 * IMAGE_ROOM as u16;
 // A terminal after its part, and the exchange with it gone through.
 pub struct Part {
     pub terminal: Terminal,
-    pub moment: Moment,
+    pub tally: Tally,
 }
 
 // Bit number `sent` of the image lent with terminal i, from 0; 1 where there is none.
@@ -30,12 +30,12 @@ pub fn image_bit(images: &[u8], i: usize, sent: u16) -> bool
 }
 
 // Terminal i's part at the E that has come: outside F7 it sends 1.
-pub fn one_turn(terminal: Terminal, images: &[u8], i: usize, moment: Moment) -> Part
-    ensures { λ r. ⌜ r ≡ taken (now (images .entry)) i moment terminal ⌝ }
+pub fn one_part(terminal: Terminal, images: &[u8], i: usize, tally: Tally) -> Part
+    ensures { λ r. ⌜ r ≡ taken (now (images .entry)) i tally terminal ⌝ }
 {
     if terminal.state == F7 {
         let before = terminal.access;
-        let turn = before.turn(moment.e, image_bit(images, i, before.sent));
+        let turn = before.access_step(tally.e, image_bit(images, i, before.sent));
         let access = turn.access;
         let alignment = terminal.alignment;
         Part {
@@ -45,12 +45,12 @@ pub fn one_turn(terminal: Terminal, images: &[u8], i: usize, moment: Moment) -> 
                 state: terminal.state,
                 alignment,
             },
-            moment: moment.also(terminal.state, turn.d, turn.done),
+            tally: tally.also(terminal.state, turn.d, turn.done),
         }
     } else {
         Part {
             terminal,
-            moment: moment.also(terminal.state, true, 0),
+            tally: tally.also(terminal.state, true, 0),
         }
     }
 }

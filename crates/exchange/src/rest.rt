@@ -9,7 +9,7 @@ use terminal::Terminal;
 // Whether no terminal gone through so far takes part in an exchange whose E are 1 nor sends INFO 1, and whether any sends INFO 3.
 pub struct Rest {
     pub still: bool,
-    pub frames: bool,
+    pub info3: bool,
 }
 
 // Whether an E of 1 changes nothing in a terminal, and a 1 leaves it for D.
@@ -27,7 +27,7 @@ impl Rest {
     {
         Rest {
             still: true,
-            frames: false,
+            info3: false,
         }
     }
 
@@ -38,7 +38,7 @@ impl Rest {
         let info = info_sent(terminal.state);
         Rest {
             still: self.still & part_rests(terminal) & (info != 1),
-            frames: self.frames | (info == 3),
+            info3: self.info3 | (info == 3),
         }
     }
 }

@@ -13,7 +13,7 @@ use lib.Pow.{pow-add, pow-pos}
 use lib.Count.{ones, ones-cat}
 use Rattle.frame.specs.Bits.{bit, numberHighFirst, octetBits, zeros}
 use Rattle.frame.specs.Word.{top, topBits}
-use Rattle.cases.proofs.ByCases.{at-each-below}
+use Rattle.test_lemmas.proofs.ByCases.{at-each-below}
 
 pub bit-lt : (b : Bool) → bit b < 2
 bit-lt true = omega arith

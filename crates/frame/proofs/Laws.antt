@@ -4,10 +4,10 @@ use Prim.Native.Nat.{zero, suc}
 use native.Mathlib.Omega.{arith}
 use borrow.Author.Tests.{ltb-true}
 use lib.Dec.{ltb}
-use Rattle.cases.proofs.ByCases.{at-each-below}
+use Rattle.test_lemmas.proofs.ByCases.{at-each-below}
 use Rattle.symbols.specs.Symbols.{lineLength}
 use Rattle.symbols.proofs.Levels.{level-at}
-use Rattle.frame.specs.Four.{pick, padded}
+use Rattle.frame.specs.Four.{pick, filledWithOnes}
 use Rattle.frame.specs.Bits.{octetBits, dIndex}
 use Rattle.frame.specs.Down.{downBody, downBits, eIndex}
 use Rattle.frame.specs.Up.{upBits}
@@ -74,7 +74,7 @@ pick-ones (suc (suc (suc zero))) = refl
 pick-ones (suc (suc (suc (suc k)))) = refl
 
 pub pick-padded : Laws.PickPadded
-unfolding pick padded
+unfolding pick filledWithOnes
 pick-padded zero bits h = refl
 pick-padded (suc zero) bits h = refl
 pick-padded (suc (suc zero)) bits h = refl

@@ -14,7 +14,7 @@ use Rattle.frame.specs.Up.{upBits, single}
 use Rattle.frame.specs.Word.{topBits}
 use Rattle.frame.specs.declared.fields.DownFields.{DownFields}
 use Rattle.frame.specs.declared.fields.UpFields.{UpFields}
-use Rattle.cases.proofs.ByCases.{by-test}
+use Rattle.test_lemmas.proofs.ByCases.{by-test}
 use Rattle.frame.proofs.Bits.{number-append, number-last, octet-number, ones-zeros, top-bits}
 
 -- An octet and three bits.

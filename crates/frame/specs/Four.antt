@@ -10,8 +10,8 @@ unfoldable pub pick : ℕ → Four → Bool
 pick k f = getD (f .first ∷ f .second ∷ f .third ∷ f .fourth ∷ []) k true
 
 -- Four bits of which the first ones are known: 1 for the rest.
-unfoldable pub padded : List Bool → Four
-padded bits = record { first = getD bits 0 true; second = getD bits 1 true; third = getD bits 2 true; fourth = getD bits 3 true }
+unfoldable pub filledWithOnes : List Bool → Four
+filledWithOnes bits = record { first = getD bits 0 true; second = getD bits 1 true; third = getD bits 2 true; fourth = getD bits 3 true }
 
 -- Four bits all alike.
 abbrev pub allFour : Bool → Four

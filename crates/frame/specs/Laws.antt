@@ -5,7 +5,7 @@ use mathlib.Core.List.{List}
 use Prim.Native.Nat.{ℕ, suc, _<_}
 use lib.ListN.{getD, replicate}
 use Rattle.symbols.specs.Symbols.{lineLength, none, minus, level, levels, isLine}
-use Rattle.frame.specs.Four.{pick, padded, allFour, andFour}
+use Rattle.frame.specs.Four.{pick, filledWithOnes, allFour, andFour}
 use Rattle.frame.specs.Bits.{balanced, dBits, dIndex}
 use Rattle.frame.specs.Polarity.{nextPulse}
 use Rattle.frame.specs.Down.{downBits, downLine, eBits, aBit, eIndex}
@@ -63,7 +63,7 @@ abbrev pub PickOnes : Type 0
 PickOnes = (k : ℕ) → pick k (allFour true) ≡ true
 
 abbrev pub PickPadded : Type 0
-PickPadded = (k : ℕ) (bits : List Bool) → k < 4 → pick k (padded bits) ≡ getD bits k true
+PickPadded = (k : ℕ) (bits : List Bool) → k < 4 → pick k (filledWithOnes bits) ≡ getD bits k true
 
 abbrev pub PickD : Type 0
 PickD = (k : ℕ) (l : List ℕ) → k < 4 → pick k (dBits (levels l)) ≡ level (getD l (dIndex k) none)

@@ -6,7 +6,7 @@ use Prim.Native.Nat.{ℕ}
 use Rattle.symbols.specs.Symbols.{isLine, sameSymbols}
 use Rattle.frame_reader.specs.Read.{readBy}
 use Rattle.frame_reader.specs.Laws.{RoundTrip, Exact, Ten, Two}
-use Rattle.cases.proofs.ByCases.{by-test}
+use Rattle.test_lemmas.proofs.ByCases.{by-test}
 use Rattle.symbols.proofs.Lines.{same-symbols-true, same-symbols-self}
 
 module _ {F R : Type 0} (Good : F → Type 0) (write : F → List ℕ) (taken : List ℕ → F) (fields : F → R) (refused : ℕ → R)

@@ -12,7 +12,7 @@ use Rattle.hdlc.specs.Bits.{lowBits, bodyBits, numberLowFirst, octets}
 use Rattle.hdlc.specs.Image.{flag, stuff, image, IsBody, longestBody, longestImage, allOctets, isBody}
 use Rattle.hdlc.specs.Reading.{unstuff}
 use Rattle.hdlc.specs.Ones.{onesAfter, endingOnes}
-use Rattle.cases.proofs.ByCases.{by-test, both}
+use Rattle.test_lemmas.proofs.ByCases.{by-test, both}
 use Rattle.hdlc.proofs.OnesLaws.{runs-append, runs-more, runs-take, Runs}
 
 -- "low-order bit first": reading the first n bits of a number below 2 ^ n gives it back

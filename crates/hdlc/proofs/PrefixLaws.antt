@@ -10,7 +10,7 @@ use lib.Seq.{getD-take, take-append-seam, take-length, ext-getD, length-take-le}
 use borrow.Author.Tests.{leb-true, leb-false}
 use Rattle.hdlc.specs.Image.{image, IsBody}
 use Rattle.hdlc.specs.Reading.{Said, nothing, heard}
-use Rattle.cases.proofs.ByCases.{by-test}
+use Rattle.test_lemmas.proofs.ByCases.{by-test}
 use Rattle.hdlc.proofs.ImageLaws.{length-image, image-ends}
 use Rattle.hdlc.proofs.ReadingLaws.{answers-take, answers-image, openedFresh, quiet-opened, atLast, atLast-at}
 

@@ -5,7 +5,7 @@ use mathlib.Core.Path.{_≡_, refl, ap, sym, _∙_}
 use Prim.Native.Nat.{ℕ, zero, suc}
 use lib.Dec.{eqb}
 use lib.ListN.{drop, replicate}
-use Rattle.cases.proofs.ByCases.{by-test}
+use Rattle.test_lemmas.proofs.ByCases.{by-test}
 use Rattle.hdlc.specs.Ones.{onesAfter, leading}
 use Rattle.hdlc.specs.Reading.{unstuff, reversed, rest, contents}
 use Rattle.hdlc.proofs.ReadingLaws.{leading-reversed, reversed-twice, reversed-zero}

@@ -14,7 +14,7 @@ use Rattle.hdlc.specs.Bits.{bodyBits}
 use Rattle.hdlc.specs.Image.{flag, stuff, image, IsBody, longestBody}
 use Rattle.hdlc.specs.Reading.{Reading, Said, nothing, torn, heard, cleared, startsWith, sevenOnes, unstuff, reversed, rest, contents, between, aborted, says, said, next}
 use Rattle.hdlc.specs.Ones.{onesAfter, leading}
-use Rattle.cases.proofs.ByCases.{by-test}
+use Rattle.test_lemmas.proofs.ByCases.{by-test}
 use Rattle.hdlc.proofs.OnesLaws.{runs-after, Runs}
 use Rattle.hdlc.proofs.ImageLaws.{octets-bodyBits, length-bodyBits, unstuff-stuff, stuff-runs, length-image}
 

@@ -12,25 +12,25 @@ use Rattle.symbols.specs.Symbols.{lineLength}
 use Rattle.symbols.proofs.Lines.{fits-length}
 use Rattle.combining.specs.Hit.{noneLetter}
 use Rattle.hdlc.specs.Image.{longestBody}
-use Rattle.bus.specs.Calls.{Call}
+use Rattle.bus_rules.specs.Calls.{Call}
 use Rattle.bus_event.specs.Event.{imagesRoom}
-use Rattle.call_rules.specs.Kept.{Kept, settled}
-use Rattle.call_rules.proofs.InOrder.{InOrder, in-order, order-reply}
+use Rattle.bus_call_specs.specs.Kept.{Kept, settled}
+use Rattle.bus_call_specs.proofs.InOrder.{InOrder, in-order, order-reply}
 use Rattle.note_text.specs.Room.{laid}
 use Rattle.report.specs.Told.{done, doneAll}
-use Rattle.report.specs.Ahead.{Stand, Sound, Stopped}
+use Rattle.report.specs.Ahead.{BookState, Sound, Stopped}
 use Rattle.report.proofs.Order.{order-done}
 use Rattle.report.proofs.Driving.{stays-sound}
-use Rattle.book.specs.Progress.{standOf, reason}
-use Rattle.book.specs.GoOn.{GoesOn}
-use Rattle.book.specs.declared.progress.Progress.{Progress}
-use Rattle.book.specs.declared.progress.Went.{Went}
-use Rattle.bus_octets.specs.Layout.{recordOctets, terminalsOctets, headOctets, busOctets, recordIn, terminalsIn, lettersOf, octetsOf, shown, imagesAt, busLength}
+use Rattle.book_go_on.specs.Progress.{bookStateOf, reason}
+use Rattle.book_go_on.specs.GoOn.{GoesOn}
+use Rattle.book_go_on.specs.declared.progress.Progress.{Progress}
+use Rattle.book_go_on.specs.declared.progress.GoneOn.{GoneOn}
+use Rattle.bus_octets.specs.Layout.{recordOctets, terminalsOctets, headOctets, busOctets, recordIn, terminalsIn, lettersRead, octetsOf, shown, imagesAt, busLength}
 use Rattle.bus_octets.proofs.Exact.{exact}
 use Rattle.bus_octets.proofs.RoundTrip.{record-back, terminals-back, round-trip}
 use Rattle.bus_octets.proofs.Lengths.{length-record, length-head, laid-front}
 use Rattle.host_steps.proofs.Laws.{octets-called}
-use Rattle.host_book.specs.Octets.{bookLength, bookOctets, standIn, progressIn, progressLaid, isBook}
+use Rattle.host_book.specs.Octets.{bookLength, bookOctets, bookStateIn, progressIn, progressLaid, isBook}
 use Rattle.host_book.specs.Going.{Goes}
 use Rattle.host_book.proofs.Laws.{tested, book-round-trip}
 
@@ -69,8 +69,8 @@ module _ (b : List ℕ) (h : isBook b ≡ true) where
   bus-long : length s ≡ busLength
   bus-long = exact s (tested b h .bus) .long
 
-  ready : Sound (standIn b)
-  unfolding standIn
+  ready : Sound (bookStateIn b)
+  unfolding bookStateIn
   ready = exact s (tested b h .bus) .ready
 
   order : InOrder k
@@ -94,8 +94,8 @@ module _ (b : List ℕ) (h : isBook b ≡ true) where
       ap terminalsIn book-is
       ∙ (let e = terminals-back (k .terminals) (order .terminals-fit) (recordOctets (k .bus)) rest in rw (order .eight, length-record (k .bus)) at e)
 
-  letters-are : lettersOf s ≡ k .letters
-  unfolding lettersOf shown
+  letters-are : lettersRead s ≡ k .letters
+  unfolding lettersRead shown
   letters-are = rw (eq-eqb _ _ bus-long)
 
   octets-are : octetsOf s ≡ k .octets
@@ -108,8 +108,8 @@ module _ (b : List ℕ) (h : isBook b ≡ true) where
 
   -- ---- What is laid over it.
   module _ (p : Progress) (images letters octets : List ℕ) where
-    abbrev stand : Stand
-    stand = standOf p images octets letters
+    abbrev stand : BookState
+    stand = bookStateOf p images octets letters
 
     abbrev room : List ℕ
     room = take imagesAt b ++ (images ++ drop imagesRoom (drop imagesAt b))
@@ -133,20 +133,20 @@ module _ (b : List ℕ) (h : isBook b ≡ true) where
         rw over (laid-behind (busOctets (stand .kept)) (drop busLength b) _ busLength bus-long′ (rw (length-drop busLength b, long)))
 
   -- ---- All of it.
-  pub gone : (text report : List ℕ) (whole : Bool) (w : Went) (progress : Progress) (images letters octets images′ letters′ octets′ report′ b′ : List ℕ)
-      → progress ≡ progressIn b → images ≡ take imagesRoom (drop imagesAt b) → letters ≡ lettersOf s → octets ≡ octetsOf s
+  pub gone : (text report : List ℕ) (whole : Bool) (w : GoneOn) (progress : Progress) (images letters octets images′ letters′ octets′ report′ b′ : List ℕ)
+      → progress ≡ progressIn b → images ≡ take imagesRoom (drop imagesAt b) → letters ≡ lettersRead s → octets ≡ octetsOf s
       → GoesOn progress images octets letters text report whole w images′ octets′ letters′ report′
       → b′ ≡ progressLaid (w .progress) letters′ octets′ (take imagesAt b ++ (images′ ++ drop imagesRoom (drop imagesAt b)))
       → Goes b text report whole w b′ report′
-  unfolding standIn progressIn shown reason
+  unfolding bookStateIn progressIn shown reason
   gone text report whole w progress images letters octets images′ letters′ octets′ report′ b′ pi ii li oi g bi =
-      let e : standOf progress images octets letters ≡ standIn b = rw (pi, ii, images-are, li, letters-are, oi, octets-are, record-is, terminals-are) in
+      let e : bookStateOf progress images octets letters ≡ bookStateIn b = rw (pi, ii, images-are, li, letters-are, oi, octets-are, record-is, terminals-are) in
       let z : w .reply ≡ 0 = g .replies ∙ (ap reason e ∙ ready) in
-      let left : Stand = standOf (w .progress) images′ octets′ letters′ in
-      let stop : Stopped (standIn b) text report whole left (w .taken) (w .wrote) (w .why) report′ = rw e at (g .stops z) in
-      let sound : Sound left = stays-sound (standIn b) left text report report′ whole (w .taken) (w .wrote) (w .why) stop ready in
+      let left : BookState = bookStateOf (w .progress) images′ octets′ letters′ in
+      let stop : Stopped (bookStateIn b) text report whole left (w .taken) (w .wrote) (w .why) report′ = rw e at (g .stops z) in
+      let sound : Sound left = stays-sound (bookStateIn b) left text report report′ whole (w .taken) (w .wrote) (w .why) stop ready in
       let octets-long : length octets′ ≡ longestBody =
       ap (λ (x : Kept). length (x .octets)) (stop .went .left) ∙ (octets-done k (stop .went .made) order ∙ exact s (tested b h .bus) .octets-fit) in
       let b-is : b′ ≡ bookOctets left = bi ∙ laid-is (w .progress) images′ letters′ octets′ (in-order 0 (left .kept) sound) octets-long in
       let stored = book-round-trip left sound refl octets-long in
-      record { stops = rw (b-is, stored .stand-is) stop; left = rw b-is (stored .is-book) }
+      record { stops = rw (b-is, stored .book-state-is) stop; left = rw b-is (stored .is-book) }

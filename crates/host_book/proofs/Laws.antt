@@ -8,8 +8,8 @@ use lib.Dec.{eqb, leb}
 use lib.ListN.{length, getD, take, drop, replicate, length-append, take-append-drop, drop-of-length-le}
 use lib.Seq.{take-at, drop-cons, getD-append-add}
 use borrow.Author.Tests.{eqb-true, eq-eqb, le-leb, leb-true}
-use Rattle.cases.proofs.ByCases.{both}
-use Rattle.cases.proofs.Operators.{and-both}
+use Rattle.test_lemmas.proofs.ByCases.{both}
+use Rattle.test_lemmas.proofs.Operators.{and-both}
 use Rattle.symbols.specs.Symbols.{lineLength}
 use Rattle.hdlc.specs.Image.{longestBody}
 use Rattle.bus_event.specs.Event.{imagesRoom}
@@ -17,11 +17,11 @@ use Rattle.bus_octets.specs.Layout.{flag, busOctets, busLength, isBus}
 use Rattle.bus_octets.proofs.Exact.{exact}
 use Rattle.bus_octets.proofs.RoundTrip.{flag-back, round-trip}
 use Rattle.host_steps.proofs.Laws.{zeros-long, zeros-are-letters}
-use Rattle.report.specs.Ahead.{Stand, fresh, Sound}
+use Rattle.report.specs.Ahead.{BookState, fresh, Sound}
 use Rattle.report.proofs.Driving.{written-right, fresh-sound}
-use Rattle.host_book.specs.Octets.{bookLength, bookOctets, standIn, isBook}
+use Rattle.host_book.specs.Octets.{bookLength, bookOctets, bookStateIn, isBook}
 use Rattle.host_book.specs.Laws.{BookStored, Settled, BookRoundTrip, BookExact}
-use Rattle.host_book.specs.Going.{freshStand, freshBook, HostWritesRight, FreshIsBook}
+use Rattle.host_book.specs.Going.{freshBookState, freshBook, HostWritesRight, FreshIsBook}
 
 -- ---- What is taken for a book.
 flag-octet : (n : ℕ) → n ≤ 1 → flag (eqb n 1) ≡ n
@@ -55,7 +55,7 @@ last-three b h =
     ∙ ap (λ (l : List ℕ). getD b (busLength + 2) 0 ∷ l) (drop-of-length-le b {i = bookLength} (omega arith))))
 
 pub book-exact : BookExact
-unfolding bookOctets standIn
+unfolding bookOctets bookStateIn
 book-exact b h =
     let t = tested b h in
     let e = exact (take busLength b) (t .bus) in
@@ -75,7 +75,7 @@ flag-small false = omega arith
 behind : (a b : List ℕ) (m i n : ℕ) → length a ≡ m → i ≡ m + n → getD (a ++ b) i 0 ≡ getD b n 0
 behind a b m i n e p = let q : i ≡ length a + n = omega arith in rw q (getD-append-add a b n 0)
 
-module _ (s : Stand) (sound : Sound s) (settled : Settled s) (long : length (s .kept .octets) ≡ longestBody) where
+module _ (s : BookState) (sound : Sound s) (settled : Settled s) (long : length (s .kept .octets) ≡ longestBody) where
   abbrev bus : List ℕ
   bus = busOctets (s .kept)
 
@@ -113,24 +113,24 @@ module _ (s : Stand) (sound : Sound s) (settled : Settled s) (long : length (s .
         le-leb _ _ (flag-small (s .over)),
       )
 
-  stand-is : standIn (bookOctets s) ≡ s
-  unfolding standIn bookOctets
-  stand-is = rw (bus-is, round-trip (s .kept) sound long .shown-is, ← settled, stage-is, begun-is, over-is, flag-back (s .begun), flag-back (s .over))
+  book-state-is : bookStateIn (bookOctets s) ≡ s
+  unfolding bookStateIn bookOctets
+  book-state-is = rw (bus-is, round-trip (s .kept) sound long .shown-is, ← settled, stage-is, begun-is, over-is, flag-back (s .begun), flag-back (s .over))
 
 pub book-round-trip : BookRoundTrip
-book-round-trip s sound settled long = record { is-book = is-stored s sound settled long; stand-is = stand-is s sound settled long }
+book-round-trip s sound settled long = record { is-book = is-stored s sound settled long; book-state-is = book-state-is s sound settled long }
 
 -- ---- A fresh book.
-fresh-stored : BookStored freshStand
+fresh-stored : BookStored freshBookState
 fresh-stored =
-    book-round-trip freshStand
+    book-round-trip freshBookState
     (fresh-sound (replicate imagesRoom 0) (replicate longestBody 0) (replicate lineLength 0) (zeros-long imagesRoom)
     (let e = zeros-long longestBody in omega arith) zeros-are-letters)
     refl (zeros-long longestBody)
 
-pub fresh-bus-long : length (busOctets (freshStand .kept)) ≡ busLength
+pub fresh-bus-long : length (busOctets (freshBookState .kept)) ≡ busLength
 fresh-bus-long =
-    bus-long freshStand
+    bus-long freshBookState
     (fresh-sound (replicate imagesRoom 0) (replicate longestBody 0) (replicate lineLength 0) (zeros-long imagesRoom)
     (let e = zeros-long longestBody in omega arith) zeros-are-letters)
     refl (zeros-long longestBody)
@@ -143,4 +143,4 @@ pub host-writes-right : HostWritesRight
 unfolding freshBook
 host-writes-right parts w calls d =
     written-right (replicate imagesRoom 0) (replicate longestBody 0) (replicate lineLength 0) parts w calls (zeros-long imagesRoom)
-    (let e = zeros-long longestBody in omega arith) zeros-are-letters (rw (fresh-stored .stand-is) at d)
+    (let e = zeros-long longestBody in omega arith) zeros-are-letters (rw (fresh-stored .book-state-is) at d)

@@ -8,14 +8,14 @@ use lib.Dec.{eqb}
 use lib.ListN.{length, take, drop, length-drop}
 use lib.Seq.{length-take-le}
 use borrow.Author.Tests.{eq-eqb}
-use Rattle.cases.proofs.ByCases.{by-test}
+use Rattle.test_lemmas.proofs.ByCases.{by-test}
 use Rattle.note_text.specs.Room.{laid}
-use Rattle.book.specs.Progress.{freshProgress}
-use Rattle.book.specs.declared.progress.Went.{Went}
+use Rattle.book_go_on.specs.Progress.{freshProgress}
+use Rattle.book_go_on.specs.declared.progress.GoneOn.{GoneOn}
 use Rattle.bus_octets.specs.Layout.{busOctets, busLength}
-use Rattle.host_bus.specs.Fresh.{freshKept, freshOctets}
+use Rattle.host_bus.specs.Fresh.{freshZeros, freshOctets}
 use Rattle.host_book.specs.Octets.{bookLength, bookOctets, isBook}
-use Rattle.host_book.specs.Going.{freshBook, wentOctets, goingReason, Goes, HostGoesOn}
+use Rattle.host_book.specs.Going.{freshBook, goneOnOctets, goingReason, Goes, HostGoesOn}
 use Rattle.host_book.proofs.Laws.{fresh-bus-long}
 use Rattle.host_book.proofs.Gone.{laid-behind}
 
@@ -23,11 +23,11 @@ use Rattle.host_book.proofs.Gone.{laid-behind}
 pub fresh-made : (b : List ℕ) → length b ≡ bookLength → (bus : List ℕ)
     → bus ≡ cond (eqb (length (take busLength b)) busLength) freshOctets (take busLength b)
     → laid (bus ++ drop busLength b) busLength (0 ∷ 0 ∷ 0 ∷ []) ≡ freshBook
-unfolding freshBook bookOctets freshOctets freshKept
+unfolding freshBook bookOctets freshOctets freshZeros
 fresh-made b h bus e =
     let front : length (take busLength b) ≡ busLength = length-take-le busLength b (omega arith) in
-    let bus-is : bus ≡ busOctets freshKept = e ∙ rw (eq-eqb _ _ front) in
-    rw bus-is (laid-behind (busOctets freshKept) (drop busLength b) (0 ∷ 0 ∷ 0 ∷ []) busLength fresh-bus-long (rw (length-drop busLength b, h)))
+    let bus-is : bus ≡ busOctets freshZeros = e ∙ rw (eq-eqb _ _ front) in
+    rw bus-is (laid-behind (busOctets freshZeros) (drop busLength b) (0 ∷ 0 ∷ 0 ∷ []) busLength fresh-bus-long (rw (length-drop busLength b, h)))
 
 -- ---- What is lent is a book, where neither 1 nor 2 holds.
 pub going-book : (b : List ℕ) (room r : ℕ) → r ≡ goingReason b room → r ≡ 0 → isBook b ≡ true
@@ -46,8 +46,8 @@ module _ (b text report went : List ℕ) (whole : Bool) (r : ℕ) (e : r ≡ goi
         says = λ z. absurd (n z);
       }
 
-  pub gone-on : r ≡ 0 → (w : Went) (b′ report′ went′ : List ℕ) → Goes b text report whole w b′ report′
-      → went′ ≡ laid went 0 (wentOctets (w .taken) (w .wrote) (w .why)) → HostGoesOn b text report went whole 0 b′ report′ went′
+  pub gone-on : r ≡ 0 → (w : GoneOn) (b′ report′ went′ : List ℕ) → Goes b text report whole w b′ report′
+      → went′ ≡ laid went 0 (goneOnOctets (w .taken) (w .wrote) (w .why)) → HostGoesOn b text report went whole 0 b′ report′ went′
   gone-on z w b′ report′ went′ g l =
       record {
         replies = sym z ∙ e;

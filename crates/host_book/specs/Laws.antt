@@ -6,25 +6,25 @@ use mathlib.Core.Path.{_≡_}
 use Prim.Native.Nat.{ℕ}
 use lib.ListN.{length}
 use Rattle.hdlc.specs.Image.{longestBody}
-use Rattle.call_rules.specs.Kept.{found}
-use Rattle.report.specs.Ahead.{Stand, Sound}
-use Rattle.host_book.specs.Octets.{bookOctets, standIn, isBook}
+use Rattle.bus_call_specs.specs.Kept.{found}
+use Rattle.report.specs.Ahead.{BookState, Sound}
+use Rattle.host_book.specs.Octets.{bookOctets, bookStateIn, isBook}
 
-pub record BookStored (s : Stand) : Type 0 where
+pub record BookStored (s : BookState) : Type 0 where
   pub is-book : isBook (bookOctets s) ≡ true
-  pub stand-is : standIn (bookOctets s) ≡ s
+  pub book-state-is : bookStateIn (bookOctets s) ≡ s
 
 -- a stand that finds no notes of a period before
-abbrev pub Settled : Stand → Type 0
+abbrev pub Settled : BookState → Type 0
 Settled s = s .kept ≡ found (s .kept .bus) (s .kept .terminals) (s .kept .images) (s .kept .octets) (s .kept .letters)
 
 abbrev pub BookRoundTrip : Type 0
-BookRoundTrip = (s : Stand) → Sound s → Settled s → length (s .kept .octets) ≡ longestBody → BookStored s
+BookRoundTrip = (s : BookState) → Sound s → Settled s → length (s .kept .octets) ≡ longestBody → BookStored s
 
 pub record BookShown (b : List ℕ) : Type 0 where
-  pub stored-is : bookOctets (standIn b) ≡ b
-  pub sound : Sound (standIn b)
-  pub octets-fit : length (standIn b .kept .octets) ≡ longestBody
+  pub stored-is : bookOctets (bookStateIn b) ≡ b
+  pub sound : Sound (bookStateIn b)
+  pub octets-fit : length (bookStateIn b .kept .octets) ≡ longestBody
 
 abbrev pub BookExact : Type 0
 BookExact = (b : List ℕ) → isBook b ≡ true → BookShown b

@@ -6,19 +6,19 @@ use Prim.Native.Nat.{ℕ, _+_}
 use lib.Dec.{eqb, leb}
 use lib.ListN.{length, getD, take}
 use Rattle.note_text.specs.Room.{laid}
-use Rattle.report.specs.Ahead.{Stand}
-use Rattle.book.specs.declared.progress.Progress.{Progress}
+use Rattle.report.specs.Ahead.{BookState}
+use Rattle.book_go_on.specs.declared.progress.Progress.{Progress}
 use Rattle.bus_octets.specs.Layout.{headOctets, busOctets, busLength, flag, flagAt, recordIn, terminalsIn, shown, isBus}
 
 abbrev pub bookLength : ℕ
 bookLength = busLength + 3
 
-unfoldable pub bookOctets : Stand → List ℕ
+unfoldable pub bookOctets : BookState → List ℕ
 bookOctets s = busOctets (s .kept) ++ (s .stage ∷ flag (s .begun) ∷ flag (s .over) ∷ [])
 
 -- what octets stand for
-unfoldable pub standIn : List ℕ → Stand
-standIn b =
+unfoldable pub bookStateIn : List ℕ → BookState
+bookStateIn b =
     record {
       kept = shown (take busLength b);
       stage = getD b busLength 0;

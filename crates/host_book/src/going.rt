@@ -4,14 +4,14 @@ ghost use mathlib.Core.Path.{_≡_};
 ghost use lib.Dec.{eqb};
 ghost use Rattle.note_text.specs.Room.{laid};
 ghost use Rattle.host_book.specs.Octets.{isBook, progressIn, progressLaid};
-ghost use Rattle.host_book.specs.Going.{goingReason, wentOctets, Goes, HostGoesOn};
+ghost use Rattle.host_book.specs.Going.{goingReason, goneOnOctets, Goes, HostGoesOn};
 use super::octets::BEGUN_AT;
 use super::octets::OVER_AT;
 use super::octets::STAGE_AT;
 use super::octets::is_book;
-use book::go_on::go_on;
-use book::progress::Progress;
-use book::progress::Went;
+use book_go_on::go_on::go_on;
+use book_go_on::progress::GoneOn;
+use book_go_on::progress::Progress;
 use bus_octets::laid::lay;
 use bus_octets::layout::BUS_LENGTH;
 use bus_octets::layout::IMAGES_AT;
@@ -53,7 +53,7 @@ fn lay_progress(book: &mut [u8], p: Progress, letters: &[u8], octets: &[u8])
 }
 
 // Goes on with a book.
-fn go(book: &mut [u8], text: &[u8], report: &mut [u8], whole: bool) -> Went
+fn go(book: &mut [u8], text: &[u8], report: &mut [u8], whole: bool) -> GoneOn
     requires { ⌜ isBook (now book) ≡ true ⌝ }
     ensures { λ r. ⌜ Goes (now (book .entry)) (now (text .entry)) (now (report .entry)) whole r (now (book .exit)) (now (report .exit)) ⌝ }
 {
@@ -75,8 +75,8 @@ fn go(book: &mut [u8], text: &[u8], report: &mut [u8], whole: bool) -> Went
     w
 }
 
-fn put_went(went: &mut [u8], taken: usize, wrote: usize, why: u8)
-    ensures { λ _. ⌜ now (went .exit) ≡ laid (now (went .entry)) 0 (wentOctets taken wrote why) ⌝ }
+fn put_gone_on(went: &mut [u8], taken: usize, wrote: usize, why: u8)
+    ensures { λ _. ⌜ now (went .exit) ≡ laid (now (went .entry)) 0 (goneOnOctets taken wrote why) ⌝ }
 {
     let taken_put = put_double(went, 0, taken as u64);
     let both_put = put_double(went, taken_put, wrote as u64);
@@ -112,6 +112,6 @@ pub extern "C" fn sbus_book_go_on(
         return reason;
     }
     let w = go(book, text, report, whole != 0);
-    put_went(went, w.taken, w.wrote, w.why);
+    put_gone_on(went, w.taken, w.wrote, w.why);
     0
 }

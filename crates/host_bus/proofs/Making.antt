@@ -9,14 +9,14 @@ use Rattle.symbols.specs.Symbols.{lineLength}
 use Rattle.hdlc.specs.Image.{longestBody}
 use Rattle.terminal.specs.Terminal.{fresh}
 use Rattle.terminal.specs.declared.Terminal.{Terminal}
-use Rattle.bus.specs.Bus.{terminals}
+use Rattle.bus_rules.specs.Bus.{terminals}
 use Rattle.bus_record.specs.Record.{freshRecord}
 use Rattle.bus_record.specs.declared.record.BusRecord.{BusRecord}
 use Rattle.bus_event.specs.Event.{imagesRoom}
 use Rattle.note_text.specs.Room.{laid}
 use Rattle.bus_octets.specs.Layout.{headOctets, imagesAt, busLength}
 use Rattle.bus_octets.proofs.Lengths.{laid-front, stored-over}
-use Rattle.host_bus.specs.Fresh.{freshKept, freshOctets}
+use Rattle.host_bus.specs.Fresh.{freshZeros, freshOctets}
 
 abbrev zeros : ℕ → List ℕ
 zeros n = replicate n 0
@@ -33,8 +33,8 @@ zeros-over s h =
 
 pub fresh-made : (s : List ℕ) → length s ≡ busLength → (bus : BusRecord) → bus ≡ freshRecord → (t : Terminal) → t ≡ fresh
     → laid (laid s 0 (replicate busLength 0)) 0 (headOctets bus (replicate terminals t) ++ (replicate lineLength 0 ++ replicate longestBody 0)) ≡ freshOctets
-unfolding freshOctets freshKept
+unfolding freshOctets freshZeros
 fresh-made s h bus b t e =
     rw (zeros-over s h, b, e)
-    (stored-over (zeros busLength) freshKept (length-replicate terminals fresh) (length-replicate {A = ℕ} lineLength 0) (length-replicate {A = ℕ} longestBody 0)
+    (stored-over (zeros busLength) freshZeros (length-replicate terminals fresh) (length-replicate {A = ℕ} lineLength 0) (length-replicate {A = ℕ} longestBody 0)
     (rw (length-replicate {A = ℕ} busLength 0) (omega arith)) (drop-zeros imagesAt imagesRoom))

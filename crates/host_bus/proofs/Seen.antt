@@ -5,7 +5,7 @@ use Prim.Native.Nat.{ℕ, zero, suc, _<_}
 use native.Mathlib.Omega.{arith}
 use lib.ListN.{length, getD}
 use Rattle.terminal.specs.declared.Terminal.{Terminal}
-use Rattle.bus.specs.Bus.{terminals}
+use Rattle.bus_rules.specs.Bus.{terminals}
 use Rattle.bus_octets.specs.Layout.{terminalsFrom, terminalsIn}
 
 in-list : (ts : List Terminal) (i : ℕ) (d e : Terminal) → i < length ts → getD ts i d ≡ getD ts i e

@@ -7,8 +7,8 @@ use lib.ListN.{length, getD}
 use Rattle.network.specs.declared.Network.{Network}
 use Rattle.terminal.specs.Terminal.{fresh}
 use Rattle.terminal.specs.declared.Terminal.{Terminal}
-use Rattle.bus.specs.Bus.{terminals}
-use Rattle.call_rules.specs.Kept.{Kept}
+use Rattle.bus_rules.specs.Bus.{terminals}
+use Rattle.bus_call_specs.specs.Kept.{Kept}
 use Rattle.note_text.specs.Room.{laid}
 use Rattle.note_text.specs.LowFirst.{half, word}
 use Rattle.bus_octets.specs.Layout.{flag, shown}

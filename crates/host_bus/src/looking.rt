@@ -1,7 +1,7 @@
 // What a person asks of a bus that is lent as octets: the counts, and one unit.
 ghost use mathlib.Core.Path.{_≡_};
 ghost use Prim.Native.Nat.{_≤_};
-ghost use Rattle.bus.specs.Bus.{terminals};
+ghost use Rattle.bus_rules.specs.Bus.{terminals};
 ghost use Rattle.bus_octets.specs.Layout.{shown};
 ghost use Rattle.host_bus.specs.Looking.{countsReply, countsAfter, networkSeen, terminalSeen, unitSeen, unitReply, unitAfter};
 use super::lent::lent_reason;

@@ -8,7 +8,7 @@ use borrow.Author.Tests.{eqb-true, eqb-false, eq-eqb, ne-eqb}
 use lib.Dec.{eqb}
 use lib.ListN.{length, take, drop, length-drop}
 use lib.Seq.{take-all}
-use Rattle.cases.proofs.ByCases.{by-test, clash}
+use Rattle.test_lemmas.proofs.ByCases.{by-test, clash}
 use Rattle.symbols.specs.Symbols.{within, fits, hasLineLength, reply, leaves}
 use Rattle.frame.specs.Down.{downLine}
 use Rattle.frame.specs.Up.{upLine}
@@ -17,7 +17,7 @@ use Rattle.frame_reader.specs.Read.{downRead, upRead}
 use Rattle.frame_reader.specs.declared.answers.ReadDown.{ReadDown}
 use Rattle.frame_reader.specs.declared.answers.ReadUp.{ReadUp}
 use Rattle.host_frames.specs.Octets.{fieldsLength, downFrom, upPart, isDown}
-use Rattle.host_frames.specs.Calls.{Outcome, replyOf, leftOf, paddedRead, readAs, octetsRead, frameRead, accepts, lineFrom, frameWritten}
+use Rattle.host_frames.specs.Calls.{Outcome, replyOf, leftOf, asDownRead, readAs, octetsRead, frameRead, accepts, lineFrom, frameWritten}
 
 -- A call replies r and leaves last where it is lent some octets.
 abbrev pub Does : Outcome → List ℕ → ℕ → List ℕ → Type 0
@@ -28,7 +28,7 @@ module _ (up : ℕ) (l : List ℕ) where
   pub read-downward : {r : ReadDown} → up ≡ 0 → r ≡ downRead l → r ≡ readAs up l
   read-downward h e = rw h e
 
-  pub read-upward : {r : ReadUp} (s : ReadUp) → (up ≡ 0 → ⊥) → r ≡ upRead l → r ≡ s → paddedRead s ≡ readAs up l
+  pub read-upward : {r : ReadUp} (s : ReadUp) → (up ≡ 0 → ⊥) → r ≡ upRead l → r ≡ s → asDownRead s ≡ readAs up l
   read-upward s h e k = rw (ne-eqb up 0 h, ← e, k)
 
   module _ (lent : List ℕ) where

@@ -7,7 +7,7 @@ use native.Mathlib.Omega.{arith}
 use borrow.Author.Tests.{eq-eqb}
 use lib.Dec.{eqb}
 use lib.ListN.{length}
-use Rattle.cases.proofs.ByCases.{by-test}
+use Rattle.test_lemmas.proofs.ByCases.{by-test}
 use Rattle.symbols.specs.Symbols.{lineLength, isLine, sameSymbols}
 use Rattle.frame.specs.Down.{downLine, downFieldsOf}
 use Rattle.frame.specs.Up.{upLine, upFieldsOf}
@@ -16,7 +16,7 @@ use Rattle.frame_reader.specs.declared.answers.ReadDown.{ReadDown}
 use Rattle.frame_reader.specs.declared.answers.ReadUp.{ReadUp}
 use Rattle.frame_reader.proofs.Laws as reader
 use Rattle.host_frames.specs.Octets.{fieldsLength, downOctets, downFrom, upOctets, upFrom}
-use Rattle.host_frames.specs.Calls.{Outcome, wrote, refused, replyOf, leftOf, paddedRead, octetsRead, frameRead, accepts, lineFrom, frameWritten}
+use Rattle.host_frames.specs.Calls.{Outcome, wrote, refused, replyOf, leftOf, asDownRead, octetsRead, frameRead, accepts, lineFrom, frameWritten}
 use Rattle.host_frames.specs.Laws
 use Rattle.host_frames.proofs.Octets.{down-taken, down-back, up-taken, up-back, down-exact, up-exact}
 
@@ -71,10 +71,10 @@ read-then-write up l fields symbols z h =
         let read = zero-read downLine downFieldsOf ReadDown.Fields ReadDown.Refused (λ r. replyOf (octetsRead r)) (λ n. refl) l zero in
         rw read (written up (downOctets f) symbols (rw t (down-taken f)) h ∙ rw (t, down-back f) (ap wrote (sym (reader.exact-down l f read .1))))
 
-    upward : eqb up 0 ≡ false → replyOf (octetsRead (paddedRead (upRead l))) ≡ 0 → frameWritten up (leftOf (octetsRead (paddedRead (upRead l))) fields) symbols ≡ wrote l
+    upward : eqb up 0 ≡ false → replyOf (octetsRead (asDownRead (upRead l))) ≡ 0 → frameWritten up (leftOf (octetsRead (asDownRead (upRead l))) fields) symbols ≡ wrote l
     upward t zero =
         let f = upFieldsOf l in
-        let read = zero-read upLine upFieldsOf ReadUp.Fields ReadUp.Refused (λ r. replyOf (octetsRead (paddedRead r))) (λ n. refl) l zero in
+        let read = zero-read upLine upFieldsOf ReadUp.Fields ReadUp.Refused (λ r. replyOf (octetsRead (asDownRead r))) (λ n. refl) l zero in
         rw read (written up (upOctets f) symbols (rw t (up-taken f)) h ∙ rw (t, up-back f) (ap wrote (sym (reader.exact-up l f read .1))))
 
 -- A call that does not reply 0 leaves what it was lent.

@@ -10,14 +10,14 @@ use borrow.Author.Tests.{eqb-true, eqb-false, leb-true}
 use lib.Dec.{eqb, leb}
 use lib.ListN.{length, take, drop, getD, set, length-set}
 use lib.Seq.{getD-drop, take-suc, take-suc-set, take-all}
-use Rattle.cases.proofs.ByCases.{by-test, both, and-left, and-right}
+use Rattle.test_lemmas.proofs.ByCases.{by-test, both, and-left, and-right}
 use Rattle.symbols.specs.Symbols.{within, tabulate}
 use Rattle.symbols.proofs.Fill.{tabulate-is}
 use Rattle.frame.specs.Bits.{bit}
 use Rattle.frame.proofs.Bits.{byte-bit}
 use Rattle.frame.specs.declared.fields.DownFields.{DownFields}
 use Rattle.frame.specs.declared.fields.UpFields.{UpFields}
-use Rattle.host_frames.specs.Octets.{fieldsLength, downOctets, downFrom, padded, upPart, upOctets, upFrom, isDown, isUp}
+use Rattle.host_frames.specs.Octets.{fieldsLength, downOctets, downFrom, asDown, upPart, upOctets, upFrom, isDown, isUp}
 
 -- The octets as the code has them.
 abbrev pub codeOctets : DownFields → List ℕ
@@ -92,10 +92,10 @@ down-back f = simp bit-back
 
 pub up-taken : (f : UpFields) → isUp (upOctets f) ≡ true
 unfolding downOctets within
-up-taken f = rw (down-taken (padded f))
+up-taken f = rw (down-taken (asDown f))
 
 pub up-back : (f : UpFields) → upFrom (upOctets f) ≡ f
-up-back f = ap upPart (down-back (padded f))
+up-back f = ap upPart (down-back (asDown f))
 
 -- Octets that are taken: those from the first D on are bits, in an upward frame those from the first E on are 0.
 module _ (fs : List ℕ) (e : isDown fs ≡ true) where

@@ -11,7 +11,7 @@ use Rattle.frame.specs.Up.{upLine}
 use Rattle.frame_reader.specs.Read.{downRead, upRead}
 use Rattle.frame_reader.specs.declared.answers.ReadDown.{ReadDown}
 use Rattle.frame_reader.specs.declared.answers.ReadUp.{ReadUp}
-use Rattle.host_frames.specs.Octets.{fieldsLength, downOctets, downFrom, padded, upFrom, isDown, isUp}
+use Rattle.host_frames.specs.Octets.{fieldsLength, downOctets, downFrom, asDown, upFrom, isDown, isUp}
 
 -- A call writes octets over what it is lent, or is refused.
 pub data Outcome : Type 0 where
@@ -29,12 +29,12 @@ leftOf (wrote new) lent = new
 leftOf (refused n) lent = lent
 
 -- What symbols are read as, an upward frame with every other bit 0.
-abbrev pub paddedRead : ReadUp → ReadDown
-paddedRead (ReadUp.Fields f) = ReadDown.Fields (padded f)
-paddedRead (ReadUp.Refused n) = ReadDown.Refused n
+abbrev pub asDownRead : ReadUp → ReadDown
+asDownRead (ReadUp.Fields f) = ReadDown.Fields (asDown f)
+asDownRead (ReadUp.Refused n) = ReadDown.Refused n
 
 abbrev pub readAs : ℕ → List ℕ → ReadDown
-readAs up l = cond (eqb up 0) (downRead l) (paddedRead (upRead l))
+readAs up l = cond (eqb up 0) (downRead l) (asDownRead (upRead l))
 
 -- Reading symbols l into lent octets: the octets of the fields, or the refusal; 2 for lent octets of another length.
 abbrev pub octetsRead : ReadDown → Outcome

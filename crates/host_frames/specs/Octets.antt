@@ -55,8 +55,8 @@ downFrom fs = record {
 }
 
 -- An upward frame has the B octets and the D bits of a downward one. Where octets are to be written, every other bit is 0.
-abbrev pub padded : UpFields → DownFields
-padded f = record {
+abbrev pub asDown : UpFields → DownFields
+asDown f = record {
   b1first = f .b1first;
   b2first = f .b2first;
   b1second = f .b1second;
@@ -73,7 +73,7 @@ abbrev pub upPart : DownFields → UpFields
 upPart f = record { b1first = f .b1first; b2first = f .b2first; b1second = f .b1second; b2second = f .b2second; d = f .d }
 
 abbrev pub upOctets : UpFields → List ℕ
-upOctets f = downOctets (padded f)
+upOctets f = downOctets (asDown f)
 
 abbrev pub upFrom : List ℕ → UpFields
 upFrom fs = upPart (downFrom fs)

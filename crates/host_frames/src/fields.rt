@@ -3,7 +3,7 @@
 ghost use mathlib.Core.Path.{_≡_};
 ghost use Prim.Native.Nat.{_+_, _≤_};
 ghost use lib.ListN.{length};
-ghost use Rattle.host_frames.specs.Octets.{fieldsLength, downOctets, downFrom, fourFrom, padded};
+ghost use Rattle.host_frames.specs.Octets.{fieldsLength, downOctets, downFrom, fourFrom, asDown};
 use frame::fields::DownFields;
 use frame::fields::Four;
 use frame::fields::UpFields;
@@ -83,8 +83,8 @@ pub(crate) fn put(f: DownFields, lent: &mut [u8])
 }
 
 // The fields of an upward frame with every other bit 0.
-pub(crate) fn padded(f: UpFields) -> DownFields
-    ensures { λ r. ⌜ r ≡ padded f ⌝ }
+pub(crate) fn as_down(f: UpFields) -> DownFields
+    ensures { λ r. ⌜ r ≡ asDown f ⌝ }
 {
     let d = f.d;
     let zeros = Four {

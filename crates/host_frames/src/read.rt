@@ -2,7 +2,7 @@
 ghost use mathlib.Core.Path.{_≡_};
 ghost use Rattle.host_frames.specs.Calls.{replyOf, leftOf, readAs, frameRead};
 use super::fields::FIELDS;
-use super::fields::padded;
+use super::fields::as_down;
 use super::fields::put;
 use frame_reader::answers::ReadDown;
 use frame_reader::answers::ReadUp;
@@ -17,7 +17,7 @@ fn read_as(up: u32, symbols: &[u8]) -> ReadDown
         return read_down(symbols);
     }
     match read_up(symbols) {
-        ReadUp::Fields(f) => ReadDown::Fields(padded(f)),
+        ReadUp::Fields(f) => ReadDown::Fields(as_down(f)),
         ReadUp::Refused(n) => ReadDown::Refused(n),
     }
 }

@@ -6,9 +6,9 @@ use Prim.Native.Nat.{ℕ, _≤_}
 use native.Mathlib.Omega.{arith}
 use lib.Dec.{ltb}
 use borrow.Author.Tests.{eq-eqb, ne-eqb, ltb-false}
-use Rattle.cases.proofs.ByCases.{by-test}
-use Rattle.bus.specs.Bus.{Note}
-use Rattle.call_rules.specs.Kept.{Kept}
+use Rattle.test_lemmas.proofs.ByCases.{by-test}
+use Rattle.bus_rules.specs.Bus.{Note}
+use Rattle.bus_call_specs.specs.Kept.{Kept}
 use Rattle.note_text.specs.Room.{laid}
 use Rattle.bus_octets.specs.Layout.{busOctets, isBus}
 use Rattle.host_bus.specs.Lent.{lentReason}

@@ -1,12 +1,12 @@
--- Demand 3 on a host's calls: that of crate `bus`, of the calls that they make, and the notes of a part of a list.
+-- Demand 3 on a host's calls: that of crate `bus_rules`, of the calls that they make, and the notes of a part of a list.
 use mathlib.Core.List.{List, [], _∷_, _++_, append-assoc}
 use mathlib.Core.Path.{_≡_, refl, sym, _∙_}
 use Prim.Native.Nat.{ℕ}
-use Rattle.bus.specs.Bus.{Bus, freshBus}
-use Rattle.bus.specs.Calls.{ran, allNotes}
-use Rattle.bus.proofs.Demand3.{demand3, notes-append}
+use Rattle.bus_rules.specs.Bus.{Bus, freshBus}
+use Rattle.bus_rules.specs.Calls.{afterAll, notesOfAll}
+use Rattle.bus_rules.proofs.Demand3.{demand3, notes-append}
 use Rattle.host_bus.specs.Fresh.{freshOctets}
-use Rattle.host_steps.specs.Laws.{HostCall, busAfter, callsOf, SteppedAll}
+use Rattle.host_steps.specs.Laws.{HostCall, busAfter, callsOfHost, SteppedAll}
 use Rattle.host_steps.specs.Demand3.{leftBy, madeBy, HandBack, AllOctetsGiven, PartHandsBack, Demand3OnHostCalls}
 use Rattle.host_steps.proofs.Laws.{ran-append, lists-stepped}
 
@@ -15,7 +15,7 @@ unfolding madeBy leftBy
 made-append s [] ys = refl
 made-append s (x ∷ xs) ys =
     rw (made-append (busAfter s x) xs ys)
-    (sym (append-assoc (callsOf s x) (madeBy (busAfter s x) xs) (madeBy (leftBy (busAfter s x) xs) ys)))
+    (sym (append-assoc (callsOfHost s x) (madeBy (busAfter s x) xs) (madeBy (leftBy (busAfter s x) xs) ys)))
 
 -- octets as values, of the parts of a list
 values-parts : (xs ys : List HostCall) → AllOctetsGiven (xs ++ ys) → AllOctetsGiven xs × AllOctetsGiven ys
@@ -25,23 +25,23 @@ values-parts (x ∷ xs) ys v = let p = values-parts xs ys (v .1) in ((v .0, p .0
 
 -- what the first calls leave, with the calls after them
 stepped-after : (b : Bus) (s : List ℕ) (xs ys : List HostCall) → AllOctetsGiven xs → SteppedAll b s (xs ++ ys)
-    → SteppedAll (ran b (madeBy s xs)) (leftBy s xs) ys
-unfolding SteppedAll AllOctetsGiven madeBy leftBy ran
+    → SteppedAll (afterAll b (madeBy s xs)) (leftBy s xs) ys
+unfolding SteppedAll AllOctetsGiven madeBy leftBy afterAll
 stepped-after b s [] ys v a = a
 stepped-after b s (x ∷ xs) ys v a =
-    rw (ran-append b (callsOf s x) (madeBy (busAfter s x) xs))
-    (stepped-after (ran b (callsOf s x)) (busAfter s x) xs ys (v .1) (a .1 (v .0) .1))
+    rw (ran-append b (callsOfHost s x) (madeBy (busAfter s x) xs))
+    (stepped-after (afterAll b (callsOfHost s x)) (busAfter s x) xs ys (v .1) (a .1 (v .0) .1))
 
-hand-back : (b : Bus) (s : List ℕ) (list : List HostCall) → AllOctetsGiven list → SteppedAll b s list → HandBack s list (allNotes b (madeBy s list))
-unfolding SteppedAll AllOctetsGiven HandBack madeBy allNotes
+hand-back : (b : Bus) (s : List ℕ) (list : List HostCall) → AllOctetsGiven list → SteppedAll b s list → HandBack s list (notesOfAll b (madeBy s list))
+unfolding SteppedAll AllOctetsGiven HandBack madeBy notesOfAll
 hand-back b s [] v a = refl
 hand-back b s (x ∷ more) v a =
     let r = a .1 (v .0) in (
-      allNotes b (callsOf s x),
-      allNotes (ran b (callsOf s x)) (madeBy (busAfter s x) more),
-      notes-append b (callsOf s x) (madeBy (busAfter s x) more),
+      notesOfAll b (callsOfHost s x),
+      notesOfAll (afterAll b (callsOfHost s x)) (madeBy (busAfter s x) more),
+      notes-append b (callsOfHost s x) (madeBy (busAfter s x) more),
       r .0 .tells,
-      hand-back (ran b (callsOf s x)) (busAfter s x) more (v .1) (r .1),
+      hand-back (afterAll b (callsOfHost s x)) (busAfter s x) more (v .1) (r .1),
     )
 
 part-hands-back : (before during after : List HostCall) → AllOctetsGiven (before ++ (during ++ after)) → PartHandsBack before during after
@@ -51,7 +51,7 @@ part-hands-back before during after v =
     record {
       in-calls = made-append freshOctets before (during ++ after) ∙ rw (made-append (leftBy freshOctets before) during after);
       notes-of-part =
-          hand-back (ran freshBus (madeBy freshOctets before)) (leftBy freshOctets before) during (q .0)
+          hand-back (afterAll freshBus (madeBy freshOctets before)) (leftBy freshOctets before) during (q .0)
           (stepped-after freshBus freshOctets before during (p .0) (lists-stepped (before ++ during)));
     }
 

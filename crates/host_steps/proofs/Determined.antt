@@ -7,25 +7,25 @@ use native.Mathlib.Omega.{arith}
 use lib.Dec.{eqb}
 use lib.ListN.{length, take, drop, length-take, take-append-drop}
 use borrow.Author.Tests.{eqb-true, eqb-false, ltb-true}
-use Rattle.cases.proofs.ByCases.{by-test, both, clash}
-use Rattle.cells.specs.Notes.{HEARD, noted}
+use Rattle.test_lemmas.proofs.ByCases.{by-test, both, clash}
+use Rattle.notes_and_cells.specs.Notes.{HEARD, noted}
 use Rattle.hdlc.specs.Bits.{bitOf}
 use Rattle.hdlc.specs.Image.{longestBody}
 use Rattle.timing.specs.Counts.{mostPeriods}
-use Rattle.bus.specs.Bus.{Note, terminals, notesOf}
-use Rattle.bus.specs.Order.{unitByUnit}
-use Rattle.bus.specs.Calls.{Call}
-use Rattle.bus.specs.Calls.Call.{event, period}
-use Rattle.listening.specs.declared.hears.UnitNotes.{UnitNotes}
-use Rattle.bus_record.specs.declared.side.Ran.{Ran}
-use Rattle.call_rules.specs.Kept.{Kept}
-use Rattle.call_rules.specs.Run.{ran}
-use Rattle.call_rules.specs.Lists.{isCode, coded, told, replied, notesTold, runTold, doneNotes, periodTold, readerTold, terminalsHeard, terminalsTold, timersTold}
-use Rattle.call_rules.proofs.InOrder.{InOrder}
-use Rattle.call_rules.proofs.Events.{unit-is}
-use Rattle.call_rules.proofs.QuietRuns.{one-told}
-use Rattle.call_rules.proofs.Codes.{notes-coded, run-notes-coded}
-use Rattle.call_rules.proofs.RunLeft.{run-left, run-leaves}
+use Rattle.bus_rules.specs.Bus.{Note, terminals, notesOf}
+use Rattle.bus_rules.specs.Order.{unitByUnit}
+use Rattle.bus_rules.specs.Calls.{Call}
+use Rattle.bus_rules.specs.Calls.Call.{event, period}
+use Rattle.period_hearing.specs.declared.hears.UnitNotes.{UnitNotes}
+use Rattle.bus_record.specs.declared.side.RunAnswer.{RunAnswer}
+use Rattle.bus_call_specs.specs.Kept.{Kept}
+use Rattle.bus_call_specs.specs.Run.{runAnswer}
+use Rattle.bus_call_specs.specs.Lists.{isCode, coded, told, replied, notesTold, runTold, doneNotes, periodTold, readerTold, terminalsHeard, terminalsTold, timersTold}
+use Rattle.bus_call_specs.proofs.InOrder.{InOrder}
+use Rattle.bus_call_specs.proofs.Events.{unit-is}
+use Rattle.bus_call_specs.proofs.QuietRuns.{one-told}
+use Rattle.bus_call_specs.proofs.Codes.{notes-coded, run-notes-coded}
+use Rattle.bus_call_specs.proofs.RunLeft.{run-left, run-leaves}
 use Rattle.note_text.specs.Determined.{FitsOctets, AllFitOctets}
 use Rattle.note_text.proofs.Determined as notes
 use Rattle.bus_octets.specs.Layout.{shown, isBus}
@@ -60,20 +60,20 @@ small-of now unit [] h u = tt
 small-of now unit (c ∷ codes) h u =
     (record { period-small = h; unit-small = u; value-short = omega arith }, small-of now unit codes h u)
 
-module _ (now : ℕ) (r : Ran) (in-time : now ≤ mostPeriods + 1) where
+module _ (now : ℕ) (r : RunAnswer) (in-time : now ≤ mostPeriods + 1) where
   small-terminals : (i : ℕ) (ns : List UnitNotes) → i + length ns ≤ terminals → AllSmall (terminalsTold now r i ns)
   unfolding unitByUnit terminalsHeard
   small-terminals i [] h = none-small
   small-terminals i (n ∷ ns) h =
       small-append (notesOf now (suc i) _) _
-      (small-of now (suc i) (doneNotes (bitOf (r .done1) i) (bitOf (r .done2) i) ++ noted (n .heard)) in-time (omega arith))
+      (small-of now (suc i) (doneNotes (bitOf (r .done1) i) (bitOf (r .done2) i) ++ noted (n .hearing)) in-time (omega arith))
       (small-terminals (suc i) ns (omega arith))
 
   small-timers : (i : ℕ) (ns : List UnitNotes) → i + length ns ≤ terminals → AllSmall (timersTold now i ns)
   unfolding unitByUnit
   small-timers i [] h = none-small
   small-timers i (n ∷ ns) h =
-      small-append (notesOf now (suc i) _) _ (small-of now (suc i) (noted (n .timed)) in-time (omega arith))
+      small-append (notesOf now (suc i) _) _ (small-of now (suc i) (noted (n .timers)) in-time (omega arith))
       (small-timers (suc i) ns (omega arith))
 
   module _ (octets : List ℕ) (long : length octets ≡ longestBody) where
@@ -87,7 +87,7 @@ module _ (now : ℕ) (r : Ran) (in-time : now ≤ mostPeriods + 1) where
         by-test (eqb (r .said) 0) (λ t. rw t tt)
         (λ t. rw t (record { period-small = in-time; unit-small = omega arith; value-short = body-short }, tt))
 
-small-period : (now : ℕ) (r : Ran) (ns : List UnitNotes) (octets : List ℕ)
+small-period : (now : ℕ) (r : RunAnswer) (ns : List UnitNotes) (octets : List ℕ)
     → now ≤ mostPeriods → length ns ≡ terminals → length octets ≡ longestBody → AllSmall (periodTold now r ns octets)
 unfolding periodTold
 small-period now r ns octets h eight long =
@@ -95,9 +95,9 @@ small-period now r ns octets h eight long =
     let late : now + 1 ≤ mostPeriods + 1 = omega arith in
     small-append (readerTold now r octets ++ _) _
     (small-append (readerTold now r octets) _ (small-reader now r early octets long)
-    (small-append (notesOf now 0 (noted (r .network .heard))) _ (small-of now 0 _ early (omega arith))
+    (small-append (notesOf now 0 (noted (r .network .hearing))) _ (small-of now 0 _ early (omega arith))
     (small-terminals now r early 0 ns (omega arith))))
-    (small-append (notesOf (now + 1) 0 (noted (r .network .timed))) _ (small-of (now + 1) 0 _ late (omega arith))
+    (small-append (notesOf (now + 1) 0 (noted (r .network .timers))) _ (small-of (now + 1) 0 _ late (omega arith))
     (small-timers (now + 1) r late 0 ns (omega arith)))
 
 -- ---- The notes of a run and of a call.
@@ -107,9 +107,9 @@ module _ (k : Kept) (o : InOrder k) (long : length (k .octets) ≡ longestBody) 
   small-run most =
       let l = run-left most k o in
       let e = run-leaves most k .bus-is in
-      let in-time : ran most k .bus .periods .0 ≤ mostPeriods = rw e (l .order .periods-fit) in
-      by-test (eqb (ran most k .reply) 0)
-      (λ t. rw t (small-period _ (ran most k) _ _ (omega arith) (l .order .notes-fit) (l .octets-long ∙ long)))
+      let in-time : runAnswer most k .bus .periods .0 ≤ mostPeriods = rw e (l .order .periods-fit) in
+      by-test (eqb (runAnswer most k .reply) 0)
+      (λ t. rw t (small-period _ (runAnswer most k) _ _ (omega arith) (l .order .notes-fit) (l .octets-long ∙ long)))
       (λ t. rw t none-small)
 
   small-call : (c : Call) → AllSmall (notesTold k c)

@@ -3,21 +3,21 @@ use mathlib.Core.Bool.{true}
 use mathlib.Core.List.{List}
 use mathlib.Core.Path.{_≡_, sym, ap, _∙_}
 use Prim.Native.Nat.{ℕ, _-_}
-use Rattle.bus.specs.Bus.{notesOf}
-use Rattle.bus.specs.Calls.{Call}
-use Rattle.bus.specs.Calls.Call.{event, period}
-use Rattle.cells.specs.Notes.{noted}
-use Rattle.listening.specs.declared.hears.UnitNotes.{UnitNotes}
+use Rattle.bus_rules.specs.Bus.{notesOf}
+use Rattle.bus_rules.specs.Calls.{Call}
+use Rattle.bus_rules.specs.Calls.Call.{event, period}
+use Rattle.notes_and_cells.specs.Notes.{noted}
+use Rattle.period_hearing.specs.declared.hears.UnitNotes.{UnitNotes}
 use Rattle.bus_record.specs.declared.record.BusRecord.{BusRecord}
-use Rattle.bus_record.specs.declared.side.Ran.{Ran}
+use Rattle.bus_record.specs.declared.side.RunAnswer.{RunAnswer}
 use Rattle.bus_event.specs.declared.event.Told.{Told}
-use Rattle.call_rules.specs.Run.{ran, keptAfter}
-use Rattle.call_rules.specs.Lists.{told, called, replied, notesTold, periodTold, runTold}
+use Rattle.bus_call_specs.specs.Run.{runAnswer, keptAfter}
+use Rattle.bus_call_specs.specs.Lists.{told, called, replied, notesTold, periodTold, runTold}
 use Rattle.note_text.specs.Room.{laid}
 use Rattle.bus_octets.specs.Layout.{recordIn, octetsIn, busOctets, shown, isBus}
 use Rattle.host_steps.specs.Stepping.{notesOctets, reason, eventNumber, hostReply, hostBus, hostNotes, hostRunReply, hostRunBus, hostRunNotes}
 use Rattle.host_steps.proofs.Numbered.{same-call}
-use Rattle.call_rules.proofs.QuietRuns.{one-told}
+use Rattle.bus_call_specs.proofs.QuietRuns.{one-told}
 use Rattle.host_steps.proofs.Told.{event-notes, run-notes}
 use Rattle.host_steps.proofs.Answers.{not-lent, turned-down, stepped, lent-bus}
 
@@ -67,29 +67,29 @@ module _ (s room : List ℕ) where
 
     pub run-not-lent : (r : ℕ) → r ≡ reason s room → (r ≡ 0 → ⊥) → Ran-to r s room
     unfolding hostRunReply hostRunBus hostRunNotes
-    run-not-lent r e n = not-lent s room (ran most (shown s) .reply) (keptAfter most (shown s)) (runTold most (shown s)) r e n
+    run-not-lent r e n = not-lent s room (runAnswer most (shown s) .reply) (keptAfter most (shown s)) (runTold most (shown s)) r e n
 
-    module _ (r : ℕ) (e : r ≡ reason s room) (z : r ≡ 0) (t : Ran) (units : List UnitNotes) (s′ : List ℕ)
-        (t-is : t ≡ ran most (shown s)) (units-are : units ≡ keptAfter most (shown s) .notes) (s-is : s′ ≡ busOctets (keptAfter most (shown s))) where
-      abbrev reply-is : t .reply ≡ ran most (shown s) .reply
-      reply-is = ap (λ (x : Ran). x .reply) t-is
+    module _ (r : ℕ) (e : r ≡ reason s room) (z : r ≡ 0) (t : RunAnswer) (units : List UnitNotes) (s′ : List ℕ)
+        (t-is : t ≡ runAnswer most (shown s)) (units-are : units ≡ keptAfter most (shown s) .notes) (s-is : s′ ≡ busOctets (keptAfter most (shown s))) where
+      abbrev reply-is : t .reply ≡ runAnswer most (shown s) .reply
+      reply-is = ap (λ (x : RunAnswer). x .reply) t-is
 
       pub run-refused : (w : ℕ) → w ≡ t .reply → (t .reply ≡ 0 → ⊥) → Ran-to w s′ room
       unfolding hostRunReply hostRunBus hostRunNotes
       run-refused w w-is n =
           rw (w-is ∙ reply-is, s-is)
-          (turned-down s room (ran most (shown s) .reply) (keptAfter most (shown s)) (runTold most (shown s)) r e z (λ y. n (reply-is ∙ y)))
+          (turned-down s room (runAnswer most (shown s) .reply) (keptAfter most (shown s)) (runTold most (shown s)) r e z (λ y. n (reply-is ∙ y)))
 
       pub run-ended : t .reply ≡ 0 → (room′ : List ℕ)
           → room′ ≡ laid room 0 (notesOctets (periodTold (t .bus .periods .0 - 1) t units (octetsIn s′))) → Ran-to 0 s′ room′
       unfolding hostRunReply hostRunBus hostRunNotes
       run-ended y room′ l =
           let h : isBus s ≡ true = lent-bus s _ _ r e z in
-          let y′ : ran most (shown s) .reply ≡ 0 = sym reply-is ∙ y in
+          let y′ : runAnswer most (shown s) .reply ≡ 0 = sym reply-is ∙ y in
           let notes-are : periodTold (t .bus .periods .0 - 1) t units (octetsIn s′) ≡ runTold most (shown s) =
           rw (t-is, units-are, s-is) (run-notes s h most y′) in
           rw (s-is, l, notes-are)
-          (stepped s room (ran most (shown s) .reply) (keptAfter most (shown s)) (runTold most (shown s)) r e z y′)
+          (stepped s room (runAnswer most (shown s) .reply) (keptAfter most (shown s)) (runTold most (shown s)) r e z y′)
 
   -- a run of one period is a period
   pub period-ended : (r : ℕ) (s′ room′ : List ℕ) → Ran-to 1 r s′ room′ → Ended period r s′ room′

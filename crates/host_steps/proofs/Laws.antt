@@ -8,24 +8,24 @@ use lib.Dec.{eqb, ltb}
 use lib.ListN.{length, getD, take, replicate, length-append, length-replicate}
 use lib.Seq.{take-append-seam}
 use borrow.Author.Tests.{eqb-true, eqb-false, eq-eqb, ne-eqb, ltb-true, ltb-false}
-use Rattle.cases.proofs.ByCases.{by-test, both, clash}
+use Rattle.test_lemmas.proofs.ByCases.{by-test, both, clash}
 use Rattle.symbols.specs.Symbols.{lineLength, within, fits}
 use Rattle.hdlc.specs.Image.{longestBody}
-use Rattle.bus.specs.Bus.{Bus, Note, freshBus}
-use Rattle.bus.specs.Calls.{Call, reply, after, ran, allNotes}
-use Rattle.bus.specs.Calls.Call.{event, period}
+use Rattle.bus_rules.specs.Bus.{Bus, Note, freshBus}
+use Rattle.bus_rules.specs.Calls.{Call, reply, after, afterAll, notesOfAll}
+use Rattle.bus_rules.specs.Calls.Call.{event, period}
 use Rattle.bus_event.specs.Event.{imagesRoom, areLetters}
-use Rattle.call_rules.specs.Kept.{Kept, settled}
-use Rattle.call_rules.specs.Ready.{goesOn}
-use Rattle.call_rules.specs.Lists.{Carries, isCode, coded, told, called, replied, notesTold, runTold, OctetValue, LentCall, callOf, finds, leftBy, isLent, Same, made, leftAll, allTold, AllAdmitted, lend, callsIn}
-use Rattle.call_rules.specs.Run.{ran as once, keptOn, keptAfter}
-use Rattle.call_rules.proofs.InOrder.{InOrder, order-reply}
-use Rattle.call_rules.proofs.Fitting.{Fit, always-fit}
-use Rattle.call_rules.proofs.Lists.{call-carried, settled-carries, same-from, same-all, fresh-carries}
-use Rattle.call_rules.proofs.QuietRuns.{one-told, runs-are-calls}
-use Rattle.call_rules.proofs.QuietEnds as quiet-ends
-use Rattle.call_rules.proofs.Refused as turned-down
-use Rattle.call_rules.proofs.RunLeft.{run-left}
+use Rattle.bus_call_specs.specs.Kept.{Kept, settled}
+use Rattle.bus_call_specs.specs.Ready.{goesOn}
+use Rattle.bus_call_specs.specs.Lists.{Carries, isCode, coded, told, called, replied, notesTold, runTold, OctetValue, LentCall, callOf, finds, leftBy, isLent, Same, made, leftAll, notesOfCalls, AllAdmitted, lend, callsIn}
+use Rattle.bus_call_specs.specs.Run.{runAnswer as once, keptOn, keptAfter}
+use Rattle.bus_call_specs.proofs.InOrder.{InOrder, order-reply}
+use Rattle.bus_call_specs.proofs.Fitting.{Fit, always-fit}
+use Rattle.bus_call_specs.proofs.Lists.{call-carried, settled-carries, same-from, same-all, fresh-carries}
+use Rattle.bus_call_specs.proofs.QuietRuns.{one-told, runs-are-calls}
+use Rattle.bus_call_specs.proofs.QuietEnds as quiet-ends
+use Rattle.bus_call_specs.proofs.Refused as turned-down
+use Rattle.bus_call_specs.proofs.RunLeft.{run-left}
 use Rattle.note_text.specs.Room.{laid}
 use Rattle.note_text.specs.NoteText.{notesIn}
 use Rattle.note_text.specs.NoteOctets.{noteOctets}
@@ -39,7 +39,7 @@ use Rattle.bus_octets.specs.Laws.{StoredAndShown}
 use Rattle.bus_octets.proofs.Exact.{exact}
 use Rattle.bus_octets.proofs.RoundTrip.{round-trip}
 use Rattle.bus_octets.proofs.Lengths.{laid-front}
-use Rattle.host_bus.specs.Fresh.{freshKept, freshOctets}
+use Rattle.host_bus.specs.Fresh.{freshZeros, freshOctets}
 use Rattle.host_bus.specs.Lent.{lentReason}
 use Rattle.host_steps.specs.Stepping.{notesOctets, notesRoom, reason, replyWith, busWith, notesWith, mostTo, hostReply, hostBus, hostNotes, hostRunReply, hostRunBus, hostRunNotes}
 use Rattle.host_steps.specs.Laws as laws
@@ -122,28 +122,28 @@ unfolding lend AllAdmitted
 admitted (event unit number value) v = (v, tt)
 admitted period v = (tt, tt)
 
-pub ran-append : (b : Bus) (xs ys : List Call) → ran b (xs ++ ys) ≡ ran (ran b xs) ys
-unfolding ran
+pub ran-append : (b : Bus) (xs ys : List Call) → afterAll b (xs ++ ys) ≡ afterAll (afterAll b xs) ys
+unfolding afterAll
 ran-append b [] ys = refl
 ran-append b (x ∷ xs) ys = ran-append (after b x) xs ys
 
-fit-on : (b : Bus) (calls : List Call) → ((later : List Call) → Fit (ran b later)) → (later : List Call) → Fit (ran (ran b calls) later)
+fit-on : (b : Bus) (calls : List Call) → ((later : List Call) → Fit (afterAll b later)) → (later : List Call) → Fit (afterAll (afterAll b calls) later)
 fit-on b calls fit later = rw (← ran-append b calls later) (fit (calls ++ later))
 
 record Goes (b : Bus) (calls : List Call) (reply : ℕ) (left : Kept) (told : List Note) : Type 0 where
-  carries : Carries (settled left) (ran b calls)
+  carries : Carries (settled left) (afterAll b calls)
   replies : reply ≡ laws.firstReply b calls
-  tells : told ≡ allNotes b calls
+  tells : told ≡ notesOfAll b calls
 
-module _ (s : List ℕ) (b : Bus) (h : isBus s ≡ true) (fit : (later : List Call) → Fit (ran b later)) (c : Carries (shown s) b) where
+module _ (s : List ℕ) (b : Bus) (h : isBus s ≡ true) (fit : (later : List Call) → Fit (afterAll b later)) (c : Carries (shown s) b) where
   -- a list of calls on what the octets stand for: its notes, and what it leaves
   carried : (calls : List LentCall) → AllAdmitted calls
-      → (allTold (shown s) calls ≡ allNotes b (made calls)) × Carries (leftAll (shown s) calls) (ran b (made calls))
+      → (notesOfCalls (shown s) calls ≡ notesOfAll b (made calls)) × Carries (leftAll (shown s) calls) (afterAll b (made calls))
   unfolding Same
   carried calls m = same-all (shown s) b calls [] m (same-from (calls ++ []) (shown s) b c fit)
 
   one-goes : (x : Call) → OctetValue x → Goes b (made (lend x ∷ [])) (replied (shown s) x) (called (shown s) x) (notesTold (shown s) x)
-  unfolding ran
+  unfolding afterAll
   one-goes x v =
       let a = carried (lend x ∷ []) (admitted x v) in
       record {
@@ -160,16 +160,16 @@ module _ (s : List ℕ) (b : Bus) (h : isBus s ≡ true) (fit : (later : List Ca
       one-reply (event unit number value) = unfold laws.firstReply made lend isLent callOf in refl
       one-reply period = unfold laws.firstReply made lend isLent callOf in refl
 
-      one-told : (y : Call) → allTold (shown s) (lend y ∷ []) ≡ notesTold (shown s) y
-      one-told (event unit number value) = unfold allTold lend finds callOf in append-nil _
-      one-told period = unfold allTold lend finds callOf shown in append-nil _
+      one-told : (y : Call) → notesOfCalls (shown s) (lend y ∷ []) ≡ notesTold (shown s) y
+      one-told (event unit number value) = unfold notesOfCalls lend finds callOf in append-nil _
+      one-told period = unfold notesOfCalls lend finds callOf shown in append-nil _
 
-  none-left : Carries (settled (keptAfter 0 (shown s))) (ran b [])
-  unfolding keptAfter keptOn ran
+  none-left : Carries (settled (keptAfter 0 (shown s))) (afterAll b [])
+  unfolding keptAfter keptOn afterAll
   none-left = settled-carries (shown s) b c
 
   run-goes : (most : ℕ) → Goes b (made (callsIn most (shown s))) (once most (shown s) .reply) (keptAfter most (shown s)) (runTold most (shown s))
-  unfolding laws.firstReply callsIn ran allNotes made isLent callOf shown
+  unfolding laws.firstReply callsIn afterAll notesOfAll made isLent callOf shown
   run-goes zero = record { carries = none-left; replies = none-refused s h; tells = none-told s h }
   run-goes (suc n) =
       let r = runs-are-calls n (shown s) in
@@ -228,7 +228,7 @@ record Parts (s : List ℕ) (x : laws.HostCall) (reply : ℕ) (left : Kept) (tol
 
 -- the call is as the rules have it, and the octets that it leaves stand for the bus after it
 abbrev Steps : Bus → List ℕ → laws.HostCall → Type 0
-Steps b s x = laws.SteppedBy b s x × laws.OctetsCarry (laws.busAfter s x) (ran b (laws.callsOf s x))
+Steps b s x = laws.SteppedBy b s x × laws.OctetsCarry (laws.busAfter s x) (afterAll b (laws.callsOfHost s x))
 
 module _ (s : List ℕ) (b : Bus) (o : laws.OctetsCarry s b) (x : laws.HostCall) (reply : ℕ) (left : Kept) (told : List Note)
     (p : Parts s x reply left told) (g : Goes b (made (laws.asked s x)) reply left told) where
@@ -238,8 +238,8 @@ module _ (s : List ℕ) (b : Bus) (o : laws.OctetsCarry s b) (x : laws.HostCall)
     unfolding lentReason
     passed = rw (o .is-bus, t)
 
-    asked-for : laws.callsOf s x ≡ made (laws.asked s x)
-    unfolding laws.callsOf
+    asked-for : laws.callsOfHost s x ≡ made (laws.asked s x)
+    unfolding laws.callsOfHost
     asked-for = rw t
 
     reply-with : laws.replyTo s x ≡ reply
@@ -264,7 +264,7 @@ module _ (s : List ℕ) (b : Bus) (o : laws.OctetsCarry s b) (x : laws.HostCall)
           refused = p .refused;
         }
 
-    enough-left : laws.OctetsCarry (laws.busAfter s x) (ran b (laws.callsOf s x))
+    enough-left : laws.OctetsCarry (laws.busAfter s x) (afterAll b (laws.callsOfHost s x))
     unfolding busWith settled
     enough-left = rw (asked-for, p .bus-is, passed) (record { is-bus = p .stored .is-bus; carries = rw (p .stored .shown-is) (g .carries) })
 
@@ -274,8 +274,8 @@ module _ (s : List ℕ) (b : Bus) (o : laws.OctetsCarry s b) (x : laws.HostCall)
     unfolding lentReason
     too-short = rw (o .is-bus, t)
 
-    none-made : laws.callsOf s x ≡ []
-    unfolding laws.callsOf
+    none-made : laws.callsOfHost s x ≡ []
+    unfolding laws.callsOfHost
     none-made = rw t
 
     two : laws.replyTo s x ≡ 2
@@ -283,7 +283,7 @@ module _ (s : List ℕ) (b : Bus) (o : laws.OctetsCarry s b) (x : laws.HostCall)
     two = p .reply-is ∙ rw too-short
 
     short-steps : laws.SteppedBy b s x
-    unfolding allNotes
+    unfolding notesOfAll
     short-steps =
         record {
           replies = rw (t, two);
@@ -292,8 +292,8 @@ module _ (s : List ℕ) (b : Bus) (o : laws.OctetsCarry s b) (x : laws.HostCall)
           refused = p .refused;
         }
 
-    short-left : laws.OctetsCarry (laws.busAfter s x) (ran b (laws.callsOf s x))
-    unfolding ran
+    short-left : laws.OctetsCarry (laws.busAfter s x) (afterAll b (laws.callsOfHost s x))
+    unfolding afterAll
     short-left = rw (none-made, p .refused (λ y. omega (arith, two)) .bus-stays) o
 
   steps : Steps b s x
@@ -331,7 +331,7 @@ module _ (s room : List ℕ) (h : isBus s ≡ true) where
         stored = left-fits s h (mostTo until s);
       }
 
-from : (list : List laws.HostCall) (s : List ℕ) (b : Bus) → ((later : List Call) → Fit (ran b later)) → laws.OctetsCarry s b
+from : (list : List laws.HostCall) (s : List ℕ) (b : Bus) → ((later : List Call) → Fit (afterAll b later)) → laws.OctetsCarry s b
     → laws.SteppedAll b s list
 unfolding laws.SteppedAll laws.asked
 from [] s b fit o = o
@@ -357,12 +357,12 @@ unfolding fits within
 zeros-are-letters = refl
 
 pub lists-stepped : laws.ListsStepped
-unfolding freshOctets freshKept ran
+unfolding freshOctets freshZeros afterAll
 lists-stepped list =
     let e = zeros-long longestBody in
-    let c : Carries freshKept freshBus =
+    let c : Carries freshZeros freshBus =
     fresh-carries (replicate imagesRoom 0) (replicate longestBody 0) (replicate lineLength 0) (zeros-long imagesRoom) (omega arith) zeros-are-letters in
-    let f : StoredAndShown freshKept =
-    round-trip freshKept
+    let f : StoredAndShown freshZeros =
+    round-trip freshZeros
     (fresh-ready (replicate imagesRoom 0) (replicate longestBody 0) (replicate lineLength 0) (zeros-long imagesRoom) (omega arith) zeros-are-letters) e in
     from list freshOctets freshBus always-fit (record { is-bus = f .is-bus; carries = rw (f .shown-is) c })

@@ -7,17 +7,17 @@ use native.Mathlib.Omega.{arith}
 use lib.Dec.{eqb, ltb}
 use lib.ListN.{length}
 use borrow.Author.Tests.{ne-eqb, ltb-false}
-use Rattle.cases.proofs.ByCases.{by-test}
-use Rattle.bus.specs.Bus.{terminals}
-use Rattle.bus.specs.Event.{eventFor}
-use Rattle.bus.specs.Calls.Call.{event}
+use Rattle.test_lemmas.proofs.ByCases.{by-test}
+use Rattle.bus_rules.specs.Bus.{terminals}
+use Rattle.bus_rules.specs.Event.{eventFor}
+use Rattle.bus_rules.specs.Calls.Call.{event}
 use Rattle.bus_record.specs.Record.{recordInRange}
 use Rattle.bus_record.specs.declared.record.BusRecord.{BusRecord}
 use Rattle.bus_event.specs.Event.{imagesRoom, areLetters, firstReason}
-use Rattle.call_rules.specs.Kept.{Kept}
-use Rattle.call_rules.specs.Ready.{eightInRange}
-use Rattle.call_rules.specs.Event.{eventTold, terminalsAfter, imagesAfter, lettersAfter}
-use Rattle.call_rules.specs.Lists.{told, called}
+use Rattle.bus_call_specs.specs.Kept.{Kept}
+use Rattle.bus_call_specs.specs.Ready.{eightInRange}
+use Rattle.bus_call_specs.specs.Event.{eventTold, terminalsAfter, imagesAfter, lettersAfter}
+use Rattle.bus_call_specs.specs.Lists.{told, called}
 use Rattle.host_steps.specs.Stepping.{eventNumber}
 
 -- 0 is no event, and no number past the last one's is

@@ -11,20 +11,20 @@ use Rattle.symbols.specs.Symbols.{lineLength}
 use Rattle.symbols.proofs.Lines.{fits-length}
 use Rattle.combining.specs.Hit.{noneLetter}
 use Rattle.terminal.specs.declared.Terminal.{Terminal}
-use Rattle.bus.specs.Calls.Call.{event}
+use Rattle.bus_rules.specs.Calls.Call.{event}
 use Rattle.bus_record.specs.declared.record.BusRecord.{BusRecord}
-use Rattle.call_rules.specs.Kept.{Kept}
-use Rattle.call_rules.specs.Run.{ran, keptAfter}
-use Rattle.call_rules.specs.Event.{eventTold, terminalsAfter, imagesAfter, lettersAfter}
-use Rattle.call_rules.specs.Lists.{told, called}
-use Rattle.call_rules.proofs.InOrder.{InOrder, in-order}
-use Rattle.call_rules.proofs.RunLeft.{run-left, run-leaves}
-use Rattle.call_rules.specs.Kept.{found}
-use Rattle.bus_held.specs.declared.HeldEvent.{HeldEvent}
-use Rattle.bus_held.specs.declared.HeldRun.{HeldRun}
+use Rattle.bus_call_specs.specs.Kept.{Kept}
+use Rattle.bus_call_specs.specs.Run.{runAnswer, keptAfter}
+use Rattle.bus_call_specs.specs.Event.{eventTold, terminalsAfter, imagesAfter, lettersAfter}
+use Rattle.bus_call_specs.specs.Lists.{told, called}
+use Rattle.bus_call_specs.proofs.InOrder.{InOrder, in-order}
+use Rattle.bus_call_specs.proofs.RunLeft.{run-left, run-leaves}
+use Rattle.bus_call_specs.specs.Kept.{found}
+use Rattle.bus_by_value.specs.declared.HeldEvent.{HeldEvent}
+use Rattle.bus_by_value.specs.declared.HeldRun.{HeldRun}
 use Rattle.report.proofs.Order.{order-called}
 use Rattle.note_text.specs.Room.{laid}
-use Rattle.bus_octets.specs.Layout.{headOctets, busOctets, recordIn, terminalsIn, lettersIn, octetsIn, imagesIn, lettersOf, octetsOf, shown, imagesAt, busLength, isBus}
+use Rattle.bus_octets.specs.Layout.{headOctets, busOctets, recordIn, terminalsIn, lettersIn, octetsIn, imagesIn, lettersRead, octetsOf, shown, imagesAt, busLength, isBus}
 use Rattle.bus_octets.proofs.Exact.{exact}
 use Rattle.bus_octets.proofs.Lengths.{stored-over}
 
@@ -39,8 +39,8 @@ module _ (s : List ℕ) (h : isBus s ≡ true) where
   pub order : InOrder (shown s)
   order = in-order 0 (shown s) (exact s h .ready)
 
-  letters-are : lettersOf s ≡ lettersIn s
-  unfolding lettersOf
+  letters-are : lettersRead s ≡ lettersIn s
+  unfolding lettersRead
   letters-are = rw (eq-eqb _ _ long)
 
   octets-are : octetsOf s ≡ octetsIn s
@@ -64,7 +64,7 @@ module _ (s : List ℕ) (h : isBus s ≡ true) where
       omega (arith, length-append (take imagesAt s) (images ++ drop (length s - imagesAt) (drop imagesAt s)), length-take-le imagesAt s (omega (arith, long)))
 
   module _ (bus : BusRecord) (ts : List Terminal) (letters octets : List ℕ)
-      (bus-is : bus ≡ recordIn s) (ts-are : ts ≡ terminalsIn s) (letters-is : letters ≡ lettersOf s) (octets-is : octets ≡ octetsOf s) where
+      (bus-is : bus ≡ recordIn s) (ts-are : ts ≡ terminalsIn s) (letters-is : letters ≡ lettersRead s) (octets-is : octets ≡ octetsOf s) where
     -- ---- An event.
     module _ (unit number : ℕ) (value : List ℕ) (r : HeldEvent) (images′ letters′ s′ : List ℕ) where
       abbrev images : List ℕ
@@ -103,16 +103,16 @@ module _ (s : List ℕ) (h : isBus s ≡ true) where
       unfolding shown
       from-is = rw (bus-is, ts-are, letters-is, letters-are, octets-is, octets-are, images-are)
 
-      pub went : r .ran ≡ ran most from → r .terminals ≡ keptAfter most from .terminals → r .notes ≡ keptAfter most from .notes
+      pub went : r .answer ≡ runAnswer most from → r .terminals ≡ keptAfter most from .terminals → r .notes ≡ keptAfter most from .notes
           → octets′ ≡ keptAfter most from .octets
-          → s′ ≡ laid s 0 (headOctets (r .ran .bus) (r .terminals) ++ (letters ++ octets′))
-          → (r .ran ≡ ran most (shown s)) × ((r .notes ≡ ended .notes) × (s′ ≡ busOctets ended))
+          → s′ ≡ laid s 0 (headOctets (r .answer .bus) (r .terminals) ++ (letters ++ octets′))
+          → (r .answer ≡ runAnswer most (shown s)) × ((r .notes ≡ ended .notes) × (s′ ≡ busOctets ended))
       unfolding shown
       went a t n o e =
           let l = run-left most (shown s) order in
           let stays = run-leaves most (shown s) in
-          let a′ : r .ran ≡ ran most (shown s) = a ∙ rw from-is in
-          let bus′ : r .ran .bus ≡ ended .bus = rw a′ (stays .bus-is) in
+          let a′ : r .answer ≡ runAnswer most (shown s) = a ∙ rw from-is in
+          let bus′ : r .answer .bus ≡ ended .bus = rw a′ (stays .bus-is) in
           let t′ : r .terminals ≡ ended .terminals = t ∙ rw from-is in
           let o′ : octets′ ≡ ended .octets = o ∙ rw from-is in
           let letters′ : letters ≡ ended .letters = letters-is ∙ (letters-are ∙ sym (stays .letters-stay)) in (

@@ -4,17 +4,17 @@ use mathlib.Core.List.{List, []}
 use mathlib.Core.Path.{_≡_, refl, ap, _∙_}
 use Prim.Native.Nat.{ℕ, _-_}
 use lib.ListN.{length}
-use Rattle.bus.specs.Bus.{notesOf}
-use Rattle.bus.specs.Order.{unitByUnit}
-use Rattle.bus.specs.Calls.Call.{event}
-use Rattle.cells.specs.Notes.{noted}
+use Rattle.bus_rules.specs.Bus.{notesOf}
+use Rattle.bus_rules.specs.Order.{unitByUnit}
+use Rattle.bus_rules.specs.Calls.Call.{event}
+use Rattle.notes_and_cells.specs.Notes.{noted}
 use Rattle.hdlc.specs.Bits.{bitOf}
 use Rattle.bus_record.specs.NetworkSide.{refusedRun}
-use Rattle.call_rules.specs.Kept.{Kept}
-use Rattle.call_rules.specs.Run.{ran, ranOn, keptOn, notYet, keptAfter}
-use Rattle.call_rules.specs.Lists.{told, replied, notesTold, periodTold, readerTold, terminalsHeard, runTold}
-use Rattle.call_rules.proofs.InOrder.{order-reply}
-use Rattle.call_rules.proofs.RunLeft.{run-left}
+use Rattle.bus_call_specs.specs.Kept.{Kept}
+use Rattle.bus_call_specs.specs.Run.{runAnswer, answerOn, keptOn, notYet, keptAfter}
+use Rattle.bus_call_specs.specs.Lists.{told, replied, notesTold, periodTold, readerTold, terminalsHeard, runTold}
+use Rattle.bus_call_specs.proofs.InOrder.{order-reply}
+use Rattle.bus_call_specs.proofs.RunLeft.{run-left}
 use Rattle.bus_octets.specs.Layout.{octetsIn, busOctets, shown, busLength, isBus}
 use Rattle.bus_octets.specs.Laws.{StoredAndShown}
 use Rattle.bus_octets.proofs.Exact.{exact}
@@ -45,17 +45,17 @@ module _ (s : List ℕ) (h : isBus s ≡ true) (most : ℕ) where
   unfolding shown
   octets-left = ap (λ (k : Kept). k .octets) (left-fits .shown-is)
 
-  pub run-notes : ran most (shown s) .reply ≡ 0
-      → periodTold (ran most (shown s) .bus .periods .0 - 1) (ran most (shown s)) (ended .notes) (octetsIn (busOctets ended)) ≡ runTold most (shown s)
+  pub run-notes : runAnswer most (shown s) .reply ≡ 0
+      → periodTold (runAnswer most (shown s) .bus .periods .0 - 1) (runAnswer most (shown s)) (ended .notes) (octetsIn (busOctets ended)) ≡ runTold most (shown s)
   unfolding runTold
   run-notes z = rw (z, octets-left)
 
 -- ---- A run of no periods.
 module _ (s : List ℕ) (h : isBus s ≡ true) where
-  pub none-refused : ran 0 (shown s) .reply ≡ 0
-  unfolding ran ranOn notYet refusedRun
+  pub none-refused : runAnswer 0 (shown s) .reply ≡ 0
+  unfolding runAnswer answerOn notYet refusedRun
   none-refused = exact s h .ready
 
   pub none-told : runTold 0 (shown s) ≡ []
-  unfolding runTold ran ranOn notYet refusedRun keptAfter keptOn periodTold readerTold unitByUnit terminalsHeard notesOf noted bitOf shown
+  unfolding runTold runAnswer answerOn notYet refusedRun keptAfter keptOn periodTold readerTold unitByUnit terminalsHeard notesOf noted bitOf shown
   none-told = rw (exact s h .ready) refl

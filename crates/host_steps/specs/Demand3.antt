@@ -1,14 +1,14 @@
--- Demand 3 on a host's calls (document 01, "Lists and stretches"; crate `bus`, specs/Claims.antt): what `call_rules` claims of the engine's calls
+-- Demand 3 on a host's calls (document 01, "Lists and stretches"; crate `bus_rules`, specs/Claims.antt): what `bus_call_specs` claims of the engine's calls
 -- (specs/Demand3.antt there), of the calls on a bus that is lent as octets. Proved in proofs/Demand3.antt.
 use mathlib.Core.List.{List, [], _∷_, _++_}
 use mathlib.Core.Path.{_≡_}
 use Prim.Native.Nat.{ℕ}
-use Rattle.bus.specs.Bus.{Note, freshBus}
-use Rattle.bus.specs.Calls.{Call, ran, allNotes}
-use Rattle.bus.specs.Stretch.{Stretch}
-use Rattle.bus.specs.Claims.{Claimed}
+use Rattle.bus_rules.specs.Bus.{Note, freshBus}
+use Rattle.bus_rules.specs.Calls.{Call, afterAll, notesOfAll}
+use Rattle.bus_rules.specs.Stretch.{Stretch}
+use Rattle.bus_rules.specs.Claims.{Claimed}
 use Rattle.host_bus.specs.Fresh.{freshOctets}
-use Rattle.host_steps.specs.Laws.{HostCall, busAfter, callsOf, HandsBack, OctetsGiven, SteppedAll}
+use Rattle.host_steps.specs.Laws.{HostCall, busAfter, callsOfHost, HandsBack, OctetsGiven, SteppedAll}
 
 -- the octets that a list of a host's calls leaves, and the calls of document 01 that it makes
 unfoldable pub leftBy : List ℕ → List HostCall → List ℕ
@@ -17,7 +17,7 @@ leftBy s (x ∷ more) = leftBy (busAfter s x) more
 
 unfoldable pub madeBy : List ℕ → List HostCall → List Call
 madeBy s [] = []
-madeBy s (x ∷ more) = callsOf s x ++ madeBy (busAfter s x) more
+madeBy s (x ∷ more) = callsOfHost s x ++ madeBy (busAfter s x) more
 
 -- the notes that they hand back, one call's behind the other's
 unfoldable pub HandBack : List ℕ → List HostCall → List Note → Type 0
@@ -35,13 +35,13 @@ pub record PartHandsBack (before during after : List HostCall) : Type 0 where
   pub in-calls : madeBy freshOctets (before ++ (during ++ after))
       ≡ madeBy freshOctets before ++ (madeBy (leftBy freshOctets before) during ++ madeBy (leftBy (leftBy freshOctets before) during) after)
   pub notes-of-part : HandBack (leftBy freshOctets before) during
-      (allNotes (ran freshBus (madeBy freshOctets before)) (madeBy (leftBy freshOctets before) during))
+      (notesOfAll (afterAll freshBus (madeBy freshOctets before)) (madeBy (leftBy freshOctets before) during))
 
 -- Of a host's list: each call is as the rules have it; the sentences of demand 3 hold of every stretch of the calls that it makes, also of one that
 -- begins or ends inside a run; and its parts hand back their notes.
 pub record ClaimedOnHostCalls (calls : List HostCall) : Type 0 where
   pub stepped : SteppedAll freshBus freshOctets calls
-  pub claims : (before during after : List Call) → madeBy freshOctets calls ≡ before ++ (during ++ after) → Stretch (ran freshBus before) during
+  pub claims : (before during after : List Call) → madeBy freshOctets calls ≡ before ++ (during ++ after) → Stretch (afterAll freshBus before) during
       → Claimed before during after
   pub parts : (before during after : List HostCall) → calls ≡ before ++ (during ++ after) → PartHandsBack before during after
 

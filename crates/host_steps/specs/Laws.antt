@@ -7,9 +7,9 @@ use Prim.Native.Nat.{ℕ, _≤_, min, max}
 use lib.Dec.{ltb}
 use lib.ListN.{length, getD, take}
 use Rattle.timing.specs.Counts.{mostPeriods}
-use Rattle.bus.specs.Bus.{Bus, Note, freshBus}
-use Rattle.bus.specs.Calls.{Call, reply, ran, allNotes}
-use Rattle.call_rules.specs.Lists.{Carries, LentCall, OctetValue, made, lend, notesTold, callsIn, runTold}
+use Rattle.bus_rules.specs.Bus.{Bus, Note, freshBus}
+use Rattle.bus_rules.specs.Calls.{Call, reply, afterAll, notesOfAll}
+use Rattle.bus_call_specs.specs.Lists.{Carries, LentCall, OctetValue, made, lend, notesTold, callsIn, runTold}
 use Rattle.note_text.specs.Determined.{AllFitOctets}
 use Rattle.bus_octets.specs.Layout.{shown, isBus}
 use Rattle.host_bus.specs.Fresh.{freshOctets}
@@ -75,7 +75,7 @@ unfoldable pub notesAfter : List ℕ → HostCall → List ℕ
 notesAfter s (step c room) = hostNotes s room c
 notesAfter s (runTo until room) = hostRunNotes s room (mostTo until s)
 
--- The calls of crate `call_rules` (specs/Lists.antt) that it asks for, with their own places for notes: a run for as many periods as it
+-- The calls of crate `bus_call_specs` (specs/Lists.antt) that it asks for, with their own places for notes: a run for as many periods as it
 -- runs.
 unfoldable pub asked : List ℕ → HostCall → List LentCall
 asked s (step c room) = lend c ∷ []
@@ -86,8 +86,8 @@ abbrev pub shortOf : {A : Type 0} → A → HostCall → A → A
 shortOf short x enough = cond (ltb (length (roomOf x)) notesRoom) short enough
 
 -- the calls of document 01 that it makes
-unfoldable pub callsOf : List ℕ → HostCall → List Call
-callsOf s x = shortOf [] x (made (asked s x))
+unfoldable pub callsOfHost : List ℕ → HostCall → List Call
+callsOfHost s x = shortOf [] x (made (asked s x))
 
 -- of a run the first period is refused or none; a run of no periods is not refused
 unfoldable pub firstReply : Bus → List Call → ℕ
@@ -104,13 +104,13 @@ abbrev pub HandsBackOne : Type 0
 HandsBackOne =
     (s : List ℕ) (x : HostCall) (ns ms : List Note) → AllFitOctets ns → AllFitOctets ms → HandsBack s x ns → HandsBack s x ms → ns ≡ ms
 
--- Every call gives the reply and the notes of document 01's rules for the calls that it stands for (crate `bus`, specs/Calls.antt); with too little
+-- Every call gives the reply and the notes of document 01's rules for the calls that it stands for (crate `bus_rules`, specs/Calls.antt); with too little
 -- room for notes the reply is 2.
 pub record SteppedBy (b : Bus) (s : List ℕ) (x : HostCall) : Type 0 where
-  pub replies : replyTo s x ≡ shortOf 2 x (firstReply b (callsOf s x))
-  pub tells : HandsBack s x (allNotes b (callsOf s x))
+  pub replies : replyTo s x ≡ shortOf 2 x (firstReply b (callsOfHost s x))
+  pub tells : HandsBack s x (notesOfAll b (callsOfHost s x))
   -- whoever reads notes that fit their octets there reads these
-  pub alone : (notes : List Note) → AllFitOctets notes → HandsBack s x notes → notes ≡ allNotes b (callsOf s x)
+  pub alone : (notes : List Note) → AllFitOctets notes → HandsBack s x notes → notes ≡ notesOfAll b (callsOfHost s x)
   pub refused : (replyTo s x ≡ 0 → ⊥) → Untouched s (roomOf x) (busAfter s x) (notesAfter s x)
 
 -- octets that are a bus, and stand for the bus b of the rules
@@ -126,7 +126,7 @@ OctetsGiven (runTo until room) = Unit
 unfoldable pub SteppedAll : Bus → List ℕ → List HostCall → Type 0
 SteppedAll b s [] = OctetsCarry s b
 SteppedAll b s (x ∷ more) =
-    OctetsCarry s b × (OctetsGiven x → SteppedBy b s x × SteppedAll (ran b (callsOf s x)) (busAfter s x) more)
+    OctetsCarry s b × (OctetsGiven x → SteppedBy b s x × SteppedAll (afterAll b (callsOfHost s x)) (busAfter s x) more)
 
 abbrev pub ListsStepped : Type 0
 ListsStepped = (calls : List HostCall) → SteppedAll freshBus freshOctets calls

@@ -4,11 +4,11 @@ use mathlib.Core.List.{List, [], _∷_, _++_}
 use Prim.Native.Nat.{ℕ, _+_, _-_}
 use lib.Dec.{eqb, ltb}
 use lib.ListN.{length}
-use Rattle.bus.specs.Bus.{Note}
-use Rattle.bus.specs.Calls.{Call}
-use Rattle.call_rules.specs.Kept.{Kept}
-use Rattle.call_rules.specs.Run.{ran, keptAfter}
-use Rattle.call_rules.specs.Lists.{called, replied, notesTold, runTold}
+use Rattle.bus_rules.specs.Bus.{Note}
+use Rattle.bus_rules.specs.Calls.{Call}
+use Rattle.bus_call_specs.specs.Kept.{Kept}
+use Rattle.bus_call_specs.specs.Run.{runAnswer, keptAfter}
+use Rattle.bus_call_specs.specs.Lists.{called, replied, notesTold, runTold}
 use Rattle.note_text.specs.Room.{laid}
 use Rattle.note_text.specs.NoteText.{notesIn}
 use Rattle.note_text.specs.declared.form.Form.the-variants.{Octets}
@@ -58,10 +58,10 @@ abbrev pub mostTo : ℕ → List ℕ → ℕ
 mostTo until s = until - shown s .bus .periods .0
 
 unfoldable pub hostRunReply : List ℕ → List ℕ → ℕ → ℕ
-hostRunReply s room most = replyWith s room (ran most (shown s) .reply)
+hostRunReply s room most = replyWith s room (runAnswer most (shown s) .reply)
 
 unfoldable pub hostRunBus : List ℕ → List ℕ → ℕ → List ℕ
 hostRunBus s room most = busWith s room (keptAfter most (shown s))
 
 unfoldable pub hostRunNotes : List ℕ → List ℕ → ℕ → List ℕ
-hostRunNotes s room most = notesWith s room (ran most (shown s) .reply) (runTold most (shown s))
+hostRunNotes s room most = notesWith s room (runAnswer most (shown s) .reply) (runTold most (shown s))

@@ -3,12 +3,12 @@
 // one call.
 ghost use mathlib.Core.Bool.{true};
 ghost use mathlib.Core.Path.{_≡_};
-ghost use Rattle.bus.specs.Calls.Call.{event as eventCall};
-ghost use Rattle.call_rules.specs.Lists.{told, called};
-ghost use Rattle.call_rules.specs.Run.{ran, keptAfter};
+ghost use Rattle.bus_rules.specs.Calls.Call.{event as eventCall};
+ghost use Rattle.bus_call_specs.specs.Lists.{told, called};
+ghost use Rattle.bus_call_specs.specs.Run.{runAnswer, keptAfter};
 ghost use Rattle.bus_octets.specs.Layout.{isBus, shown, busOctets};
+use bus_by_value::HeldRun;
 use bus_event::event::Told;
-use bus_held::HeldRun;
 use bus_octets::laid::lay;
 use bus_octets::layout::IMAGES_AT;
 use bus_octets::shown::letters_in;
@@ -27,7 +27,7 @@ pub(crate) fn give(s: &mut [u8], unit: u32, event: u8, value: &[u8]) -> Told
     let mut letters = letters_in(s);
     let octets = octets_in(s);
     let images = &mut s[IMAGES_AT..];
-    let g = bus_held::event(bus, before, images, &mut letters, unit, event, value);
+    let g = bus_by_value::event(bus, before, images, &mut letters, unit, event, value);
     let told = g.told;
     let after = told.bus;
     let terminals = g.terminals;
@@ -38,7 +38,7 @@ pub(crate) fn give(s: &mut [u8], unit: u32, event: u8, value: &[u8]) -> Told
 // A run of periods.
 pub(crate) fn go(s: &mut [u8], most: u32) -> HeldRun
     requires { ⌜ isBus (now s) ≡ true ⌝ }
-    ensures { λ r. ⌜ r .ran ≡ ran most (shown (now (s .entry))) ⌝ }
+    ensures { λ r. ⌜ r .answer ≡ runAnswer most (shown (now (s .entry))) ⌝ }
     ensures { λ r. ⌜ r .notes ≡ keptAfter most (shown (now (s .entry))) .notes ⌝ }
     ensures { λ _. ⌜ now (s .exit) ≡ busOctets (keptAfter most (shown (now (s .entry)))) ⌝ }
 {
@@ -47,9 +47,9 @@ pub(crate) fn go(s: &mut [u8], most: u32) -> HeldRun
     let letters = letters_in(s);
     let mut octets = octets_in(s);
     let images = &s[IMAGES_AT..];
-    let g = bus_held::run(bus, before, images, &mut octets, &letters, most);
-    let ran = g.ran;
-    let after = ran.bus;
+    let g = bus_by_value::run(bus, before, images, &mut octets, &letters, most);
+    let answer = g.answer;
+    let after = answer.bus;
     let terminals = g.terminals;
     lay(s, after, terminals, &letters, &octets);
     g

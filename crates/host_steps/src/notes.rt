@@ -1,17 +1,17 @@
 // The notes of a call as octets, in room that holds those of any call.
 ghost use mathlib.Core.Path.{_≡_};
 ghost use Prim.Native.Nat.{_-_};
-ghost use Rattle.bus.specs.Bus.{notesOf};
-ghost use Rattle.call_rules.specs.Lists.{periodTold};
-ghost use Rattle.cells.specs.Notes.{noted};
+ghost use Rattle.bus_rules.specs.Bus.{notesOf};
+ghost use Rattle.bus_call_specs.specs.Lists.{periodTold};
+ghost use Rattle.notes_and_cells.specs.Notes.{noted};
 ghost use Rattle.note_text.specs.Room.{laid};
 ghost use Rattle.host_steps.specs.Stepping.{notesOctets, notesRoom};
-use bus_record::side::Ran;
-use cells::notes::Notes;
-use listening::hears::UnitNotes;
+use bus_record::side::RunAnswer;
 use note_text::form::Form;
 use note_text::note::put_notes;
 use note_text::room::put;
+use notes_and_cells::notes::Notes;
+use period_hearing::hears::UnitNotes;
 use period_text::period::put_period;
 
 // The room that holds the notes of any call, their end included.
@@ -40,11 +40,11 @@ pub(crate) fn less(a: u32, b: u32) -> u32
 }
 
 // The notes of a run: those of its last period.
-pub(crate) fn put_ran(room: &mut [u8], ran: Ran, notes: [UnitNotes; 8], octets: &[u8])
+pub(crate) fn put_run(room: &mut [u8], answer: RunAnswer, notes: [UnitNotes; 8], octets: &[u8])
     ensures { λ _. ⌜ now (room .exit)
-        ≡ laid (now (room .entry)) 0 (notesOctets (periodTold (ran .bus .periods .0 - 1) ran notes (now (octets .entry)))) ⌝ }
+        ≡ laid (now (room .entry)) 0 (notesOctets (periodTold (answer .bus .periods .0 - 1) answer notes (now (octets .entry)))) ⌝ }
 {
-    let last = less(ran.bus.periods.0, 1);
-    let wrote = put_period(Form::Octets, room, 0, last, ran, notes, octets);
+    let last = less(answer.bus.periods.0, 1);
+    let wrote = put_period(Form::Octets, room, 0, last, answer, notes, octets);
     put(room, wrote, &[0]);
 }

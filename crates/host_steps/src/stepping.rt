@@ -1,12 +1,12 @@
 // Stepping a bus that is lent as octets: an event, a period, a run of periods. The notes come back as octets in lent room.
 ghost use mathlib.Core.Path.{_≡_};
-ghost use Rattle.bus.specs.Calls.Call.{event as eventCall, period as periodCall};
+ghost use Rattle.bus_rules.specs.Calls.Call.{event as eventCall, period as periodCall};
 ghost use Rattle.host_steps.specs.Stepping as spec;
 use super::held::give;
 use super::held::go;
 use super::notes::NOTES_LENGTH;
 use super::notes::less;
-use super::notes::put_ran;
+use super::notes::put_run;
 use super::notes::put_told;
 use bus_octets::layout::IMAGES_AT;
 use bus_octets::layout::OCTETS_AT;
@@ -65,12 +65,12 @@ fn run_most(bus: &mut [u8], notes: &mut [u8], most: u32) -> u32
         return reason;
     }
     let g = go(bus, most);
-    let ran = g.ran;
+    let answer = g.answer;
     let units = g.notes;
-    if ran.reply != 0 {
-        return number(ran.reply);
+    if answer.reply != 0 {
+        return number(answer.reply);
     }
-    put_ran(notes, ran, units, &bus[OCTETS_AT..IMAGES_AT]);
+    put_run(notes, answer, units, &bus[OCTETS_AT..IMAGES_AT]);
     0
 }
 

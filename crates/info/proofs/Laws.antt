@@ -6,7 +6,7 @@ use Prim.Native.Nat.{ℕ}
 use borrow.Author.Tests.{eqb-true, eqb-false, not-false}
 use lib.Dec.{eqb}
 use lib.ListN.{length, replicate}
-use Rattle.cases.proofs.ByCases.{by-test}
+use Rattle.test_lemmas.proofs.ByCases.{by-test}
 use Rattle.symbols.specs.Symbols.{none, within, fits}
 use Rattle.symbols.proofs.Lines.{same-symbols-true, same-symbols-self}
 use Rattle.frame.specs.Up.{upLine}

@@ -7,22 +7,22 @@ use native.Mathlib.Omega.{arith}
 use lib.Dec.{eqb}
 use lib.ListN.{length, length-append}
 use borrow.Author.Tests.{le-leb}
-use Rattle.cases.proofs.ByCases.{by-test}
-use Rattle.cells.specs.Notes.{noted}
-use Rattle.cells.specs.Cells.{cellIn, cellOf, stateAfter}
-use Rattle.cells.specs.declared.cell.Cell.{Cell}
-use Rattle.cells.specs.declared.cell.Cell.the-variants.{To, Stay, Impossible, Absent}
-use Rattle.cells.proofs.NotesKept.{noted-packed, everyNote, every-append, isIndication}
-use Rattle.table_6_3.specs.Table63.{table63, G3, T1-DUE, T2-DUE, INFO-1, LOSS}
+use Rattle.test_lemmas.proofs.ByCases.{by-test}
+use Rattle.notes_and_cells.specs.Notes.{noted}
+use Rattle.notes_and_cells.specs.Cells.{cellIn, cellOf, stateAfter}
+use Rattle.notes_and_cells.specs.declared.cell.Cell.{Cell}
+use Rattle.notes_and_cells.specs.declared.cell.Cell.the-variants.{To, Stay, Impossible, Absent}
+use Rattle.notes_and_cells.proofs.NotesKept.{noted-packed, everyNote, every-append, isIndication}
+use Rattle.table_6_3.specs.Table63.{table63, G3, T1-ROW, T2-ROW, INFO-1-ROW, LOSS-ROW}
 use Rattle.table_6_3.proofs.Laws.{notes-two, notes-indications, t1-keeps-G3, t2-keeps-G3}
 use Rattle.timing.specs.Counts.{mostPeriods, atPeriod}
 use Rattle.timing.specs.Timers.{due, startedBy, timerAfter}
-use Rattle.alignment.specs.Alignment.{gained, lost, followed}
-use Rattle.hearing.specs.Heard.{upwardEvent, lossUp}
+use Rattle.alignment.specs.Alignment.{framedToGain, unframedToLose, followed}
+use Rattle.heard_line.specs.Heard.{upwardEvent, lossUp}
 use Rattle.alignment.specs.declared.Alignment.{Alignment}
-use Rattle.hearing.specs.declared.heard.Upward.{Upward}
+use Rattle.heard_line.specs.declared.heard.Upward.{Upward}
 use Rattle.network.specs.Network.{unchanged, acts, moved, happens, andThen, aligned, isRequest, bars, requests, t1Due, t2Due, timers, heardAs, hears}
-use Rattle.network.specs.Calls.{networkInRange, ready, checked, requested, timerDue, heard}
+use Rattle.network.specs.Calls.{networkInRange, ready, checked, requestCall, timerCall, hearCall}
 use Rattle.network.specs.declared.Network.{Network}
 use Rattle.network.specs.declared.NetworkStep.{NetworkStep}
 use Rattle.network.proofs.TwoEvents.{happens-notes}
@@ -33,13 +33,13 @@ unfolding checked ready
 checked-called step now n l h = rw (h, le-leb now mostPeriods l)
 
 module _ (now : ℕ) (n : Network) (l : now ≤ mostPeriods) (h : networkInRange n ≡ true) where
-  pub requested-called : (event : ℕ) → requested event (atPeriod now) n ≡ requests event now n
+  pub requested-called : (event : ℕ) → requestCall event (atPeriod now) n ≡ requests event now n
   requested-called event = checked-called (requests event) now n l h
 
-  pub timer-due-called : timerDue (atPeriod now) n ≡ timers now n
+  pub timer-due-called : timerCall (atPeriod now) n ≡ timers now n
   timer-due-called = checked-called timers now n l h
 
-  pub heard-called : (line : Upward) → heard line (atPeriod now) n ≡ hears line now n
+  pub heard-called : (line : Upward) → hearCall line (atPeriod now) n ≡ hears line now n
   heard-called line = checked-called (hears line) now n l h
 
 -- ---- states
@@ -56,11 +56,11 @@ happens-state e now n = acts-state (cellOf table63 e (n .state)) now n
 
 t1-due-G3 : (now : ℕ) (n : Network) → eqb (t1Due now n .network .state) G3 ≡ eqb (n .state) G3
 unfolding t1Due
-t1-due-G3 now n = by-test (due (n .t1) now) (λ t. rw (t, happens-state T1-DUE now _) (t1-keeps-G3 (n .state))) (λ t. rw t)
+t1-due-G3 now n = by-test (due (n .t1) now) (λ t. rw (t, happens-state T1-ROW now _) (t1-keeps-G3 (n .state))) (λ t. rw t)
 
 t2-due-G3 : (now : ℕ) (n : Network) → eqb (t2Due now n .network .state) G3 ≡ eqb (n .state) G3
 unfolding t2Due
-t2-due-G3 now n = by-test (due (n .t2) now) (λ t. rw (t, happens-state T2-DUE now _) (t2-keeps-G3 (n .state))) (λ t. rw t)
+t2-due-G3 now n = by-test (due (n .t2) now) (λ t. rw (t, happens-state T2-ROW now _) (t2-keeps-G3 (n .state))) (λ t. rw t)
 
 -- No timer that is due leads into G3 or out of it.
 pub timers-keep-G3 : (now : ℕ) (n : Network) → eqb (timers now n .network .state) G3 ≡ eqb (n .state) G3
@@ -73,11 +73,11 @@ happens-two e now n = rw (happens-notes e now n) (notes-two e (n .state))
 
 t1-two : (now : ℕ) (n : Network) → length (noted (t1Due now n .notes)) ≤ 2
 unfolding t1Due noted
-t1-two now n = by-test (due (n .t1) now) (λ t. rw t (happens-two T1-DUE now _)) (λ t. rw t (omega arith))
+t1-two now n = by-test (due (n .t1) now) (λ t. rw t (happens-two T1-ROW now _)) (λ t. rw t (omega arith))
 
 t2-two : (now : ℕ) (n : Network) → length (noted (t2Due now n .notes)) ≤ 2
 unfolding t2Due noted
-t2-two now n = by-test (due (n .t2) now) (λ t. rw t (happens-two T2-DUE now _)) (λ t. rw t (omega arith))
+t2-two now n = by-test (due (n .t2) now) (λ t. rw t (happens-two T2-ROW now _)) (λ t. rw t (omega arith))
 
 joined : (s : NetworkStep) (f : Network → NetworkStep) → length (noted (s .notes)) ≤ 2 → length (noted (f (s .network) .notes)) ≤ 2 →
     noted (andThen s f .notes) ≡ noted (s .notes) ++ noted (f (s .network) .notes)
@@ -92,16 +92,16 @@ timers-notes now n = joined (t1Due now n) (t2Due now) (t1-two now n) (t2-two now
 -- Nor of those of a heard line: they are the loss's and then the line's.
 abbrev lossHeard : Upward → ℕ → Network → NetworkStep
 lossHeard line now n =
-    happens (lossUp (followed gained lost (line .pulse) (line .framed) (n .alignment))) now
-    (aligned (followed gained lost (line .pulse) (line .framed) (n .alignment) .alignment) n)
+    happens (lossUp (followed framedToGain unframedToLose (line .pulse) (line .framed) (n .alignment))) now
+    (aligned (followed framedToGain unframedToLose (line .pulse) (line .framed) (n .alignment) .alignment) n)
 
 abbrev lineHeard : Upward → ℕ → Network → NetworkStep
-lineHeard line now n = happens (upwardEvent line (followed gained lost (line .pulse) (line .framed) (n .alignment))) now (lossHeard line now n .network)
+lineHeard line now n = happens (upwardEvent line (followed framedToGain unframedToLose (line .pulse) (line .framed) (n .alignment))) now (lossHeard line now n .network)
 
 pub hears-notes : (line : Upward) (now : ℕ) (n : Network) → noted (hears line now n .notes) ≡ noted (lossHeard line now n .notes) ++ noted (lineHeard line now n .notes)
 unfolding hears heardAs
 hears-notes line now n =
-    joined (lossHeard line now n) (happens (upwardEvent line (followed gained lost (line .pulse) (line .framed) (n .alignment))) now) (happens-two _ now _) (happens-two _ now _)
+    joined (lossHeard line now n) (happens (upwardEvent line (followed framedToGain unframedToLose (line .pulse) (line .framed) (n .alignment))) now) (happens-two _ now _) (happens-two _ now _)
 
 -- Every note is an indication of table 6-3.
 abbrev Told : NetworkStep → Type 0
@@ -118,11 +118,11 @@ requests-told event now n = by-test (isRequest event)
 
 t1-told : (now : ℕ) (n : Network) → Told (t1Due now n)
 unfolding t1Due everyNote noted
-t1-told now n = by-test (due (n .t1) now) (λ t. rw t (happens-told T1-DUE now _)) (λ t. rw t)
+t1-told now n = by-test (due (n .t1) now) (λ t. rw t (happens-told T1-ROW now _)) (λ t. rw t)
 
 t2-told : (now : ℕ) (n : Network) → Told (t2Due now n)
 unfolding t2Due everyNote noted
-t2-told now n = by-test (due (n .t2) now) (λ t. rw t (happens-told T2-DUE now _)) (λ t. rw t)
+t2-told now n = by-test (due (n .t2) now) (λ t. rw t (happens-told T2-ROW now _)) (λ t. rw t)
 
 pub timers-told : (now : ℕ) (n : Network) → Told (timers now n)
 timers-told now n = rw (timers-notes now n) (every-append isIndication (noted (t1Due now n .notes)) _ (t1-told now n) (t2-told now (t1Due now n .network)))
@@ -142,8 +142,8 @@ no-event now n = from (n .state)
 
 -- Where INFO 1 and the event of loss fall together, their order does not matter.
 pub loss-and-info-1 : (now t1 t2 state : ℕ) (a : Alignment) →
-    andThen (happens LOSS now (record { t1 = t1; t2 = t2; state = state; alignment = a })) (happens INFO-1 now)
-    ≡ andThen (happens INFO-1 now (record { t1 = t1; t2 = t2; state = state; alignment = a })) (happens LOSS now)
+    andThen (happens LOSS-ROW now (record { t1 = t1; t2 = t2; state = state; alignment = a })) (happens INFO-1-ROW now)
+    ≡ andThen (happens INFO-1-ROW now (record { t1 = t1; t2 = t2; state = state; alignment = a })) (happens LOSS-ROW now)
 unfolding happens acts cellIn andThen moved noted timerAfter startedBy
 loss-and-info-1 now t1 t2 zero a = refl
 loss-and-info-1 now t1 t2 (suc zero) a = refl

@@ -5,22 +5,22 @@ use Prim.Native.Nat.{ℕ, _+_, _≤_}
 use native.Mathlib.Omega.{arith}
 use lib.Dec.{ltb}
 use borrow.Author.Tests.{le-ltb, ltb-false, leb-true}
-use Rattle.cases.proofs.ByCases.{by-test, both, neither}
-use Rattle.cells.specs.Cells.{START-T2, cellOf}
-use Rattle.cells.specs.declared.cell.Cell.{Cell}
-use Rattle.cells.specs.declared.cell.Cell.the-variants.{To, Stay, Impossible, Absent}
-use Rattle.cells.proofs.NextState.{nextTo, next-fits}
-use Rattle.table_6_3.specs.Table63.{table63, G1, G4, T1-DUE, T2-DUE}
+use Rattle.test_lemmas.proofs.ByCases.{by-test, both, neither}
+use Rattle.notes_and_cells.specs.Cells.{START-T2, cellOf}
+use Rattle.notes_and_cells.specs.declared.cell.Cell.{Cell}
+use Rattle.notes_and_cells.specs.declared.cell.Cell.the-variants.{To, Stay, Impossible, Absent}
+use Rattle.notes_and_cells.proofs.NextState.{nextTo, next-fits}
+use Rattle.table_6_3.specs.Table63.{table63, G1, G4, T1-ROW, T2-ROW}
 use Rattle.table_6_3.proofs.Laws.{next-state}
 use Rattle.timing.specs.Counts.{mostPeriods, periodsInRange}
 use Rattle.timing.specs.Timers.{T1, T2, due}
 use Rattle.timing.specs.declared.counts.Periods.{Periods}
 use Rattle.timing.proofs.RangesKept.{started-at-most, timer-at-most}
-use Rattle.alignment.specs.Alignment.{lost, alignmentInRange}
-use Rattle.hearing.specs.declared.heard.Upward.{Upward}
+use Rattle.alignment.specs.Alignment.{unframedToLose, alignmentInRange}
+use Rattle.heard_line.specs.declared.heard.Upward.{Upward}
 use Rattle.alignment.proofs.Alignments.{followed-in-range}
 use Rattle.network.specs.Network.{fresh, acts, moved, happens, andThen, aligned, isRequest, bars, requests, t1Due, t2Due, timers, heardAs, hears}
-use Rattle.network.specs.Calls.{networkInRange, ready, checked, requested, timerDue, heard}
+use Rattle.network.specs.Calls.{networkInRange, ready, checked, requestCall, timerCall, hearCall}
 use Rattle.network.specs.declared.Network.{Network}
 use Rattle.network.specs.declared.NetworkStep.{NetworkStep}
 
@@ -95,7 +95,7 @@ module _ (now : ℕ) (l : now ≤ mostPeriods) where
   unfolding t1Due
   t1-due-fits n f =
       by-test (due (n .t1) now)
-      (λ t. rw t (happens-fits T1-DUE _
+      (λ t. rw t (happens-fits T1-ROW _
       (record { from-G1 = f .from-G1; to-G4 = f .to-G4; t1-fits = omega arith; t2-fits = f .t2-fits; alignment-fits = f .alignment-fits })))
       (λ t. rw t f)
 
@@ -103,7 +103,7 @@ module _ (now : ℕ) (l : now ≤ mostPeriods) where
   unfolding t2Due
   t2-due-fits n f =
       by-test (due (n .t2) now)
-      (λ t. rw t (happens-fits T2-DUE _
+      (λ t. rw t (happens-fits T2-ROW _
       (record { from-G1 = f .from-G1; to-G4 = f .to-G4; t1-fits = f .t1-fits; t2-fits = omega arith; alignment-fits = f .alignment-fits })))
       (λ t. rw t f)
 
@@ -121,7 +121,7 @@ module _ (now : ℕ) (l : now ≤ mostPeriods) where
         to-G4 = f .to-G4;
         t1-fits = f .t1-fits;
         t2-fits = f .t2-fits;
-        alignment-fits = followed-in-range lost (omega arith) (n .alignment) (line .pulse) (line .framed);
+        alignment-fits = followed-in-range unframedToLose (omega arith) (n .alignment) (line .pulse) (line .framed);
       }))
 
 -- A record that is ready has a period in range.
@@ -139,11 +139,11 @@ checked-in-range step fits now n h =
     (λ t. rw t h)
 
 module _ (now : Periods) (n : Network) (h : networkInRange n ≡ true) where
-  pub requested-in-range : (event : ℕ) → networkInRange (requested event now n .network) ≡ true
+  pub requested-in-range : (event : ℕ) → networkInRange (requestCall event now n .network) ≡ true
   requested-in-range event = checked-in-range (requests event) (λ now l. requests-fits now l event) now n h
 
-  pub timer-due-in-range : networkInRange (timerDue now n .network) ≡ true
+  pub timer-due-in-range : networkInRange (timerCall now n .network) ≡ true
   timer-due-in-range = checked-in-range timers timers-fits now n h
 
-  pub heard-in-range : (line : Upward) → networkInRange (heard line now n .network) ≡ true
+  pub heard-in-range : (line : Upward) → networkInRange (hearCall line now n .network) ≡ true
   heard-in-range line = checked-in-range (hears line) (λ now l. hears-fits now l line) now n h

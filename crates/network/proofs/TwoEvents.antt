@@ -4,19 +4,19 @@ use mathlib.Core.Bool.{Bool, true, false, cond, _||_}
 use mathlib.Core.List.{[], append-nil}
 use Prim.Native.Nat.{ℕ}
 use lib.Dec.{eqb}
-use Rattle.cases.proofs.ByCases.{by-test, clash}
-use Rattle.cells.specs.Notes.{packedNotes, noted}
-use Rattle.cells.specs.Cells.{cellOf, cellNotes}
-use Rattle.cells.specs.declared.cell.Cell.{Cell}
-use Rattle.cells.specs.declared.cell.Cell.the-variants.{To, Stay, Impossible, Absent}
-use Rattle.table_6_3.specs.Table63.{table63, AR, DR, T1-DUE, T2-DUE, INFO-0, INFO-1, INFO-3}
+use Rattle.test_lemmas.proofs.ByCases.{by-test, clash}
+use Rattle.notes_and_cells.specs.Notes.{packedNotes, noted}
+use Rattle.notes_and_cells.specs.Cells.{cellOf, cellNotes}
+use Rattle.notes_and_cells.specs.declared.cell.Cell.{Cell}
+use Rattle.notes_and_cells.specs.declared.cell.Cell.the-variants.{To, Stay, Impossible, Absent}
+use Rattle.table_6_3.specs.Table63.{table63, AR-ROW, DR-ROW, T1-ROW, T2-ROW, INFO-0-ROW, INFO-1-ROW, INFO-3-ROW}
 use Rattle.table_6_3.proofs.Laws.{notes-in-order, t2-quiet, info-1-quiet, no-event-quiet}
 use Rattle.timing.specs.Timers.{due}
-use Rattle.alignment.specs.Alignment.{gained, lost, followed}
-use Rattle.hearing.specs.Heard.{upwardEvent, lossUp}
+use Rattle.alignment.specs.Alignment.{framedToGain, unframedToLose, followed}
+use Rattle.heard_line.specs.Heard.{upwardEvent, lossUp}
 use Rattle.alignment.specs.declared.Alignment.{Alignment}
 use Rattle.alignment.specs.declared.Followed.{Followed}
-use Rattle.hearing.specs.declared.heard.Upward.{Upward}
+use Rattle.heard_line.specs.declared.heard.Upward.{Upward}
 use Rattle.alignment.proofs.Alignments.{framed-kept, pulseless-kept}
 use Rattle.network.specs.Network.{unchanged, isRequest, acts, happens, andThen, aligned, t1Due, t2Due, timers, heardAs, hears}
 use Rattle.network.specs.declared.Network.{Network}
@@ -63,41 +63,41 @@ unfolding andThen
 second-only s f q t = rw (q, t)
 
 -- A request, as the code asks for it.
-pub is-request : (e : ℕ) → isRequest e ≡ (eqb e AR || eqb e DR)
-is-request e = by-test (eqb e AR) (λ t. rw t) (λ t. rw t)
+pub is-request : (e : ℕ) → isRequest e ≡ (eqb e AR-ROW || eqb e DR-ROW)
+is-request e = by-test (eqb e AR-ROW) (λ t. rw t) (λ t. rw t)
 
 -- T1, then T2.
 pub t1-is : (now : ℕ) (n : Network) {b : Bool} {a : NetworkStep} → b ≡ due (n .t1) now →
-    a ≡ cond b (happens T1-DUE now (record { t1 = 0; t2 = n .t2; state = n .state; alignment = n .alignment })) (unchanged 0 n) → a ≡ t1Due now n
+    a ≡ cond b (happens T1-ROW now (record { t1 = 0; t2 = n .t2; state = n .state; alignment = n .alignment })) (unchanged 0 n) → a ≡ t1Due now n
 unfolding t1Due
 t1-is now n p q = rw (q, p)
 
 pub t2-is : (now : ℕ) (n : Network) {b : Bool} {a : NetworkStep} → b ≡ due (n .t2) now →
-    a ≡ cond b (happens T2-DUE now (record { t1 = n .t1; t2 = 0; state = n .state; alignment = n .alignment })) (unchanged 0 n) → a ≡ t2Due now n
+    a ≡ cond b (happens T2-ROW now (record { t1 = n .t1; t2 = 0; state = n .state; alignment = n .alignment })) (unchanged 0 n) → a ≡ t2Due now n
 unfolding t2Due
 t2-is now n p q = rw (q, p)
 
 t1-tidy : (now : ℕ) (n : Network) → packedNotes (noted (t1Due now n .notes)) ≡ t1Due now n .notes
 unfolding t1Due noted
-t1-tidy now n = by-test (due (n .t1) now) (λ t. rw t (happens-tidy T1-DUE now _)) (λ t. rw t)
+t1-tidy now n = by-test (due (n .t1) now) (λ t. rw t (happens-tidy T1-ROW now _)) (λ t. rw t)
 
 pub t2-without-notes : (now : ℕ) (n : Network) → noted (t2Due now n .notes) ≡ []
 unfolding t2Due noted
-t2-without-notes now n = by-test (due (n .t2) now) (λ t. rw t (happens-quiet T2-DUE now _ (t2-quiet (n .state)))) (λ t. rw t)
+t2-without-notes now n = by-test (due (n .t2) now) (λ t. rw t (happens-quiet T2-ROW now _ (t2-quiet (n .state)))) (λ t. rw t)
 
 pub timers-are : (now : ℕ) (n : Network) {a b : NetworkStep} → a ≡ t1Due now n → b ≡ t2Due now (a .network) → record { network = b .network; notes = a .notes; reply = 0 } ≡ timers now n
 unfolding timers
 timers-are now n p q = rw (q, p) (first-only (t1Due now n) (t2Due now) (t1-tidy now n) (t2-without-notes now (t1Due now n .network)))
 
 -- A line that loses alignment is INFO 1 or a signal.
-lost-lines : (p framed i : Bool) (f : Followed) (a : Alignment) (s : ℕ) → f ≡ followed gained lost p framed a → f .lost ≡ true →
-    noted (cellNotes (cellOf table63 (cond p (cond i INFO-1 (cond framed (cond (f .alignment .aligned) INFO-3 0) 0)) INFO-0) s)) ≡ []
-lost-lines false framed i f a s e l = clash (f .lost) l (ap (λ g. g .lost) e ∙ pulseless-kept gained lost framed a)
-lost-lines true true i f a s e l = clash (f .lost) l (ap (λ g. g .lost) e ∙ framed-kept gained lost a)
+lost-lines : (p framed i : Bool) (f : Followed) (a : Alignment) (s : ℕ) → f ≡ followed framedToGain unframedToLose p framed a → f .lost ≡ true →
+    noted (cellNotes (cellOf table63 (cond p (cond i INFO-1-ROW (cond framed (cond (f .alignment .aligned) INFO-3-ROW 0) 0)) INFO-0-ROW) s)) ≡ []
+lost-lines false framed i f a s e l = clash (f .lost) l (ap (λ g. g .lost) e ∙ pulseless-kept framedToGain unframedToLose framed a)
+lost-lines true true i f a s e l = clash (f .lost) l (ap (λ g. g .lost) e ∙ framed-kept framedToGain unframedToLose a)
 lost-lines true false true f a s e l = info-1-quiet s
 lost-lines true false false f a s e l = no-event-quiet s
 
-lost-quiet : (line : Upward) (f : Followed) (a : Alignment) (s : ℕ) → f ≡ followed gained lost (line .pulse) (line .framed) a → f .lost ≡ true →
+lost-quiet : (line : Upward) (f : Followed) (a : Alignment) (s : ℕ) → f ≡ followed framedToGain unframedToLose (line .pulse) (line .framed) a → f .lost ≡ true →
     noted (cellNotes (cellOf table63 (upwardEvent line f) s)) ≡ []
 unfolding upwardEvent
 lost-quiet line f a s e l = lost-lines (line .pulse) (line .framed) (line .info1) f a s e l
@@ -107,7 +107,7 @@ unfolding lossUp
 no-loss f l = rw l
 
 module _ (line : Upward) (now : ℕ) (n : Network) (f : Followed) (a b : NetworkStep) (m : a ≡ happens (lossUp f) now (aligned (f .alignment) n)) (h : b ≡ happens (upwardEvent line f) now (a .network)) where
-  heard-lost : f ≡ followed gained lost (line .pulse) (line .framed) (n .alignment) → f .lost ≡ true → record { network = b .network; notes = a .notes; reply = 0 } ≡ heardAs line f now n
+  heard-lost : f ≡ followed framedToGain unframedToLose (line .pulse) (line .framed) (n .alignment) → f .lost ≡ true → record { network = b .network; notes = a .notes; reply = 0 } ≡ heardAs line f now n
   unfolding heardAs
   heard-lost e l =
       rw (h, m)
@@ -127,7 +127,7 @@ module _ (line : Upward) (now : ℕ) (n : Network) (f : Followed) (a b : Network
 -- A heard line, over what the calls in between gave.
 module _
     (line : Upward) (now : ℕ) (n : Network)
-    {f : Followed} (ef : f ≡ followed gained lost (line .pulse) (line .framed) (n .alignment))
+    {f : Followed} (ef : f ≡ followed framedToGain unframedToLose (line .pulse) (line .framed) (n .alignment))
     {k : ℕ} (ek : k ≡ lossUp f)
     {e : ℕ} (ee : e ≡ upwardEvent line f)
     {a : NetworkStep} (ea : a ≡ happens k now (aligned (f .alignment) n))

@@ -8,7 +8,7 @@ use Rattle.timing.specs.Counts.{mostPeriods, periodsInRange}
 use Rattle.timing.specs.Timers.{T1, T2}
 use Rattle.timing.specs.declared.counts.Periods.{Periods}
 use Rattle.alignment.specs.Alignment.{alignmentInRange}
-use Rattle.hearing.specs.declared.heard.Upward.{Upward}
+use Rattle.heard_line.specs.declared.heard.Upward.{Upward}
 use Rattle.network.specs.Network.{unchanged, requests, timers, hears}
 use Rattle.network.specs.declared.Network.{Network}
 use Rattle.network.specs.declared.NetworkStep.{NetworkStep}
@@ -28,11 +28,11 @@ ready now n = cond (networkInRange n) (periodsInRange now) false
 unfoldable pub checked : (ℕ → Network → NetworkStep) → Periods → Network → NetworkStep
 checked step now n = cond (ready now n) (step (now .0) n) (unchanged 1 n)
 
-abbrev pub requested : ℕ → Periods → Network → NetworkStep
-requested event now n = checked (requests event) now n
+abbrev pub requestCall : ℕ → Periods → Network → NetworkStep
+requestCall event now n = checked (requests event) now n
 
-abbrev pub timerDue : Periods → Network → NetworkStep
-timerDue now n = checked timers now n
+abbrev pub timerCall : Periods → Network → NetworkStep
+timerCall now n = checked timers now n
 
-abbrev pub heard : Upward → Periods → Network → NetworkStep
-heard line now n = checked (hears line) now n
+abbrev pub hearCall : Upward → Periods → Network → NetworkStep
+hearCall line now n = checked (hears line) now n

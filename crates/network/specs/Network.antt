@@ -4,18 +4,18 @@ use mathlib.Core.Bool.{Bool, true, false, cond, _||_}
 use mathlib.Core.List.{[], _++_}
 use Prim.Native.Nat.{ℕ}
 use lib.Dec.{eqb}
-use Rattle.cells.specs.Notes.{packedNotes, noted}
-use Rattle.cells.specs.Cells.{START-T2, cellOf}
-use Rattle.cells.specs.declared.cell.Cell.{Cell}
-use Rattle.cells.specs.declared.cell.Cell.the-variants.{To, Stay, Impossible, Absent}
-use Rattle.table_6_3.specs.Table63.{table63, G1, G2, G3, G4, AR, DR, T1-DUE, T2-DUE}
+use Rattle.notes_and_cells.specs.Notes.{packedNotes, noted}
+use Rattle.notes_and_cells.specs.Cells.{START-T2, cellOf}
+use Rattle.notes_and_cells.specs.declared.cell.Cell.{Cell}
+use Rattle.notes_and_cells.specs.declared.cell.Cell.the-variants.{To, Stay, Impossible, Absent}
+use Rattle.table_6_3.specs.Table63.{table63, G1, G2, G3, G4, AR-ROW, DR-ROW, T1-ROW, T2-ROW}
 use Rattle.timing.specs.Timers.{T1, T2, due, startedBy, timerAfter}
-use Rattle.alignment.specs.Alignment.{gained, lost, followed}
+use Rattle.alignment.specs.Alignment.{framedToGain, unframedToLose, followed}
 use Rattle.alignment.specs.Alignment as alignment
-use Rattle.hearing.specs.Heard.{upwardEvent, lossUp}
+use Rattle.heard_line.specs.Heard.{upwardEvent, lossUp}
 use Rattle.alignment.specs.declared.Alignment.{Alignment}
 use Rattle.alignment.specs.declared.Followed.{Followed}
-use Rattle.hearing.specs.declared.heard.Upward.{Upward}
+use Rattle.heard_line.specs.declared.heard.Upward.{Upward}
 use Rattle.network.specs.declared.Network.{Network}
 use Rattle.network.specs.declared.NetworkStep.{NetworkStep}
 
@@ -66,12 +66,12 @@ aligned a n = record { t1 = n .t1; t2 = n .t2; state = n .state; alignment = a }
 -- `dr` in G1 or G4".
 unfoldable pub bars : ℕ → ℕ → Bool
 bars event state =
-    cond (eqb event AR) (eqb state G2 || eqb state G3)
-    (cond (eqb event DR) (eqb state G1 || eqb state G4) false)
+    cond (eqb event AR-ROW) (eqb state G2 || eqb state G3)
+    (cond (eqb event DR-ROW) (eqb state G1 || eqb state G4) false)
 
 -- `ar` and `dr`; refusal 4 for what is no request, 5 where the state bars it.
 abbrev pub isRequest : ℕ → Bool
-isRequest event = cond (eqb event AR) true (eqb event DR)
+isRequest event = cond (eqb event AR-ROW) true (eqb event DR-ROW)
 
 unfoldable pub requests : ℕ → ℕ → Network → NetworkStep
 requests event now n =
@@ -81,13 +81,13 @@ requests event now n =
 unfoldable pub t1Due : ℕ → Network → NetworkStep
 t1Due now n =
     cond (due (n .t1) now)
-    (happens T1-DUE now (record { t1 = 0; t2 = n .t2; state = n .state; alignment = n .alignment }))
+    (happens T1-ROW now (record { t1 = 0; t2 = n .t2; state = n .state; alignment = n .alignment }))
     (unchanged 0 n)
 
 unfoldable pub t2Due : ℕ → Network → NetworkStep
 t2Due now n =
     cond (due (n .t2) now)
-    (happens T2-DUE now (record { t1 = n .t1; t2 = 0; state = n .state; alignment = n .alignment }))
+    (happens T2-ROW now (record { t1 = n .t1; t2 = 0; state = n .state; alignment = n .alignment }))
     (unchanged 0 n)
 
 unfoldable pub timers : ℕ → Network → NetworkStep
@@ -98,4 +98,4 @@ unfoldable pub heardAs : Upward → Followed → ℕ → Network → NetworkStep
 heardAs line f now n = andThen (happens (lossUp f) now (aligned (f .alignment) n)) (happens (upwardEvent line f) now)
 
 unfoldable pub hears : Upward → ℕ → Network → NetworkStep
-hears line now n = heardAs line (followed gained lost (line .pulse) (line .framed) (n .alignment)) now n
+hears line now n = heardAs line (followed framedToGain unframedToLose (line .pulse) (line .framed) (n .alignment)) now n

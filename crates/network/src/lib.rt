@@ -1,23 +1,23 @@
 // The network end: states G1 to G4, alignment, T1 and T2.
 ghost use mathlib.Core.Bool.{cond};
 ghost use mathlib.Core.Path.{_≡_};
-ghost use Rattle.cells.specs.Cells.{cellOf, isVoid};
+ghost use Rattle.notes_and_cells.specs.Cells.{cellOf, isVoid};
 ghost use Rattle.network.specs.Calls as calls;
 ghost use Rattle.network.specs.Network as spec;
 ghost use Rattle.table_6_3.specs.Table63.{table63};
 use alignment::Alignment;
-use cells::cell::Cell;
-use cells::cell::NO_NOTES;
-use cells::cell::START_T2;
-use cells::notes::Notes;
-use hearing::heard::Upward;
-use hearing::heard::loss_up;
-use table_6_3::AR;
-use table_6_3::DR;
+use heard_line::heard::Upward;
+use heard_line::heard::loss_up;
+use notes_and_cells::cell::Cell;
+use notes_and_cells::cell::NO_NOTES;
+use notes_and_cells::cell::START_T2;
+use notes_and_cells::notes::Notes;
+use table_6_3::AR_ROW;
+use table_6_3::DR_ROW;
 use table_6_3::G1;
 use table_6_3::G4;
-use table_6_3::T1_DUE;
-use table_6_3::T2_DUE;
+use table_6_3::T1_ROW;
+use table_6_3::T2_ROW;
 use table_6_3::cell;
 use timing::counts::MOST_PERIODS;
 use timing::counts::Periods;
@@ -82,10 +82,10 @@ impl Network {
 
     // `ar` and `dr`, by their numbers in table 6-3.
     pub fn request(self, event: u8, now: Periods) -> NetworkStep
-        ensures { λ r. ⌜ r ≡ calls.requested event now self ⌝ }
+        ensures { λ r. ⌜ r ≡ calls.requestCall event now self ⌝ }
     {
         if self.ready(now) {
-            if (event == AR) | (event == DR) {
+            if (event == AR_ROW) | (event == DR_ROW) {
                 self.happens(5, event, now)
             } else {
                 self.unchanged(4)
@@ -97,14 +97,14 @@ impl Network {
 
     // The start of a period: T1, then T2, where they are due.
     pub fn timer_due(self, now: Periods) -> NetworkStep
-        ensures { λ r. ⌜ r ≡ calls.timerDue now self ⌝ }
+        ensures { λ r. ⌜ r ≡ calls.timerCall now self ⌝ }
     {
         if self.ready(now) {
-            let first = self.expires(due(self.t1, now), 0, self.t2, T1_DUE, now);
+            let first = self.expires(due(self.t1, now), 0, self.t2, T1_ROW, now);
             let t2_due = due(first.network.t2, now);
             let second = first
                 .network
-                .expires(t2_due, first.network.t1, 0, T2_DUE, now);
+                .expires(t2_due, first.network.t1, 0, T2_ROW, now);
             // The row of T2 has no notes.
             second.network.stays(first.notes, 0)
         } else {
@@ -112,9 +112,9 @@ impl Network {
         }
     }
 
-    // A period's upward line is heard: the event of loss, if any, and what the line is.
+    // A period's upward line is echo: the event of loss, if any, and what the line is.
     pub fn hear(self, line: Upward, now: Periods) -> NetworkStep
-        ensures { λ r. ⌜ r ≡ calls.heard line now self ⌝ }
+        ensures { λ r. ⌜ r ≡ calls.hearCall line now self ⌝ }
     {
         if self.ready(now) {
             let f = self.alignment.follow(line.pulse, line.framed);

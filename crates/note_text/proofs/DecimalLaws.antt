@@ -7,7 +7,7 @@ use borrow.Author.Tests.{lt-ltb, le-ltb, ltb-true, ltb-false}
 use lib.Dec.{ltb}
 use lib.ListN.{length, set, take, drop, replicate, length-append, length-set, length-drop}
 use lib.Seq.{drop-cons, drop-set-lt, getD-set-same, take-all}
-use Rattle.cases.proofs.ByCases.{by-test}
+use Rattle.test_lemmas.proofs.ByCases.{by-test}
 use Rattle.note_text.specs.NoteText.{digit, decimalIn, decimal}
 
 -- more digits than it has change nothing

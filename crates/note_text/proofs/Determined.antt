@@ -6,7 +6,7 @@ use native.Mathlib.Nat.{div-div-eq-div-mul}
 use native.Mathlib.Omega.{arith}
 use lib.ListN.{length}
 use lib.Seq.{take-append-seam, drop-append-seam}
-use Rattle.bus.specs.Bus.{Note}
+use Rattle.bus_rules.specs.Bus.{Note}
 use Rattle.note_text.specs.LowFirst.{half, word}
 use Rattle.note_text.specs.NoteOctets.{unitOctet, noteOctets}
 use Rattle.note_text.specs.NoteText.{note, notesIn}

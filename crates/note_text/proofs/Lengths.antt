@@ -7,10 +7,10 @@ use native.Mathlib.Omega.{arith}
 use borrow.Author.Tests.{ltb-true, ltb-false, leb-true}
 use lib.Dec.{ltb, leb}
 use lib.ListN.{length, length-append, List·getD-eq-default}
-use Rattle.cases.proofs.ByCases.{by-test, at-each-below}
-use Rattle.cells.specs.Names.{plain, printed, printedAs}
-use Rattle.cells.specs.Notes.{HEARD, REFUSED}
-use Rattle.bus.specs.Bus.{Note}
+use Rattle.test_lemmas.proofs.ByCases.{by-test, at-each-below}
+use Rattle.notes_and_cells.specs.Names.{plain, printed, printedAs}
+use Rattle.notes_and_cells.specs.Notes.{HEARD, REFUSED}
+use Rattle.bus_rules.specs.Bus.{Note}
 use Rattle.text.specs.Text.{LF}
 use Rattle.note_text.specs.NoteText.{decimalIn, decimal, hexOf, note, noteLine}
 use Rattle.note_text.specs.LineParts.{named, openValue}

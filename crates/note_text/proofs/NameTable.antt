@@ -7,11 +7,11 @@ use native.Mathlib.Omega.{arith}
 use borrow.Author.Tests.{leb-true}
 use lib.Dec.{leb, eqb}
 use lib.ListN.{length, getD, take, drop}
-use Rattle.cases.proofs.ByCases.{both, at-each-below}
-use Rattle.cells.specs.Names.{Value, printed, printedAs}
-use Rattle.cells.specs.Names.Value.{no-value, body, number, word}
-use Rattle.cells.specs.Notes.{HEARD, REFUSED}
-use Rattle.cells.proofs.Rows.{sameNumbers, same-numbers}
+use Rattle.test_lemmas.proofs.ByCases.{both, at-each-below}
+use Rattle.notes_and_cells.specs.Names.{Value, printed, printedAs}
+use Rattle.notes_and_cells.specs.Names.Value.{no-value, body, number, word}
+use Rattle.notes_and_cells.specs.Notes.{HEARD, REFUSED}
+use Rattle.notes_and_cells.proofs.Rows.{sameNumbers, same-numbers}
 use Rattle.note_text.specs.LineParts.{named, openValue}
 
 -- The texts of the codes from one on; how they lie one behind the other, and where each begins.

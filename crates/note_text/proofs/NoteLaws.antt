@@ -8,10 +8,10 @@ use borrow.Author.Tests.{leb-true, leb-false}
 use lib.Dec.{leb}
 use lib.ListN.{length, getD, take}
 use lib.Seq.{take-suc, take-all}
-use Rattle.cases.proofs.ByCases.{by-test}
-use Rattle.cells.specs.Names.{Value, printedAs}
-use Rattle.cells.specs.Names.Value.{no-value, body, number, word}
-use Rattle.bus.specs.Bus.{Note, notesOf}
+use Rattle.test_lemmas.proofs.ByCases.{by-test}
+use Rattle.notes_and_cells.specs.Names.{Value, printedAs}
+use Rattle.notes_and_cells.specs.Names.Value.{no-value, body, number, word}
+use Rattle.bus_rules.specs.Bus.{Note, notesOf}
 use Rattle.text.specs.Text.{LF, space}
 use Rattle.note_text.specs.NoteText.{decimal, valueText, note, noteLine, noteIn, notesIn}
 use Rattle.note_text.specs.LineParts.{fixedValue, named, openValue}

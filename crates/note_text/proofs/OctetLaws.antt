@@ -5,7 +5,7 @@ use Prim.Native.Nat.{ℕ, zero, _+_, _*_, _/_, _%_, _<_}
 use native.Mathlib.Nat.{mul-assoc, mod-add-div, add-mul-div-left, add-mul-mod-self-left}
 use native.Mathlib.Omega.{arith}
 use lib.ListN.{length}
-use Rattle.bus.specs.Bus.{Note}
+use Rattle.bus_rules.specs.Bus.{Note}
 use Rattle.note_text.specs.LowFirst.{half, word}
 use Rattle.note_text.specs.NoteOctets.{unitOctet, noteOctets}
 

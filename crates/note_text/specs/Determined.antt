@@ -4,7 +4,7 @@ use mathlib.Core.List.{List, [], _∷_, _++_}
 use mathlib.Core.Path.{_≡_}
 use Prim.Native.Nat.{ℕ, _^_, _≤_, _<_}
 use lib.ListN.{length}
-use Rattle.bus.specs.Bus.{Note}
+use Rattle.bus_rules.specs.Bus.{Note}
 use Rattle.note_text.specs.LowFirst.{half, word}
 use Rattle.note_text.specs.NoteOctets.{noteOctets}
 use Rattle.note_text.specs.NoteText.{notesIn}

@@ -3,9 +3,9 @@ use mathlib.Core.List.{List, [], _∷_}
 use mathlib.Core.Path.{_≡_}
 use Prim.Native.Nat.{ℕ, _+_, _*_, _^_, _≤_, _<_}
 use lib.ListN.{length}
-use Rattle.cells.specs.Notes.{HEARD, REFUSED}
+use Rattle.notes_and_cells.specs.Notes.{HEARD, REFUSED}
 use Rattle.hdlc.specs.Image.{longestBody}
-use Rattle.bus.specs.Bus.{Note}
+use Rattle.bus_rules.specs.Bus.{Note}
 use Rattle.note_text.specs.NoteOctets.{noteOctets}
 use Rattle.note_text.specs.NoteText.{decimal, note, noteLine}
 

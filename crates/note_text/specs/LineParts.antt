@@ -2,8 +2,8 @@
 use mathlib.Core.List.{List, [], _∷_, _++_}
 use Prim.Native.Nat.{ℕ}
 use lib.ListN.{getD}
-use Rattle.cells.specs.Names.{Value, ascii, printedAs}
-use Rattle.cells.specs.Names.Value.{no-value, body, number, word}
+use Rattle.notes_and_cells.specs.Names.{Value, ascii, printedAs}
+use Rattle.notes_and_cells.specs.Names.Value.{no-value, body, number, word}
 use Rattle.text.specs.Text.{space}
 use Rattle.note_text.specs.NoteText.{decimal, hexOf}
 

@@ -3,8 +3,8 @@ use mathlib.Core.List.{List, [], _∷_, _++_}
 use mathlib.Core.Path.{_≡_, refl}
 use Prim.Native.Nat.{ℕ, _%_}
 use lib.ListN.{length}
-use Rattle.cells.specs.Notes.{HEARD}
-use Rattle.bus.specs.Bus.{Note}
+use Rattle.notes_and_cells.specs.Notes.{HEARD}
+use Rattle.bus_rules.specs.Bus.{Note}
 use Rattle.note_text.specs.LowFirst.{half, word}
 
 -- A unit takes an octet.

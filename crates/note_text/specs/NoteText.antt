@@ -5,11 +5,11 @@ use mathlib.Core.Path.{_≡_, refl}
 use Prim.Native.Nat.{ℕ, zero, suc, _+_, _/_, _%_}
 use lib.Dec.{ltb}
 use lib.ListN.{getD}
-use Rattle.cells.specs.Names.{Value, ascii, printed, printedAs}
-use Rattle.cells.specs.Names.Value.{no-value, body, number, word}
-use Rattle.cells.specs.Notes.{PH-ACT, MPH-ACT, MPH-EI2, MPH-II-CONNECTED, HEARD, DONE1, REFUSED}
+use Rattle.notes_and_cells.specs.Names.{Value, ascii, printed, printedAs}
+use Rattle.notes_and_cells.specs.Names.Value.{no-value, body, number, word}
+use Rattle.notes_and_cells.specs.Notes.{PH-ACT, MPH-ACT, MPH-EI2, MPH-II-CONNECTED, HEARD, DONE1, REFUSED}
 use Rattle.text.specs.Text.{LF, space}
-use Rattle.bus.specs.Bus.{Note}
+use Rattle.bus_rules.specs.Bus.{Note}
 use Rattle.note_text.specs.NoteOctets.{noteOctets}
 use Rattle.note_text.specs.declared.form.Form.{Form}
 use Rattle.note_text.specs.declared.form.Form.the-variants.{Line, Octets}

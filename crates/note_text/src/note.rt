@@ -1,10 +1,10 @@
 // Notes as lines of the report ("The fields are the period, the unit, the note and its value."), or as octets for a host.
 ghost use mathlib.Core.Path.{_≡_};
-ghost use Rattle.bus.specs.Bus.{notesOf};
+ghost use Rattle.bus_rules.specs.Bus.{notesOf};
 ghost use lib.ListN.{getD};
 ghost use mathlib.Core.List.{[]};
-ghost use Rattle.cells.specs.Names.{printedAs};
-ghost use Rattle.cells.specs.Notes.{noted};
+ghost use Rattle.notes_and_cells.specs.Names.{printedAs};
+ghost use Rattle.notes_and_cells.specs.Notes.{noted};
 ghost use Rattle.note_text.specs.Room.{Put};
 ghost use Rattle.note_text.specs.NoteOctets.{noteOctets};
 ghost use Rattle.note_text.specs.NoteText.{note, noteLine, noteIn, notesIn, heading, stoppedLine};
@@ -15,9 +15,9 @@ use super::low::put_half;
 use super::low::put_word;
 use super::number::put_decimal;
 use super::room::put;
-use cells::notes::HEARD;
-use cells::notes::Notes;
-use cells::notes::REFUSED;
+use notes_and_cells::notes::HEARD;
+use notes_and_cells::notes::Notes;
+use notes_and_cells::notes::REFUSED;
 use text::length::least;
 
 // One more than the last code: where numbers that are no code stand in the table.

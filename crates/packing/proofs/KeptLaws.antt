@@ -9,7 +9,7 @@ use lib.Dec.{ltb, leb, eqb}
 use lib.ListN.{length, take, drop, getD, set, replicate, length-append, length-drop}
 use lib.Seq.{drop-drop, drop-cons, drop-append-le, take-append-le, take-all, getD-set-same, getD-set-other}
 use borrow.Author.Tests.{lt-ltb, ltb-true, ltb-false, leb-true, leb-false, eqb-true, eq-eqb}
-use Rattle.cases.proofs.ByCases.{by-test, both}
+use Rattle.test_lemmas.proofs.ByCases.{by-test, both}
 use Rattle.hdlc.specs.Bits.{numberLowFirst}
 use Rattle.hdlc.proofs.OctetLaws.{number-snoc}
 use Rattle.packing.specs.Octets.{shifted, lastEight, WholeOctets, BitsKept}

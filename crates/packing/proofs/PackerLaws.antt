@@ -9,7 +9,7 @@ use lib.Dec.{ltb, eqb}
 use lib.ListN.{length, take, drop, getD, replicate, length-append, length-drop, length-set, length-replicate, List·getD-append}
 use lib.Seq.{append-snoc, getD-append-add, getD-drop, getD-take, getD-set-other, ext-getD, take-suc, length-take-le}
 use borrow.Author.Tests.{lt-ltb, le-ltb, ltb-true, ltb-false, eqb-true}
-use Rattle.cases.proofs.ByCases.{by-test}
+use Rattle.test_lemmas.proofs.ByCases.{by-test}
 use Rattle.hdlc.specs.Bits.{lowBits, bodyBits, numberLowFirst, octets, bitOf}
 use Rattle.hdlc.specs.Ones.{onesAfter}
 use Rattle.hdlc.specs.Image.{stuff, image}

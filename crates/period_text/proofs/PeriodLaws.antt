@@ -10,12 +10,12 @@ use lib.Dec.{eqb}
 use lib.ListN.{length, getD, take}
 use lib.Seq.{take-suc, take-all, length-take-le}
 use Rattle.hdlc.specs.Bits.{bitOf}
-use Rattle.cells.specs.Notes.{noted}
-use Rattle.bus.specs.Bus.{Note, terminals, notesOf}
-use Rattle.bus.specs.Order.{unitByUnit}
-use Rattle.listening.specs.declared.hears.UnitNotes.{UnitNotes}
-use Rattle.bus_record.specs.declared.side.Ran.{Ran}
-use Rattle.call_rules.specs.Lists.{readerTold, doneNotes, terminalsHeard, terminalsTold, timersTold, periodTold}
+use Rattle.notes_and_cells.specs.Notes.{noted}
+use Rattle.bus_rules.specs.Bus.{Note, terminals, notesOf}
+use Rattle.bus_rules.specs.Order.{unitByUnit}
+use Rattle.period_hearing.specs.declared.hears.UnitNotes.{UnitNotes}
+use Rattle.bus_record.specs.declared.side.RunAnswer.{RunAnswer}
+use Rattle.bus_call_specs.specs.Lists.{readerTold, doneNotes, terminalsHeard, terminalsTold, timersTold, periodTold}
 use Rattle.note_text.specs.Room.{Put}
 use Rattle.note_text.specs.NoteText.{notesIn}
 use Rattle.note_text.specs.declared.form.Form.{Form}
@@ -23,15 +23,15 @@ use Rattle.note_text.proofs.RoomLaws.{put-put, put-start, put-length}
 use Rattle.note_text.proofs.NoteLaws.{form-append, codes-append}
 
 -- The notes of one terminal's hearing.
-abbrev pub heardOf : ℕ → Ran → ℕ → UnitNotes → List Note
-heardOf now r i n = notesOf now (suc i) (doneNotes (bitOf (r .done1) i) (bitOf (r .done2) i) ++ noted (n .heard))
+abbrev pub heardOf : ℕ → RunAnswer → ℕ → UnitNotes → List Note
+heardOf now r i n = notesOf now (suc i) (doneNotes (bitOf (r .done1) i) (bitOf (r .done2) i) ++ noted (n .hearing))
 
 -- And of its timer.
 abbrev pub timedOf : ℕ → ℕ → UnitNotes → List Note
-timedOf now i n = notesOf now (suc i) (noted (n .timed))
+timedOf now i n = notesOf now (suc i) (noted (n .timers))
 
 -- a terminal more
-terminals-more : (now : ℕ) (r : Ran) (i : ℕ) (ns : List UnitNotes) (n : UnitNotes)
+terminals-more : (now : ℕ) (r : RunAnswer) (i : ℕ) (ns : List UnitNotes) (n : UnitNotes)
     → terminalsTold now r i (ns ++ (n ∷ [])) ≡ terminalsTold now r i ns ++ heardOf now r (i + length ns) n
 unfolding unitByUnit terminalsHeard
 terminals-more now r i [] n = let e : i + zero ≡ i = omega arith in rw (e, append-nil)
@@ -53,7 +53,7 @@ timers-more now i (m ∷ ns) n =
 place-is : (ns : List UnitNotes) (i : ℕ) → i < length ns → 0 + length (take i ns) ≡ i
 place-is ns i h = rw (length-take-le i ns (omega arith)) (omega arith)
 
-terminals-next : (form : Form) (now : ℕ) (r : Ran) (ns : List UnitNotes) (i : ℕ) (d : UnitNotes) → i < length ns
+terminals-next : (form : Form) (now : ℕ) (r : RunAnswer) (ns : List UnitNotes) (i : ℕ) (d : UnitNotes) → i < length ns
     → notesIn form (terminalsTold now r 0 (take (i + 1) ns)) ≡ notesIn form (terminalsTold now r 0 (take i ns)) ++ notesIn form (heardOf now r i (getD ns i d))
 terminals-next form now r ns i d h =
     rw (add-one i, take-suc ns i d h, terminals-more now r 0 (take i ns) (getD ns i d), place-is ns i h)
@@ -61,10 +61,10 @@ terminals-next form now r ns i d h =
 
 timers-next : (form : Form) (now : ℕ) (ns : List UnitNotes) (i : ℕ) (d : UnitNotes) → i < length ns
     → notesIn form (timersTold now 0 (take (i + 1) ns))
-    ≡ notesIn form (timersTold now 0 (take i ns)) ++ notesIn form (notesOf now (i + 1) (noted (getD ns i d .timed)))
+    ≡ notesIn form (timersTold now 0 (take i ns)) ++ notesIn form (notesOf now (i + 1) (noted (getD ns i d .timers)))
 timers-next form now ns i d h =
     rw (add-one i, take-suc ns i d h, timers-more now 0 (take i ns) (getD ns i d), place-is ns i h)
-    (form-append form (timersTold now 0 (take i ns)) (notesOf now (suc i) (noted (getD ns i d .timed))))
+    (form-append form (timersTold now 0 (take i ns)) (notesOf now (suc i) (noted (getD ns i d .timers))))
 
 -- ---- One terminal's hearing: the notes of completed frames, then the others.
 pub done-first : {room : List ℕ} {wrote r₁ : ℕ} {room₁ : List ℕ} {r₂ : ℕ} {room₂ : List ℕ} (form : Form) (now unit : ℕ) (one two : Bool) (done others : List ℕ)
@@ -79,7 +79,7 @@ pub record Hearing (form : Form) (room₀ : List ℕ) (wrote now : ℕ) (ns : Li
   pub first-is : first ≡ done1 / (2 ^ i)
   pub second-is : second ≡ done2 / (2 ^ i)
   pub kept : length room ≡ length room₀
-  pub put-are : (r : Ran) → r .done1 ≡ done1 → r .done2 ≡ done2 → Put room₀ wrote (notesIn form (terminalsTold now r 0 (take i ns))) at room
+  pub put-are : (r : RunAnswer) → r .done1 ≡ done1 → r .done2 ≡ done2 → Put room₀ wrote (notesIn form (terminalsTold now r 0 (take i ns))) at room
 
 pub hearing-starts : (form : Form) (room : List ℕ) (wrote now : ℕ) (ns : List UnitNotes) (done1 done2 at : ℕ) → length ns ≡ terminals → at ≡ min wrote (length room)
     → Hearing form room wrote now ns done1 done2 room done1 done2 at 0
@@ -117,7 +117,7 @@ module _ {form : Form} {room₀ : List ℕ} {wrote now : ℕ} {ns : List UnitNot
             rw (terminals-next form now r ns i d (omega arith)) (put-put (l .put-are r e f) q′);
       }
 
-  pub hearing-ends : (r : Ran) → r .done1 ≡ done1 → r .done2 ≡ done2 → terminals ≤ i
+  pub hearing-ends : (r : RunAnswer) → r .done1 ≡ done1 → r .done2 ≡ done2 → terminals ≤ i
       → Put room₀ wrote (notesIn form (terminalsTold now r 0 ns)) at room
   hearing-ends r e f h = let long = l .long in rw (take-all i ns (omega arith)) at (l .put-are r e f)
 
@@ -134,7 +134,7 @@ timing-starts form room wrote now ns at long h = record { long = long; within = 
 
 module _ {form : Form} {room₀ : List ℕ} {wrote now : ℕ} {ns : List UnitNotes} {room : List ℕ} {at i : ℕ} (l : Timing form room₀ wrote now ns room at i) where
   pub timing-next : (d : UnitNotes) {room′ : List ℕ} {at′ : ℕ} → i < terminals
-      → Put room at (notesIn form (notesOf now (i + 1) (noted (getD ns i d .timed)))) at′ room′ → Timing form room₀ wrote now ns room′ at′ (i + 1)
+      → Put room at (notesIn form (notesOf now (i + 1) (noted (getD ns i d .timers)))) at′ room′ → Timing form room₀ wrote now ns room′ at′ (i + 1)
   timing-next d h q =
       let long = l .long in
       record { long = long; within = omega arith; put-are = rw (timers-next form now ns i d (omega arith)) (put-put (l .put-are) q) }
@@ -147,13 +147,13 @@ five-parts : (form : Form) (a b c d e : List Note)
     → notesIn form a ++ (notesIn form b ++ (notesIn form c ++ (notesIn form d ++ notesIn form e))) ≡ notesIn form ((a ++ (b ++ c)) ++ (d ++ e))
 five-parts form a b c d e = simp (← form-append, ← append-assoc)
 
-pub period-parts : (form : Form) (now : ℕ) (r : Ran) (ns : List UnitNotes) (octets : List ℕ)
+pub period-parts : (form : Form) (now : ℕ) (r : RunAnswer) (ns : List UnitNotes) (octets : List ℕ)
     → notesIn form (readerTold now r octets)
-    ++ (notesIn form (notesOf now 0 (noted (r .network .heard)))
+    ++ (notesIn form (notesOf now 0 (noted (r .network .hearing)))
     ++ (notesIn form (terminalsTold now r 0 ns)
-    ++ (notesIn form (notesOf (now + 1) 0 (noted (r .network .timed))) ++ notesIn form (timersTold (now + 1) 0 ns))))
+    ++ (notesIn form (notesOf (now + 1) 0 (noted (r .network .timers))) ++ notesIn form (timersTold (now + 1) 0 ns))))
     ≡ notesIn form (periodTold now r ns octets)
 unfolding periodTold
 period-parts form now r ns octets =
-    five-parts form (readerTold now r octets) (notesOf now 0 (noted (r .network .heard))) (terminalsTold now r 0 ns)
-    (notesOf (now + 1) 0 (noted (r .network .timed))) (timersTold (now + 1) 0 ns)
+    five-parts form (readerTold now r octets) (notesOf now 0 (noted (r .network .hearing))) (terminalsTold now r 0 ns)
+    (notesOf (now + 1) 0 (noted (r .network .timers))) (timersTold (now + 1) 0 ns)

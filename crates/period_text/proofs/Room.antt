@@ -8,16 +8,16 @@ use native.Mathlib.Nat.{mul-le-mul-right, le-trans}
 use borrow.Author.Tests.{eqb-true}
 use lib.Dec.{eqb}
 use lib.ListN.{length, take, length-append, length-take}
-use Rattle.cases.proofs.ByCases.{by-test}
-use Rattle.cells.specs.Notes.{HEARD, noted}
-use Rattle.cells.specs.declared.notes.Notes.{Notes}
+use Rattle.test_lemmas.proofs.ByCases.{by-test}
+use Rattle.notes_and_cells.specs.Notes.{HEARD, noted}
+use Rattle.notes_and_cells.specs.declared.notes.Notes.{Notes}
 use Rattle.hdlc.specs.Bits.{bitOf}
 use Rattle.hdlc.specs.Image.{longestBody}
-use Rattle.bus.specs.Bus.{terminals, notesOf}
-use Rattle.bus.specs.Order.{unitByUnit}
-use Rattle.listening.specs.declared.hears.UnitNotes.{UnitNotes}
-use Rattle.bus_record.specs.declared.side.Ran.{Ran}
-use Rattle.call_rules.specs.Lists.{readerTold, doneNotes, terminalsHeard, terminalsTold, timersTold, periodTold}
+use Rattle.bus_rules.specs.Bus.{terminals, notesOf}
+use Rattle.bus_rules.specs.Order.{unitByUnit}
+use Rattle.period_hearing.specs.declared.hears.UnitNotes.{UnitNotes}
+use Rattle.bus_record.specs.declared.side.RunAnswer.{RunAnswer}
+use Rattle.bus_call_specs.specs.Lists.{readerTold, doneNotes, terminalsHeard, terminalsTold, timersTold, periodTold}
 use Rattle.note_text.specs.NoteText.{note, noteIn, notesIn}
 use Rattle.note_text.specs.Lengths.{numbers, lineRoom, heardRoom, octetsRoom}
 use Rattle.note_text.specs.declared.form.Form.{Form}
@@ -56,16 +56,16 @@ module _ (form : Form) (most : ℕ) where
   notes-fit : (now unit : ℕ) (n : Notes) → PlainFits form most now unit → length (notesIn form (notesOf now unit (noted n))) ≤ 4 * most
   notes-fit now unit n h = le-trans (codes-fit now unit (noted n) h) (mul-le-mul-right most (at-most-four n))
 
-  heard-of-fits : (now : ℕ) (r : Ran) (i : ℕ) (n : UnitNotes) → PlainFits form most now (suc i) → length (notesIn form (heardOf now r i n)) ≤ 6 * most
+  heard-of-fits : (now : ℕ) (r : RunAnswer) (i : ℕ) (n : UnitNotes) → PlainFits form most now (suc i) → length (notesIn form (heardOf now r i n)) ≤ 6 * most
   heard-of-fits now r i n h =
       let done = doneNotes (bitOf (r .done1) i) (bitOf (r .done2) i) in
-      let count : length (done ++ noted (n .heard)) ≤ 6 =
-      rw (length-append done (noted (n .heard)))
-      (omega (arith, at-most-two (bitOf (r .done1) i) (bitOf (r .done2) i), at-most-four (n .heard)))
+      let count : length (done ++ noted (n .hearing)) ≤ 6 =
+      rw (length-append done (noted (n .hearing)))
+      (omega (arith, at-most-two (bitOf (r .done1) i) (bitOf (r .done2) i), at-most-four (n .hearing)))
       in
-      le-trans (codes-fit now (suc i) (done ++ noted (n .heard)) h) (mul-le-mul-right most count)
+      le-trans (codes-fit now (suc i) (done ++ noted (n .hearing)) h) (mul-le-mul-right most count)
 
-  terminals-fit : (now : ℕ) (r : Ran) (i : ℕ) (ns : List UnitNotes) → UnitsFit form most now → i + length ns ≤ terminals
+  terminals-fit : (now : ℕ) (r : RunAnswer) (i : ℕ) (ns : List UnitNotes) → UnitsFit form most now → i + length ns ≤ terminals
       → length (notesIn form (terminalsTold now r i ns)) ≤ length ns * (6 * most)
   unfolding unitByUnit terminalsHeard notesIn
   terminals-fit now r i [] h k = omega arith
@@ -85,10 +85,10 @@ module _ (form : Form) (most : ℕ) where
         form-append form (timedOf now i n) (timersTold now (suc i) ns),
         length-append (notesIn form (timedOf now i n)) (notesIn form (timersTold now (suc i) ns)),
       )
-      (omega (arith, notes-fit now (suc i) (n .timed) (h (suc i) (omega arith)), timers-fit now (suc i) ns h (omega arith)))
+      (omega (arith, notes-fit now (suc i) (n .timers) (h (suc i) (omega arith)), timers-fit now (suc i) ns h (omega arith)))
 
 -- ---- A period, where the reader's note takes at most so many, and one without a value no more.
-module _ (form : Form) (most heard now : ℕ) (r : Ran) (ns : List UnitNotes) (octets : List ℕ) where
+module _ (form : Form) (most heard now : ℕ) (r : RunAnswer) (ns : List UnitNotes) (octets : List ℕ) where
   no-notes : length (notesIn form []) ≤ heard
   unfolding notesIn
   no-notes = omega arith
@@ -110,9 +110,9 @@ module _ (form : Form) (most heard now : ℕ) (r : Ran) (ns : List UnitNotes) (o
       (omega (
         arith,
         reader-fits (p 0 (omega arith)) h k,
-        notes-fit form most now 0 (r .network .heard) (p 0 (omega arith)),
+        notes-fit form most now 0 (r .network .hearing) (p 0 (omega arith)),
         rw long at (terminals-fit form most now r 0 ns p (omega arith)),
-        notes-fit form most (now + 1) 0 (r .network .timed) (q 0 (omega arith)),
+        notes-fit form most (now + 1) 0 (r .network .timers) (q 0 (omega arith)),
         rw long at (timers-fit form most (now + 1) 0 ns q (omega arith)),
       )))
 

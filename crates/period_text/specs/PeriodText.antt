@@ -5,13 +5,13 @@ use mathlib.Core.Path.{_≡_}
 use Prim.Native.Nat.{ℕ, _+_, _*_, _≤_, _<_}
 use lib.Dec.{eqb}
 use lib.ListN.{length}
-use Rattle.cells.specs.Notes.{REFUSED, noted}
-use Rattle.cells.specs.declared.notes.Notes.{Notes}
+use Rattle.notes_and_cells.specs.Notes.{REFUSED, noted}
+use Rattle.notes_and_cells.specs.declared.notes.Notes.{Notes}
 use Rattle.hdlc.specs.Image.{longestBody}
-use Rattle.bus.specs.Bus.{Note, terminals, notesOf}
-use Rattle.listening.specs.declared.hears.UnitNotes.{UnitNotes}
-use Rattle.bus_record.specs.declared.side.Ran.{Ran}
-use Rattle.call_rules.specs.Lists.{periodTold}
+use Rattle.bus_rules.specs.Bus.{Note, terminals, notesOf}
+use Rattle.period_hearing.specs.declared.hears.UnitNotes.{UnitNotes}
+use Rattle.bus_record.specs.declared.side.RunAnswer.{RunAnswer}
+use Rattle.bus_call_specs.specs.Lists.{periodTold}
 use Rattle.note_text.specs.NoteText.{note, notesIn, notesText}
 use Rattle.note_text.specs.Lengths.{numbers, lineRoom, heardRoom, octetsRoom}
 use Rattle.note_text.specs.declared.form.Form.the-variants.{Octets}
@@ -30,7 +30,7 @@ periodRoom = heardRoom + (8 + terminals * 10) * lineRoom
 -- The text of a period's notes fits, whatever they are.
 abbrev pub PeriodFits : Type 0
 PeriodFits =
-    (now : ℕ) (r : Ran) (ns : List UnitNotes) (octets : List ℕ)
+    (now : ℕ) (r : RunAnswer) (ns : List UnitNotes) (octets : List ℕ)
     → now + 1 < numbers → length ns ≡ terminals → length octets ≤ longestBody → length (notesText (periodTold now r ns octets)) ≤ periodRoom
 
 -- And that of an event's.
@@ -45,7 +45,7 @@ periodOctetsRoom = (octetsRoom + longestBody) + (8 + terminals * 10) * octetsRoo
 
 abbrev pub PeriodOctetsFit : Type 0
 PeriodOctetsFit =
-    (now : ℕ) (r : Ran) (ns : List UnitNotes) (octets : List ℕ)
+    (now : ℕ) (r : RunAnswer) (ns : List UnitNotes) (octets : List ℕ)
     → length ns ≡ terminals → length octets ≤ longestBody → length (notesIn Octets (periodTold now r ns octets)) ≤ periodOctetsRoom
 
 abbrev pub EventOctetsFit : Type 0

@@ -2,11 +2,11 @@
 ghost use Rattle.note_text.specs.Room.{Put};
 ghost use Rattle.note_text.specs.NoteText.{notesText};
 ghost use Rattle.period_text.specs.PeriodText.{eventNoted};
-use cells::notes::Notes;
-use cells::notes::REFUSED;
 use note_text::form::Form;
 use note_text::note::put_note;
 use note_text::note::put_notes;
+use notes_and_cells::notes::Notes;
+use notes_and_cells::notes::REFUSED;
 
 // The notes that an event's call hands back or, where the reply is the number of a refusal, `refused` with that number.
 pub fn put_event(

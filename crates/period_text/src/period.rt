@@ -1,24 +1,24 @@
 // The notes of a period, in the report's order.
 ghost use mathlib.Core.Path.{_≡_};
 ghost use mathlib.Core.List.{_++_};
-ghost use Rattle.bus.specs.Bus.{notesOf};
-ghost use Rattle.call_rules.specs.Lists.{readerTold, doneNotes, terminalsTold, timersTold, periodTold};
-ghost use Rattle.bus_record.specs.declared.side.Ran.{Ran};
-ghost use Rattle.cells.specs.Notes.{noted};
+ghost use Rattle.bus_rules.specs.Bus.{notesOf};
+ghost use Rattle.bus_call_specs.specs.Lists.{readerTold, doneNotes, terminalsTold, timersTold, periodTold};
+ghost use Rattle.bus_record.specs.declared.side.RunAnswer.{RunAnswer};
+ghost use Rattle.notes_and_cells.specs.Notes.{noted};
 ghost use Rattle.note_text.specs.Room.{Put};
 ghost use Rattle.note_text.specs.NoteText.{notesIn};
-use bus_record::side::Ran;
-use cells::cell::NO_NOTES;
-use cells::notes::DONE1;
-use cells::notes::DONE2;
-use cells::notes::HEARD;
-use cells::notes::Notes;
-use listening::hears::UnitNotes;
+use bus_record::side::RunAnswer;
 use note_text::form::Form;
 use note_text::note::put_note;
 use note_text::note::put_notes;
 use note_text::note::put_plain;
 use note_text::room::put;
+use notes_and_cells::cell::NO_NOTES;
+use notes_and_cells::notes::DONE1;
+use notes_and_cells::notes::DONE2;
+use notes_and_cells::notes::HEARD;
+use notes_and_cells::notes::Notes;
+use period_hearing::hears::UnitNotes;
 use text::length::least;
 
 // The reader's note: `heard` with the octets of the body, or `torn`.
@@ -31,8 +31,8 @@ fn put_reader(
     body: u16,
     octets: &[u8],
 ) -> usize
-    ensures { λ r. ⌜ ((ran : Ran) → ran .said ≡ said → ran .body ≡ body
-        → Put (now (room .entry)) wrote (notesIn form (readerTold period ran (now (octets .entry)))) r (now (room .exit))) ⌝ }
+    ensures { λ r. ⌜ ((answer : RunAnswer) → answer .said ≡ said → answer .body ≡ body
+        → Put (now (room .entry)) wrote (notesIn form (readerTold period answer (now (octets .entry)))) r (now (room .exit))) ⌝ }
 {
     if said == 0 {
         return put(room, wrote, b"");
@@ -89,8 +89,8 @@ fn put_hearing(
     done2: u8,
     notes: [UnitNotes; 8],
 ) -> usize
-    ensures { λ r. ⌜ ((ran : Ran) → ran .done1 ≡ done1 → ran .done2 ≡ done2
-        → Put (now (room .entry)) wrote (notesIn form (terminalsTold period ran 0 notes)) r (now (room .exit))) ⌝ }
+    ensures { λ r. ⌜ ((answer : RunAnswer) → answer .done1 ≡ done1 → answer .done2 ≡ done2
+        → Put (now (room .entry)) wrote (notesIn form (terminalsTold period answer 0 notes)) r (now (room .exit))) ⌝ }
 {
     let mut first = done1;
     let mut second = done2;
@@ -106,7 +106,7 @@ fn put_hearing(
             i as u32 + 1,
             first % 2 == 1,
             second % 2 == 1,
-            n.heard,
+            n.hearing,
         );
         first = first / 2;
         second = second / 2;
@@ -129,7 +129,7 @@ fn put_timers(
     let mut i: usize = 0;
     while i < 8 {
         let n = notes[i];
-        at = put_notes(form, room, at, period, i as u32 + 1, n.timed);
+        at = put_notes(form, room, at, period, i as u32 + 1, n.timers);
         i += 1;
     }
     at
@@ -141,19 +141,19 @@ pub fn put_period(
     room: &mut [u8],
     wrote: usize,
     period: u32,
-    ran: Ran,
+    answer: RunAnswer,
     notes: [UnitNotes; 8],
     octets: &[u8],
 ) -> usize
-    ensures { λ r. ⌜ Put (now (room .entry)) wrote (notesIn form (periodTold period ran notes (now (octets .entry)))) r
+    ensures { λ r. ⌜ Put (now (room .entry)) wrote (notesIn form (periodTold period answer notes (now (octets .entry)))) r
         (now (room .exit)) ⌝ }
 {
     let this = period as u64;
     let next = this + 1;
-    let network = ran.network;
-    let a = put_reader(form, room, wrote, this, ran.said, ran.body, octets);
-    let b = put_notes(form, room, a, this, 0, network.heard);
-    let c = put_hearing(form, room, b, this, ran.done1, ran.done2, notes);
-    let d = put_notes(form, room, c, next, 0, network.timed);
+    let network = answer.network;
+    let a = put_reader(form, room, wrote, this, answer.said, answer.body, octets);
+    let b = put_notes(form, room, a, this, 0, network.hearing);
+    let c = put_hearing(form, room, b, this, answer.done1, answer.done2, notes);
+    let d = put_notes(form, room, c, next, 0, network.timers);
     put_timers(form, room, d, next, notes)
 }

@@ -7,7 +7,7 @@ use Prim.Native.Nat.{ℕ, _+_, _-_, _≤_}
 use native.Mathlib.Omega.{arith}
 use lib.Dec.{eqb}
 use lib.ListN.{replicate, replicate-append-replicate}
-use Rattle.cases.proofs.ByCases.{by-test}
+use Rattle.test_lemmas.proofs.ByCases.{by-test}
 use Rattle.timing.specs.declared.counts.Periods.{Periods}
 use Rattle.book_line.specs.Line.{isEnd}
 use Rattle.book_line.specs.Value.{valueOctets}
@@ -15,23 +15,23 @@ use Rattle.book_reader.specs.Step.{AT-LINES, AFTER-END}
 use Rattle.book_reader.specs.Book.{Answer}
 use Rattle.book_reader.specs.Book.Answer.{entry, fault}
 use Rattle.book_reader.specs.Parts.{Place, past, toCome}
-use Rattle.cells.specs.Events.{HIT}
-use Rattle.bus.specs.Calls.{Call}
-use Rattle.bus.specs.Calls.Call.{event, period}
+use Rattle.notes_and_cells.specs.Events.{HIT}
+use Rattle.bus_rules.specs.Calls.{Call}
+use Rattle.bus_rules.specs.Calls.Call.{event, period}
 use Rattle.bus_event.specs.Event as parts
-use Rattle.call_rules.specs.Kept.{Kept, settled}
-use Rattle.call_rules.specs.Event.{reason, eventTold}
-use Rattle.call_rules.specs.Lists as lists
-use Rattle.call_rules.specs.Lists.{called}
+use Rattle.bus_call_specs.specs.Kept.{Kept, settled}
+use Rattle.bus_call_specs.specs.Event.{reason, eventTold}
+use Rattle.bus_call_specs.specs.Lists as lists
+use Rattle.bus_call_specs.specs.Lists.{called}
 use Rattle.note_text.specs.NoteText.{heading, notesIn, notesText, stoppedLine}
 use Rattle.note_text.specs.declared.form.Form.the-variants.{Line}
 use Rattle.note_text.proofs.NoteLaws.{form-append}
-use Rattle.report.specs.Report.{callAt, callsOf, stopOf}
+use Rattle.report.specs.Report.{callAt, callsOfAnswers, stopOf}
 use Rattle.report.specs.Told.{done, doneAll, bookTold, allBookTold}
-use Rattle.report.specs.Ahead.{Stand, answersAhead, callsAhead, textAhead}
+use Rattle.report.specs.Ahead.{BookState, answersAhead, callsAhead, textAhead}
 
 -- ---- From a stand to another: the calls made between, and the text that they and the lines between put into the report.
-pub record Moves (s : Stand) (left : List ℕ) (made : List Call) (new : List ℕ) (s′ : Stand) (left′ : List ℕ) : Type 0 where
+pub record Moves (s : BookState) (left : List ℕ) (made : List Call) (new : List ℕ) (s′ : BookState) (left′ : List ℕ) : Type 0 where
   pub kept-is : s′ .kept ≡ doneAll (s .kept) made
   pub calls-are : callsAhead s left ≡ made ++ callsAhead s′ left′
   pub text-is : textAhead s left ≡ new ++ textAhead s′ left′
@@ -48,11 +48,11 @@ told-append k [] b = refl
 told-append k (c ∷ a) b =
     rw (told-append (done k c) a b) (sym (append-assoc (bookTold k c) (allBookTold (done k c) a) (allBookTold (doneAll (done k c) a) b)))
 
-pub moves-none : (s : Stand) (left : List ℕ) → Moves s left [] [] s left
+pub moves-none : (s : BookState) (left : List ℕ) → Moves s left [] [] s left
 unfolding doneAll
 moves-none s left = record { kept-is = refl; calls-are = refl; text-is = refl }
 
-pub moves-then : {s s′ s″ : Stand} {left left′ left″ : List ℕ} {made made′ : List Call} {new new′ : List ℕ}
+pub moves-then : {s s′ s″ : BookState} {left left′ left″ : List ℕ} {made made′ : List Call} {new new′ : List ℕ}
     → Moves s left made new s′ left′ → Moves s′ left′ made′ new′ s″ left″ → Moves s left (made ++ made′) (new ++ new′) s″ left″
 moves-then {s = s} {s″ = s″} {left″ = left″} {made = made} {made′ = made′} {new = new} {new′ = new′} a b =
     record {
@@ -62,7 +62,7 @@ moves-then {s = s} {s″ = s″} {left″ = left″} {made = made} {made′ = ma
     }
 
 -- ---- Nothing is ahead of a book that is over.
-module _ (s : Stand) (left : List ℕ) (h : s .over ≡ true) where
+module _ (s : BookState) (left : List ℕ) (h : s .over ≡ true) where
   pub no-text : textAhead s left ≡ []
   unfolding textAhead
   no-text = rw h
@@ -72,28 +72,28 @@ module _ (s : Stand) (left : List ℕ) (h : s .over ≡ true) where
   no-calls = rw h
 
 -- ---- A book that is under way: its report has its first line, and it is not over.
-pub record UnderWay (s : Stand) : Type 0 where
+pub record UnderWay (s : BookState) : Type 0 where
   pub begun-is : s .begun ≡ true
   pub over-is : s .over ≡ false
 
-abbrev pub run : Stand → ℕ
+abbrev pub run : BookState → ℕ
 run s = s .kept .bus .periods .0
 
-module _ (s : Stand) (left : List ℕ) (w : UnderWay s) where
-  calls-on : callsAhead s left ≡ callsOf (run s) (answersAhead s left)
+module _ (s : BookState) (left : List ℕ) (w : UnderWay s) where
+  calls-on : callsAhead s left ≡ callsOfAnswers (run s) (answersAhead s left)
   unfolding callsAhead
   calls-on = rw (w .over-is)
 
-  text-on : textAhead s left ≡ notesText (allBookTold (s .kept) (callsOf (run s) (answersAhead s left))) ++ stopOf (answersAhead s left)
+  text-on : textAhead s left ≡ notesText (allBookTold (s .kept) (callsOfAnswers (run s) (answersAhead s left))) ++ stopOf (answersAhead s left)
   unfolding textAhead
   text-on = rw (w .over-is, w .begun-is)
 
 -- what is ahead of s are these calls, and then what is ahead of s′
-module _ (s s′ : Stand) (left left′ : List ℕ) (made : List Call) (w : UnderWay s) (w′ : UnderWay s′) (k : s′ .kept ≡ doneAll (s .kept) made) where
-  goes-on : callsOf (run s) (answersAhead s left) ≡ made ++ callsOf (run s′) (answersAhead s′ left′)
+module _ (s s′ : BookState) (left left′ : List ℕ) (made : List Call) (w : UnderWay s) (w′ : UnderWay s′) (k : s′ .kept ≡ doneAll (s .kept) made) where
+  goes-on : callsOfAnswers (run s) (answersAhead s left) ≡ made ++ callsOfAnswers (run s′) (answersAhead s′ left′)
       → stopOf (answersAhead s left) ≡ stopOf (answersAhead s′ left′) → Moves s left made (notesText (allBookTold (s .kept) made)) s′ left′
   goes-on c e =
-      let rest = callsOf (run s′) (answersAhead s′ left′) in
+      let rest = callsOfAnswers (run s′) (answersAhead s′ left′) in
       let told = allBookTold (s .kept) made in
       record {
         kept-is = k;
@@ -106,7 +106,7 @@ module _ (s s′ : Stand) (left left′ : List ℕ) (made : List Call) (w : Unde
       }
 
 -- ---- The report's first line is written.
-pub heading-ahead : (s s′ : Stand) (left : List ℕ) → s .begun ≡ false → s .over ≡ false → UnderWay s′ → s′ .kept ≡ s .kept → s′ .stage ≡ s .stage
+pub heading-ahead : (s s′ : BookState) (left : List ℕ) → s .begun ≡ false → s .over ≡ false → UnderWay s′ → s′ .kept ≡ s .kept → s′ .stage ≡ s .stage
     → Moves s left [] heading s′ left
 unfolding doneAll textAhead callsAhead answersAhead
 heading-ahead s s′ left b o w k g =
@@ -117,18 +117,18 @@ heading-ahead s s′ left b o w k g =
     }
 
 -- ---- An answer that makes no call.
-place-is : (s : Stand) (left : List ℕ) (p : Place) → s .stage ≡ p .stage → run s ≡ p .last → answersAhead s left ≡ toCome p left
+place-is : (s : BookState) (left : List ℕ) (p : Place) → s .stage ≡ p .stage → run s ≡ p .last → answersAhead s left ≡ toCome p left
 unfolding answersAhead
 place-is s left p g r = rw (g, r)
 
-quiet : (s s′ : Stand) (left left′ : List ℕ) → UnderWay s → UnderWay s′ → s′ .kept ≡ s .kept
-    → callsOf (run s) (answersAhead s left) ≡ callsOf (run s′) (answersAhead s′ left′)
+quiet : (s s′ : BookState) (left left′ : List ℕ) → UnderWay s → UnderWay s′ → s′ .kept ≡ s .kept
+    → callsOfAnswers (run s) (answersAhead s left) ≡ callsOfAnswers (run s′) (answersAhead s′ left′)
     → stopOf (answersAhead s left) ≡ stopOf (answersAhead s′ left′) → Moves s left [] [] s′ left′
 unfolding doneAll allBookTold notesIn
 quiet s s′ left left′ w w′ k c e = goes-on s s′ left left′ [] w w′ k c e
 
 -- The book's first line is taken.
-pub first-ahead : (s s′ : Stand) (left left′ : List ℕ) → UnderWay s → UnderWay s′ → s′ .kept ≡ s .kept → s′ .stage ≡ AT-LINES
+pub first-ahead : (s s′ : BookState) (left left′ : List ℕ) → UnderWay s → UnderWay s′ → s′ .kept ≡ s .kept → s′ .stage ≡ AT-LINES
     → answersAhead s left ≡ toCome (record { stage = AT-LINES; last = run s }) left′ → Moves s left [] [] s′ left′
 first-ahead s s′ left left′ w w′ k g e =
     let e′ = place-is s′ left′ (record { stage = AT-LINES; last = run s }) g (ap (λ (x : Kept). x .bus .periods .0) k) in
@@ -136,12 +136,12 @@ first-ahead s s′ left left′ w w′ k g e =
 
 -- a line at the period that comes next
 line-now : (now at unit number : ℕ) (value : List ℕ) (more : List Answer) → now ≡ at
-    → callsOf now (entry at unit number value ∷ more) ≡ callAt unit number value ++ callsOf at more
-unfolding callsOf
+    → callsOfAnswers now (entry at unit number value ∷ more) ≡ callAt unit number value ++ callsOfAnswers at more
+unfolding callsOfAnswers
 line-now now at unit number value more e = let z : at - now ≡ 0 = omega arith in rw z
 
 -- `end` is accepted, at its period.
-pub end-ahead : (s s′ : Stand) (left left′ : List ℕ) (at unit number : ℕ) (value : List ℕ) → UnderWay s → UnderWay s′
+pub end-ahead : (s s′ : BookState) (left left′ : List ℕ) (at unit number : ℕ) (value : List ℕ) → UnderWay s → UnderWay s′
     → s′ .kept ≡ s .kept → s′ .stage ≡ AFTER-END → run s ≡ at → isEnd unit number ≡ true
     → answersAhead s left ≡ entry at unit number value ∷ toCome (past at unit number) left′ → Moves s left [] [] s′ left′
 unfolding callAt stopOf
@@ -159,14 +159,14 @@ towards from at m rest h =
     let n : at - from ≡ m + (at - (from + m)) = omega arith in
     rw (n, ← replicate-append-replicate m (at - (from + m)) period) (append-assoc (replicate m period) (replicate (at - (from + m)) period) rest)
 
-pub run-ahead : (s s′ : Stand) (left : List ℕ) (at unit number m : ℕ) (value : List ℕ) (more : List Answer) → UnderWay s → UnderWay s′
+pub run-ahead : (s s′ : BookState) (left : List ℕ) (at unit number m : ℕ) (value : List ℕ) (more : List Answer) → UnderWay s → UnderWay s′
     → s′ .kept ≡ doneAll (s .kept) (replicate m period) → run s′ ≡ run s + m → run s + m ≤ at
     → answersAhead s left ≡ entry at unit number value ∷ more → answersAhead s′ left ≡ entry at unit number value ∷ more
     → Moves s left (replicate m period) (notesText (allBookTold (s .kept) (replicate m period))) s′ left
-unfolding callsOf
+unfolding callsOfAnswers
 run-ahead s s′ left at unit number m value more w w′ k r h e e′ =
     goes-on s s′ left left (replicate m period) w w′ k
-    (rw (e, e′, r) (towards (run s) at m (callAt unit number value ++ callsOf at more) h))
+    (rw (e, e′, r) (towards (run s) at m (callAt unit number value ++ callsOfAnswers at more) h))
     (rw (e, e′))
 
 -- ---- An event is given to the bus, at its period. It runs none, so that the period stays the last line's.
@@ -180,7 +180,7 @@ event-periods k unit number value =
     (λ u. rw u)))
     (λ t. rw t)
 
-pub event-ahead : (s s′ : Stand) (left left′ : List ℕ) (at unit number : ℕ) (value : List ℕ) → UnderWay s → UnderWay s′
+pub event-ahead : (s s′ : BookState) (left left′ : List ℕ) (at unit number : ℕ) (value : List ℕ) → UnderWay s → UnderWay s′
     → s′ .kept ≡ done (s .kept) (event unit number (valueOctets number value)) → s′ .stage ≡ AT-LINES → run s ≡ at → isEnd unit number ≡ false
     → answersAhead s left ≡ entry at unit number value ∷ toCome (past at unit number) left′
     → Moves s left (event unit number (valueOctets number value) ∷ [])
@@ -197,9 +197,9 @@ event-ahead s s′ left left′ at unit number value w w′ k g r t e =
     (rw (e, e′)))
 
 -- ---- The book ends: with the line `stopped`, or with nothing.
-module _ (s s′ : Stand) (left left′ : List ℕ) (w : UnderWay s) (o : s′ .over ≡ true) (k : s′ .kept ≡ s .kept) where
+module _ (s s′ : BookState) (left left′ : List ℕ) (w : UnderWay s) (o : s′ .over ≡ true) (k : s′ .kept ≡ s .kept) where
   pub fault-ahead : (number : ℕ) (more : List Answer) → answersAhead s left ≡ fault number ∷ more → Moves s left [] (stoppedLine number) s′ left′
-  unfolding doneAll callsOf stopOf allBookTold notesIn
+  unfolding doneAll callsOfAnswers stopOf allBookTold notesIn
   fault-ahead number more e =
       record {
         kept-is = k;
@@ -208,7 +208,7 @@ module _ (s s′ : Stand) (left left′ : List ℕ) (w : UnderWay s) (o : s′ .
       }
 
   pub done-ahead : answersAhead s left ≡ [] → Moves s left [] [] s′ left′
-  unfolding doneAll callsOf stopOf allBookTold notesIn
+  unfolding doneAll callsOfAnswers stopOf allBookTold notesIn
   done-ahead e =
       record {
         kept-is = k;

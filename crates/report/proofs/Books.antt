@@ -8,29 +8,29 @@ use native.Mathlib.Omega.{arith}
 use lib.Dec.{eqb, leb}
 use lib.ListN.{length, getD, take, drop, replicate}
 use borrow.Author.Tests.{eqb-true, leb-true}
-use Rattle.cases.proofs.ByCases.{by-test, and-left, and-right}
+use Rattle.test_lemmas.proofs.ByCases.{by-test, and-left, and-right}
 use Rattle.symbols.specs.Symbols.{lineLength, fits}
 use Rattle.combining.specs.Hit.{keepLetter, plusLetter, minusLetter, noneLetter}
 use Rattle.timing.specs.Counts.{mostPeriods}
-use Rattle.cells.specs.Names.{ascii}
+use Rattle.notes_and_cells.specs.Names.{ascii}
 use Rattle.text.specs.Text.{LF, split, same}
-use Rattle.cells.specs.Events.{HIT}
+use Rattle.notes_and_cells.specs.Events.{HIT}
 use Rattle.book_line.specs.Line.{formed, inOrder, isEnd, valueFits, periodOf, unitOf, eventOf}
 use Rattle.book_line.specs.Value.{letterCode, valueOctets}
 use Rattle.book_line.proofs.Judging.{formed-parts}
 use Rattle.book_line.proofs.Values.{value-octets, hit-fits}
 use Rattle.book_reader.specs.Book.{Answer, firstLine, nothing, closing, lines, answersFrom, answers}
 use Rattle.book_reader.specs.Book.Answer.{entry, fault}
-use Rattle.bus.specs.Event.{reasons, firstOf, refusal}
-use Rattle.bus.specs.Bus.{Bus, freshBus}
-use Rattle.bus.specs.Calls.{Call, reply, after, ran}
-use Rattle.bus.specs.Calls.Call.{event, period}
-use Rattle.bus.specs.Ranges.{runs, periodsRun}
-use Rattle.bus.proofs.Refusals.{period-not-refused}
-use Rattle.bus.proofs.Ranges.{periods-counted}
-use Rattle.bus.proofs.Demand3.{demand3}
-use Rattle.call_rules.specs.Lists.{OctetValues}
-use Rattle.report.specs.Report.{callAt, callsOf, bookCalls}
+use Rattle.bus_rules.specs.Event.{reasons, firstHolding, refusal}
+use Rattle.bus_rules.specs.Bus.{Bus, freshBus}
+use Rattle.bus_rules.specs.Calls.{Call, reply, after, afterAll}
+use Rattle.bus_rules.specs.Calls.Call.{event, period}
+use Rattle.bus_rules.specs.Ranges.{runs, periodsRun}
+use Rattle.bus_rules.proofs.Refusals.{period-not-refused}
+use Rattle.bus_rules.proofs.Ranges.{periods-counted}
+use Rattle.bus_rules.proofs.Demand3.{demand3}
+use Rattle.bus_call_specs.specs.Lists.{OctetValues}
+use Rattle.report.specs.Report.{callAt, callsOfAnswers, bookCalls}
 use Rattle.report.specs.Laws.{RunsToLine, InBook, AllInBook, BooksRefused, NoneLate, BooksInTime, BooksOctets, BookCalls}
 
 -- the letters of a hit have the same codes on a line and on the bus
@@ -85,15 +85,15 @@ answers-in-time book =
 
 -- ---- Periods.
 period-counts : (b : Bus) → b .periods < mostPeriods → after b period .periods ≡ b .periods + 1
-unfolding ran periodsRun runs
+unfolding afterAll periodsRun runs
 period-counts b h = omega (arith, rw (period-not-refused b h) at (periods-counted (period ∷ []) b))
 
 event-counts : (b : Bus) (unit number : ℕ) (value : List ℕ) → after b (event unit number value) .periods ≡ b .periods
-unfolding ran periodsRun runs
+unfolding afterAll periodsRun runs
 event-counts b unit number value = omega (arith, periods-counted (event unit number value ∷ []) b)
 
-pub run-counts : (n : ℕ) (b : Bus) → b .periods + n ≤ mostPeriods → ran b (replicate n period) .periods ≡ b .periods + n
-unfolding ran
+pub run-counts : (n : ℕ) (b : Bus) → b .periods + n ≤ mostPeriods → afterAll b (replicate n period) .periods ≡ b .periods + n
+unfolding afterAll
 run-counts zero b h = omega arith
 run-counts (suc n) b h =
     let one = period-counts b (omega arith) in
@@ -110,14 +110,14 @@ no-wrong-letters number value h =
     (λ t. let hit = eqb-true number HIT t in rw hit (rw (hit-fits value (rw hit at h))))
     (λ t. rw t)
 
-first-from : (k : ℕ) (holding : List Bool) → (firstOf k holding ≡ 0 → ⊥) → (k ≤ firstOf k holding) × (firstOf k holding < k + length holding)
-unfolding firstOf
+first-from : (k : ℕ) (holding : List Bool) → (firstHolding k holding ≡ 0 → ⊥) → (k ≤ firstHolding k holding) × (firstHolding k holding < k + length holding)
+unfolding firstHolding
 first-from k [] h = absurd (h refl)
 first-from k (true ∷ holding) h = (omega arith, omega arith)
 first-from k (false ∷ holding) h = let l = first-from (suc k) holding h in (omega arith, omega arith)
 
-from-three : (holding : List Bool) → length holding ≡ 7 → getD holding 0 false ≡ false → InBook (firstOf 2 holding)
-unfolding firstOf
+from-three : (holding : List Bool) → length holding ≡ 7 → getD holding 0 false ≡ false → InBook (firstHolding 2 holding)
+unfolding firstHolding
 from-three [] n h = absurd (omega arith)
 from-three (first ∷ holding) n h =
     let e : first ≡ false = h in
@@ -128,9 +128,9 @@ event-in-book : (b : Bus) (unit number : ℕ) (value : List ℕ) → valueFits n
 unfolding reply refusal reasons
 event-in-book b unit number value h = from-three (reasons b unit number (valueOctets number value)) refl (no-wrong-letters number value h)
 
-run-in-book : (n : ℕ) (b : Bus) (more : List Call) → b .periods + n ≤ mostPeriods → AllInBook (ran b (replicate n period)) more
+run-in-book : (n : ℕ) (b : Bus) (more : List Call) → b .periods + n ≤ mostPeriods → AllInBook (afterAll b (replicate n period)) more
     → AllInBook b (replicate n period ++ more)
-unfolding AllInBook ran
+unfolding AllInBook afterAll
 run-in-book zero b more h m = m
 run-in-book (suc n) b more h m = (
   λ some. absurd (some (period-not-refused b (omega arith))),
@@ -148,14 +148,14 @@ line-in-book b unit number value more fit h =
       h (after b (event unit number (valueOctets number value))) (event-counts b unit number (valueOctets number value)),
     ))
 
-calls-in-book : {run : ℕ} {given : List Answer} → InTime run given → (b : Bus) → b .periods ≡ run → AllInBook b (callsOf run given)
-unfolding callsOf AllInBook
+calls-in-book : {run : ℕ} {given : List Answer} → InTime run given → (b : Bus) → b .periods ≡ run → AllInBook b (callsOfAnswers run given)
+unfolding callsOfAnswers AllInBook
 calls-in-book none b e = tt
 calls-in-book stops b e = tt
 calls-in-book (goes {run = run} {at = at} {unit = unit} {number = number} {value = value} {more = more} from to fit rest) b e =
     let there = run-counts (at - run) b (omega arith) in
-    run-in-book (at - run) b (callAt unit number value ++ callsOf at more) (omega arith)
-    (line-in-book (ran b (replicate (at - run) period)) unit number value (callsOf at more) fit (λ c same. calls-in-book rest c (omega arith)))
+    run-in-book (at - run) b (callAt unit number value ++ callsOfAnswers at more) (omega arith)
+    (line-in-book (afterAll b (replicate (at - run) period)) unit number value (callsOfAnswers at more) fit (λ c same. calls-in-book rest c (omega arith)))
 
 pub books-refused : BooksRefused
 unfolding bookCalls
@@ -181,12 +181,12 @@ line-octets : (unit number : ℕ) (value : List ℕ) (more : List Call) → Octe
 unfolding callAt OctetValues
 line-octets unit number value more h = by-test (isEnd unit number) (λ t. rw t h) (λ t. rw t (value-octets number value, h))
 
-calls-octets : {run : ℕ} {given : List Answer} → InTime run given → OctetValues (callsOf run given)
-unfolding callsOf OctetValues
+calls-octets : {run : ℕ} {given : List Answer} → InTime run given → OctetValues (callsOfAnswers run given)
+unfolding callsOfAnswers OctetValues
 calls-octets none = tt
 calls-octets stops = tt
 calls-octets (goes {run = run} {at = at} {unit = unit} {number = number} {value = value} {more = more} from to fit rest) =
-    run-octets (at - run) (callAt unit number value ++ callsOf at more) (line-octets unit number value (callsOf at more) (calls-octets rest))
+    run-octets (at - run) (callAt unit number value ++ callsOfAnswers at more) (line-octets unit number value (callsOfAnswers at more) (calls-octets rest))
 
 pub books-octets : BooksOctets
 unfolding bookCalls

@@ -7,15 +7,15 @@ use Prim.Native.Nat.{ℕ, zero, suc, _+_, _≤_, _<_}
 use native.Mathlib.Omega.{arith}
 use lib.ListN.{length, take, drop, length-append}
 use lib.Seq.{length-take-le}
-use Rattle.cases.proofs.ByCases.{clash}
-use Rattle.bus.specs.Calls.{Call}
+use Rattle.test_lemmas.proofs.ByCases.{clash}
+use Rattle.bus_rules.specs.Calls.{Call}
 use Rattle.book_reader.specs.Book.{answers}
 use Rattle.book_reader.specs.Parts.{toCome, joined}
 use Rattle.book_reader.specs.declared.step.Step.{Step}
 use Rattle.book_reader.proofs.Cut.{call-law}
 use Rattle.period_text.specs.PeriodText.{periodRoom}
-use Rattle.report.specs.Report.{callsOf, report, bookCalls}
-use Rattle.report.specs.Ahead.{Stand, answersAhead, callsAhead, textAhead, TEXT, ROOM, OVER, Advanced, Stopped, TextFew, Driven, WrittenRight, Ending, NoneGoesOn, Sound, FreshSound, StaysSound, OneCall, EveryCall, Ends, DriverEnds}
+use Rattle.report.specs.Report.{callsOfAnswers, report, bookCalls}
+use Rattle.report.specs.Ahead.{BookState, answersAhead, callsAhead, textAhead, TEXT, ROOM, OVER, Advanced, Stopped, TextFew, Driven, WrittenRight, Ending, NoneGoesOn, Sound, FreshSound, StaysSound, OneCall, EveryCall, Ends, DriverEnds}
 use Rattle.report.specs.Ahead.Ending.{ending}
 use Rattle.report.specs.Ahead.Driven.{over, emptied, filled, told}
 use Rattle.report.proofs.Books.{books-octets}
@@ -24,12 +24,12 @@ use Rattle.report.proofs.Order.{stays-ready}
 use Rattle.report.proofs.AheadLaws.{no-text, no-calls}
 
 -- ---- What was ahead is what is written and what the calls are, from any stand on.
-record Drove (s : Stand) (left w : List ℕ) (calls : List Call) : Type 0 where
+record Drove (s : BookState) (left w : List ℕ) (calls : List Call) : Type 0 where
   text-is : textAhead s left ≡ w
   calls-are : callsAhead s left ≡ calls
 
 -- one call, and what is driven after it
-module _ {s : Stand} {held room : List ℕ} {whole : Bool} {s′ : Stand} {taken wrote why : ℕ} {room′ : List ℕ}
+module _ {s : BookState} {held room : List ℕ} {whole : Bool} {s′ : BookState} {taken wrote why : ℕ} {room′ : List ℕ}
     (g : Advanced s held room whole s′ taken wrote why room′) (later : List ℕ) (fit : whole ≡ true → later ≡ []) where
   last-call : s′ .over ≡ true → Drove s (held ++ later) (take wrote room′) (g .made)
   last-call h =
@@ -50,7 +50,7 @@ pub text-few : TextFew
 text-few s s′ text room room′ whole taken wrote why g y =
     call-law (record { stage = s′ .stage; last = s′ .kept .bus .periods .0 }) text taken false [] never Step.More (g .for-text y .3) .few
 
-driven-right : {s : Stand} {held : List ℕ} {whole : Bool} {parts : List (List ℕ)} {w : List ℕ} {calls : List Call}
+driven-right : {s : BookState} {held : List ℕ} {whole : Bool} {parts : List (List ℕ)} {w : List ℕ} {calls : List Call}
     → Driven s held whole parts w calls → (whole ≡ true → parts ≡ []) → Drove s (held ++ joined parts) w calls
 unfolding joined
 driven-right (over {parts = parts} room room′ s′ taken wrote g) fit =
@@ -67,16 +67,16 @@ unfolding textAhead callsAhead answersAhead toCome report bookCalls
 written-right images octets letters parts w calls i o l d =
     let k = driven-right d never in
     record {
-      report-is = sym (k .text-is) ∙ rw (told-right images octets letters (callsOf 0 (answers (joined parts))) i o l (books-octets (joined parts)));
+      report-is = sym (k .text-is) ∙ rw (told-right images octets letters (callsOfAnswers 0 (answers (joined parts))) i o l (books-octets (joined parts)));
       calls-are = sym (k .calls-are);
     }
 
 -- ---- What falls with every call of a driver: the text ahead, or the parts left, or the flag.
-unfoldable toGo : Stand → List ℕ → Bool → List (List ℕ) → ℕ
+unfoldable toGo : BookState → List ℕ → Bool → List (List ℕ) → ℕ
 toGo s held whole parts = length (textAhead s (held ++ joined parts)) + length parts + cond whole 0 1
 
 -- the text ahead is shorter by what is written
-module _ {s : Stand} {held room : List ℕ} {whole : Bool} {s′ : Stand} {taken wrote why : ℕ} {room′ : List ℕ}
+module _ {s : BookState} {held room : List ℕ} {whole : Bool} {s′ : BookState} {taken wrote why : ℕ} {room′ : List ℕ}
     (g : Advanced s held room whole s′ taken wrote why room′) (later : List ℕ) (fit : whole ≡ true → later ≡ []) where
   wrote-less : length (textAhead s (held ++ later)) ≡ wrote + length (textAhead s′ (drop taken held ++ later))
   wrote-less =
@@ -85,19 +85,19 @@ module _ {s : Stand} {held room : List ℕ} {whole : Bool} {s′ : Stand} {taken
 
 abbrev Falls : ℕ → Type 0
 Falls fuel =
-    (s : Stand) (held : List ℕ) (whole : Bool) (parts : List (List ℕ)) → (whole ≡ true → parts ≡ [])
+    (s : BookState) (held : List ℕ) (whole : Bool) (parts : List (List ℕ)) → (whole ≡ true → parts ≡ [])
     → toGo s held whole parts < fuel → Ending s held whole parts
 
-module _ (fuel : ℕ) (next : Falls fuel) (s : Stand) (held : List ℕ) (whole : Bool) (parts : List (List ℕ)) (fit : whole ≡ true → parts ≡ [])
+module _ (fuel : ℕ) (next : Falls fuel) (s : BookState) (held : List ℕ) (whole : Bool) (parts : List (List ℕ)) (fit : whole ≡ true → parts ≡ [])
     (h : toGo s held whole parts < suc fuel) where
-  on-room : (room room′ : List ℕ) (s′ : Stand) (taken wrote : ℕ) → periodRoom ≤ length room
+  on-room : (room room′ : List ℕ) (s′ : BookState) (taken wrote : ℕ) → periodRoom ≤ length room
       → Stopped s held room whole s′ taken wrote ROOM room′ → Ending s′ (drop taken held) whole parts
   unfolding toGo joined
   on-room room room′ s′ taken wrote big g =
       let less = wrote-less (g .went) (joined parts) (λ w. ap joined (fit w)) in
       next s′ (drop taken held) whole parts fit (omega (arith, g .went .for-room refl))
 
-  on-text : (room room′ : List ℕ) (s′ : Stand) (taken wrote : ℕ) (part : List ℕ) (rest : List (List ℕ)) → parts ≡ part ∷ rest
+  on-text : (room room′ : List ℕ) (s′ : BookState) (taken wrote : ℕ) (part : List ℕ) (rest : List (List ℕ)) → parts ≡ part ∷ rest
       → Stopped s held room whole s′ taken wrote TEXT room′ → Ending s′ (drop taken held ++ part) whole rest
   unfolding toGo joined
   on-text room room′ s′ taken wrote part rest p g =
@@ -136,14 +136,14 @@ by-why (suc (suc (suc n))) go h t r o = o (omega arith)
 
 module _ (every : EveryCall) (room : List ℕ) (big : periodRoom ≤ length room) where
   -- a call, where what comes after it is known to end
-  module _ (s : Stand) (held : List ℕ) (o : Sound s) where
+  module _ (s : BookState) (held : List ℕ) (o : Sound s) where
     abbrev ThenEmptied : Bool → List (List ℕ) → Type 0
     ThenEmptied whole parts =
-        (room′ : List ℕ) (s′ : Stand) (taken wrote : ℕ) → Stopped s held room whole s′ taken wrote ROOM room′ → Ends s′ (drop taken held) whole parts
+        (room′ : List ℕ) (s′ : BookState) (taken wrote : ℕ) → Stopped s held room whole s′ taken wrote ROOM room′ → Ends s′ (drop taken held) whole parts
 
     abbrev ThenFilled : Bool → List (List ℕ) → Type 0
     ThenFilled whole parts =
-        (room′ : List ℕ) (s′ : Stand) (taken wrote : ℕ) (part : List ℕ) (rest : List (List ℕ)) → parts ≡ part ∷ rest
+        (room′ : List ℕ) (s′ : BookState) (taken wrote : ℕ) (part : List ℕ) (rest : List (List ℕ)) → parts ≡ part ∷ rest
         → Stopped s held room whole s′ taken wrote TEXT room′ → Ends s′ (drop taken held ++ part) whole rest
 
     on-over : (whole : Bool) (parts : List (List ℕ)) (c : OneCall s held room whole) → c .why ≡ OVER → Ends s held whole parts
@@ -185,7 +185,7 @@ module _ (every : EveryCall) (room : List ℕ) (big : periodRoom ≤ length room
         by-why (c .why) (c .stopped .goes-not-on) (c .stopped .listed)
         (on-filled part parts f c) (on-emptied false (part ∷ parts) e c) (on-over false (part ∷ parts) c)
 
-  comes : {s : Stand} {held : List ℕ} {whole : Bool} {parts : List (List ℕ)} → Ending s held whole parts → Sound s → Ends s held whole parts
+  comes : {s : BookState} {held : List ℕ} {whole : Bool} {parts : List (List ℕ)} → Ending s held whole parts → Sound s → Ends s held whole parts
   comes {s = s} {held = held} {whole = whole} {parts = parts} (ending e f t) o =
       on-call s held o whole parts
       (λ room′ s′ taken wrote g. comes (e room room′ s′ taken wrote big g) (stays-sound s s′ held room room′ whole taken wrote ROOM g o))

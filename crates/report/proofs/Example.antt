@@ -3,15 +3,15 @@ use mathlib.Core.Path.{_≡_, refl}
 use mathlib.Core.List.{List, [], _∷_, _++_}
 use Prim.Native.Nat.{ℕ}
 use Prim.Native.String.{String}
-use Rattle.cells.specs.Names.{printed, printedAs}
-use Rattle.cells.specs.Names.{ascii}
+use Rattle.notes_and_cells.specs.Names.{printed, printedAs}
+use Rattle.notes_and_cells.specs.Names.{ascii}
 use Rattle.text.specs.Text.{LF, onto, split, all, onward}
 use Rattle.book_line.specs.Line.{eventNamed, isEnd, isNumber, isAbsent, isBody, isHit, valueFits, formed, inOrder}
 use Rattle.book_line.specs.Value.{hexDigit, pairs, bodyOf, letterCode, valueOctets}
 use Rattle.book_reader.specs.Book.{nothing, closing, lines, answersFrom}
-use Rattle.bus.specs.Scenes as scenes
+use Rattle.bus_rules.specs.Scenes as scenes
 use Rattle.note_text.specs.NoteText as note
-use Rattle.report.specs.Report.{callAt, callsOf, bookCalls, refusedNotes, bookNotes, allBookNotes, stopOf, report}
+use Rattle.report.specs.Report.{callAt, callsOfAnswers, bookCalls, refusedNotes, bookNotes, allBookNotes, stopOf, report}
 
 -- a text of these lines
 abbrev text : List String → List ℕ
@@ -27,7 +27,7 @@ reported told = text ("period unit note value" ∷ told)
 
 -- whatever says `unfolding computed` computes reports
 unfoldable computed : List ℕ → List ℕ
-unfolding scenes.report printed printedAs note.decimalIn note.decimal note.hexCode note.hexOf note.noteLine note.notesIn note.heading note.stoppedLine onto split all onward eventNamed isEnd isNumber isAbsent isBody isHit valueFits formed inOrder hexDigit pairs bodyOf letterCode valueOctets nothing closing lines answersFrom callAt callsOf bookCalls refusedNotes bookNotes allBookNotes stopOf report
+unfolding scenes.handedBack printed printedAs note.decimalIn note.decimal note.hexCode note.hexOf note.noteLine note.notesIn note.heading note.stoppedLine onto split all onward eventNamed isEnd isNumber isAbsent isBody isHit valueFits formed inOrder hexDigit pairs bodyOf letterCode valueOctets nothing closing lines answersFrom callAt callsOfAnswers bookCalls refusedNotes bookNotes allBookNotes stopOf report
 computed octets = report octets
 
 pub the-example :

@@ -5,11 +5,11 @@ use Prim.Native.Nat.{ℕ, _≤_, _<_}
 use native.Mathlib.Omega.{arith}
 use lib.Dec.{eqb}
 use lib.ListN.{length}
-use Rattle.cases.proofs.ByCases.{by-test}
-use Rattle.bus.specs.Calls.Call.{event}
-use Rattle.call_rules.specs.Kept.{Kept}
-use Rattle.call_rules.specs.Lists.{told, replied, notesTold}
-use Rattle.call_rules.proofs.Refused.{replies-listed}
+use Rattle.test_lemmas.proofs.ByCases.{by-test}
+use Rattle.bus_rules.specs.Calls.Call.{event}
+use Rattle.bus_call_specs.specs.Kept.{Kept}
+use Rattle.bus_call_specs.specs.Lists.{told, replied, notesTold}
+use Rattle.bus_call_specs.proofs.Refused.{replies-listed}
 use Rattle.note_text.specs.NoteText.{notesText}
 use Rattle.note_text.specs.Lengths.{numbers}
 use Rattle.period_text.specs.PeriodText.{eventNoted, periodRoom}

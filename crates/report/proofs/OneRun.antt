@@ -7,42 +7,42 @@ use native.Mathlib.Omega.{arith}
 use lib.ListN.{length, take, replicate, length-take}
 use lib.Seq.{take-take}
 use borrow.Author.Tests.{lt-ltb, ltb-true, lt-leb}
-use Rattle.cases.proofs.ByCases.{by-test}
+use Rattle.test_lemmas.proofs.ByCases.{by-test}
 use Rattle.hdlc.specs.Image.{longestBody}
 use Rattle.timing.specs.Counts.{mostPeriods}
-use Rattle.reader.specs.Counters.{readBit, readOctets}
-use Rattle.reader.specs.Calls.{answersAfter}
-use Rattle.reader.specs.declared.Reader.{Reader}
-use Rattle.reader.specs.declared.ReaderAnswer.{ReaderAnswer}
-use Rattle.reader.specs.declared.ReaderAnswer.the-variants.{Nothing, Heard, Torn, Refused}
-use Rattle.reader.proofs.AnswerLaws.{heard-call}
-use Rattle.bus.specs.Bus.{Note}
-use Rattle.bus.specs.Period.{heardBy, timed, periodRun}
-use Rattle.bus.specs.Calls.Call.{period}
+use Rattle.d_reader.specs.Counters.{readBit, readOctets}
+use Rattle.d_reader.specs.Calls.{answersAfter}
+use Rattle.d_reader.specs.declared.Reader.{Reader}
+use Rattle.d_reader.specs.declared.ReaderAnswer.{ReaderAnswer}
+use Rattle.d_reader.specs.declared.ReaderAnswer.the-variants.{Nothing, Heard, Torn, Refused}
+use Rattle.d_reader.proofs.AnswerLaws.{heard-call}
+use Rattle.bus_rules.specs.Bus.{Note}
+use Rattle.bus_rules.specs.Period.{heardBy, timed, periodRun}
+use Rattle.bus_rules.specs.Calls.Call.{period}
 use Rattle.bus_record.specs.NetworkSide.{refusedRun}
-use Rattle.listening.specs.declared.hears.UnitNotes.{UnitNotes}
-use Rattle.bus_record.specs.declared.side.Ran.{Ran}
-use Rattle.call_rules.specs.Kept.{Kept, settled}
-use Rattle.call_rules.specs.Shown.{busIn}
-use Rattle.call_rules.specs.Period.{dRead, readerRun, octetsRun, bodyOf, answersIn, hasNotes, periodRan, keptRun}
-use Rattle.call_rules.specs.Ready.{runReply, goesOn}
-use Rattle.call_rules.specs.Run.{ranOn, notYet, ran, keptAfter}
-use Rattle.call_rules.specs.Lists.{called, replied, notesTold, periodTold, runTold, readerTold}
-use Rattle.call_rules.proofs.InOrder.{InOrder, in-order, order-reply}
-use Rattle.call_rules.proofs.RunSingle.{goes-facts, first-ran, first-kept, period-single, run-single}
-use Rattle.call_rules.proofs.QuietRuns as quiet
-use Rattle.call_rules.proofs.RunLeft.{run-left, run-leaves}
+use Rattle.period_hearing.specs.declared.hears.UnitNotes.{UnitNotes}
+use Rattle.bus_record.specs.declared.side.RunAnswer.{RunAnswer}
+use Rattle.bus_call_specs.specs.Kept.{Kept, settled}
+use Rattle.bus_call_specs.specs.Shown.{busIn}
+use Rattle.bus_call_specs.specs.Period.{dRead, readerRun, octetsRun, bodyOf, answersIn, hasNotes, periodAnswer, keptRun}
+use Rattle.bus_call_specs.specs.Ready.{runReply, goesOn}
+use Rattle.bus_call_specs.specs.Run.{answerOn, notYet, runAnswer, keptAfter}
+use Rattle.bus_call_specs.specs.Lists.{called, replied, notesTold, periodTold, runTold, readerTold}
+use Rattle.bus_call_specs.proofs.InOrder.{InOrder, in-order, order-reply}
+use Rattle.bus_call_specs.proofs.RunSingle.{goes-facts, first-ran, first-kept, period-single, run-single}
+use Rattle.bus_call_specs.proofs.QuietRuns as quiet
+use Rattle.bus_call_specs.proofs.RunLeft.{run-left, run-leaves}
 use Rattle.period_text.proofs.Room.{period-fits}
-use Rattle.report.specs.Told.{done, doneAll, bookTold, allBookTold, RunsOn, OneRun, RunFits}
+use Rattle.report.specs.Told.{done, doneAll, bookTold, allBookTold, RunAsPeriods, OneRun, RunFits}
 use Rattle.report.proofs.Order.{order-settled, order-called}
 
 -- ---- A period looks at no notes of the one before.
-settled-ran : (k : Kept) → periodRan (settled k) ≡ periodRan k
-unfolding settled periodRan busIn readerRun answersIn hasNotes
+settled-ran : (k : Kept) → periodAnswer (settled k) ≡ periodAnswer k
+unfolding settled periodAnswer busIn readerRun answersIn hasNotes
 settled-ran k = refl
 
 settled-kept : (k : Kept) → keptRun (settled k) ≡ keptRun k
-unfolding settled keptRun periodRan busIn readerRun octetsRun answersIn hasNotes
+unfolding settled keptRun periodAnswer busIn readerRun octetsRun answersIn hasNotes
 settled-kept k = refl
 
 -- ---- The first period, where all is in order and one can be run.
@@ -50,15 +50,15 @@ module _ (k : Kept) (o : InOrder k) (l : k .bus .periods .0 < mostPeriods) where
   not-refused : (n : ℕ) → runReply (suc n) k ≡ 0
   not-refused n = order-reply (suc n) k o ∙ rw (lt-ltb 0 (suc n) (omega arith), lt-leb mostPeriods (k .bus .periods .0) l)
 
-  one-accepted : ran 1 k .reply ≡ 0
-  unfolding periodRan
+  one-accepted : runAnswer 1 k .reply ≡ 0
+  unfolding periodAnswer
   one-accepted = rw (period-single k (not-refused 0) .ran-is)
 
-  one-more : ran 1 k .bus .periods .0 ≡ k .bus .periods .0 + 1
-  unfolding periodRan periodRun timed heardBy busIn
+  one-more : runAnswer 1 k .bus .periods .0 ≡ k .bus .periods .0 + 1
+  unfolding periodAnswer periodRun timed heardBy busIn
   one-more = rw (period-single k (not-refused 0) .ran-is)
 
-  period-told : bookTold k period ≡ periodTold (k .bus .periods .0) (ran 1 k) (keptAfter 1 k .notes) (keptAfter 1 k .octets)
+  period-told : bookTold k period ≡ periodTold (k .bus .periods .0) (runAnswer 1 k) (keptAfter 1 k .notes) (keptAfter 1 k .octets)
   unfolding bookTold notesTold replied
   period-told = rw one-accepted
 
@@ -67,11 +67,11 @@ module _ (k : Kept) (o : InOrder k) (l : k .bus .periods .0 < mostPeriods) where
   told-book = rw one-accepted
 
   -- the run ends after it
-  run-ends : (n : ℕ) → goesOn (ran 1 k) n ≡ false → RunsOn k (suc n)
+  run-ends : (n : ℕ) → goesOn (runAnswer 1 k) n ≡ false → RunAsPeriods k (suc n)
   unfolding doneAll done called allBookTold
   run-ends n g =
       let s = run-single n k in
-      let now : ran 1 k .bus .periods .0 - 1 ≡ k .bus .periods .0 = omega (arith, one-more) in
+      let now : runAnswer 1 k .bus .periods .0 - 1 ≡ k .bus .periods .0 = omega (arith, one-more) in
       record {
         count = 1;
         some = omega arith;
@@ -84,21 +84,21 @@ module _ (k : Kept) (o : InOrder k) (l : k .bus .periods .0 < mostPeriods) where
       }
 
 -- a run of one ends there
-no-more : (last : Ran) → goesOn last 0 ≡ false
+no-more : (last : RunAnswer) → goesOn last 0 ≡ false
 no-more last =
     by-test (goesOn last 0) (λ g. absurd (omega (arith, ltb-true 0 0 (goes-facts last 0 g .0)))) (λ g. g)
 
 -- ---- What a run tells.
-run-told : (n : ℕ) (k : Kept) → ran n k .reply ≡ 0
-    → runTold n k ≡ periodTold (ran n k .bus .periods .0 - 1) (ran n k) (keptAfter n k .notes) (keptAfter n k .octets)
+run-told : (n : ℕ) (k : Kept) → runAnswer n k .reply ≡ 0
+    → runTold n k ≡ periodTold (runAnswer n k .bus .periods .0 - 1) (runAnswer n k) (keptAfter n k .notes) (keptAfter n k .octets)
 unfolding runTold
 run-told n k e = rw e
 
-told-on : (n : ℕ) (k : Kept) → goesOn (ran 1 k) (suc n) ≡ true → runTold (suc (suc n)) k ≡ notesTold k period ++ runTold (suc n) (keptAfter 1 k)
+told-on : (n : ℕ) (k : Kept) → goesOn (runAnswer 1 k) (suc n) ≡ true → runTold (suc (suc n)) k ≡ notesTold k period ++ runTold (suc n) (keptAfter 1 k)
 told-on n k g = quiet.told-on (suc n) k g ∙ rw (quiet.goes-quiet k (suc n) g)
 
 -- ---- .. or goes on from there, whatever the notes of the first: it has none.
-module _ (n : ℕ) (k : Kept) (o : InOrder k) (l : k .bus .periods .0 + 1 < mostPeriods) (g : goesOn (ran 1 k) (suc n) ≡ true) where
+module _ (n : ℕ) (k : Kept) (o : InOrder k) (l : k .bus .periods .0 + 1 < mostPeriods) (g : goesOn (runAnswer 1 k) (suc n) ≡ true) where
   abbrev next : Kept
   next = keptAfter 1 k
 
@@ -119,7 +119,7 @@ module _ (n : ℕ) (k : Kept) (o : InOrder k) (l : k .bus .periods .0 + 1 < most
   again : next .bus .periods .0 < mostPeriods
   again = omega (arith, next-periods)
 
-  ran-on : ran (suc n) (settled next) ≡ ran (suc n) next
+  ran-on : runAnswer (suc n) (settled next) ≡ runAnswer (suc n) next
   ran-on =
       first-ran n (settled next) (not-refused (settled next) (order-settled next next-order) (omega (arith, settled-periods)) n)
       ∙ (rw (settled-ran next, settled-kept next) (sym (first-ran n next (not-refused next next-order again n))))
@@ -129,14 +129,14 @@ module _ (n : ℕ) (k : Kept) (o : InOrder k) (l : k .bus .periods .0 + 1 < most
       first-kept n (settled next) (not-refused (settled next) (order-settled next next-order) (omega (arith, settled-periods)) n)
       ∙ (rw (settled-ran next, settled-kept next) (sym (first-kept n next (not-refused next next-order again n))))
 
-  run-on : RunsOn (settled next) (suc n) → RunsOn k (suc (suc n))
+  run-on : RunAsPeriods (settled next) (suc n) → RunAsPeriods k (suc (suc n))
   unfolding doneAll done called allBookTold
   run-on r =
       let s = run-single (suc n) k in
-      let ran-is : ran (suc (suc n)) k ≡ ran (suc n) next = s .ran-is ∙ rw g in
+      let ran-is : runAnswer (suc (suc n)) k ≡ runAnswer (suc n) next = s .ran-is ∙ rw g in
       let kept-is : keptAfter (suc (suc n)) k ≡ keptAfter (suc n) next = s .kept-is ∙ rw g in
-      let accepted : ran (suc n) next .reply ≡ 0 = rw ran-on at (r .accepted) in
-      let all : ran (suc (suc n)) k .reply ≡ 0 = rw ran-is accepted in
+      let accepted : runAnswer (suc n) next .reply ≡ 0 = rw ran-on at (r .accepted) in
+      let all : runAnswer (suc (suc n)) k .reply ≡ 0 = rw ran-is accepted in
       record {
         count = suc (r .count);
         some = omega arith;
@@ -152,10 +152,10 @@ module _ (n : ℕ) (k : Kept) (o : InOrder k) (l : k .bus .periods .0 + 1 < most
       }
 
 -- ---- Every run.
-runs-on : (n : ℕ) (k : Kept) → InOrder k → k .bus .periods .0 + suc n ≤ mostPeriods → RunsOn k (suc n)
-runs-on zero k o l = run-ends k o (omega arith) 0 (no-more (ran 1 k))
+runs-on : (n : ℕ) (k : Kept) → InOrder k → k .bus .periods .0 + suc n ≤ mostPeriods → RunAsPeriods k (suc n)
+runs-on zero k o l = run-ends k o (omega arith) 0 (no-more (runAnswer 1 k))
 runs-on (suc n) k o l =
-    by-test (goesOn (ran 1 k) (suc n))
+    by-test (goesOn (runAnswer 1 k) (suc n))
     (λ g.
     run-on n k o (omega arith) g
     (runs-on n (settled (keptAfter 1 k)) (order-settled (keptAfter 1 k) (next-order n k o (omega arith) g))
@@ -182,30 +182,30 @@ body-most (b ∷ bs) r buf =
     body-first (readBit b buf r .answer) (answersAfter bs (readBit b buf r .reader) (readOctets b r buf)) (λ n e. heard-call b r buf n e .2)
     (body-most bs (readBit b buf r .reader) (readOctets b r buf))
 
-ran-body : (n : ℕ) (last : Ran) (k : Kept) → last .body ≤ longestBody → ranOn n last k .body ≤ longestBody
-unfolding ranOn periodRan answersIn
+ran-body : (n : ℕ) (last : RunAnswer) (k : Kept) → last .body ≤ longestBody → answerOn n last k .body ≤ longestBody
+unfolding answerOn periodAnswer answersIn
 ran-body zero last k h = h
 ran-body (suc n) last k h =
     by-test (goesOn last (suc n))
-    (λ g. rw g (ran-body n (periodRan k) (keptRun k) (body-most (dRead (busIn k)) (k .bus .reader) (k .octets))))
+    (λ g. rw g (ran-body n (periodAnswer k) (keptRun k) (body-most (dRead (busIn k)) (k .bus .reader) (k .octets))))
     (λ g. rw g h)
 
-run-body : (n : ℕ) (k : Kept) → ran n k .body ≤ longestBody
-unfolding ran notYet refusedRun
+run-body : (n : ℕ) (k : Kept) → runAnswer n k .body ≤ longestBody
+unfolding runAnswer notYet refusedRun
 run-body n k = ran-body n (notYet n k) k (omega arith)
 
 -- of the octets lent only the body's are told
-body-alone : (now : ℕ) (r : Ran) (ns : List UnitNotes) (octets : List ℕ) → periodTold now r ns octets ≡ periodTold now r ns (take (r .body) octets)
+body-alone : (now : ℕ) (r : RunAnswer) (ns : List UnitNotes) (octets : List ℕ) → periodTold now r ns octets ≡ periodTold now r ns (take (r .body) octets)
 unfolding periodTold readerTold
 body-alone now r ns octets = rw (take-take (r .body) (r .body) octets (omega arith))
 
 pub run-fits : RunFits
 run-fits k zero h l m = absurd (omega arith)
 run-fits k (suc n) h l m =
-    let r : RunsOn k (suc n) = one-run k (suc n) h l m in
-    let last : ℕ = ran (suc n) k .bus .periods .0 - 1 in
-    let body : List ℕ = take (ran (suc n) k .body) (keptAfter (suc n) k .octets) in
-    let few : length body ≤ longestBody = rw (length-take (ran (suc n) k .body) (keptAfter (suc n) k .octets)) (omega (arith, run-body (suc n) k)) in
-    rw (body-alone last (ran (suc n) k) (keptAfter (suc n) k .notes) (keptAfter (suc n) k .octets))
-    (period-fits last (ran (suc n) k) (keptAfter (suc n) k .notes) body
+    let r : RunAsPeriods k (suc n) = one-run k (suc n) h l m in
+    let last : ℕ = runAnswer (suc n) k .bus .periods .0 - 1 in
+    let body : List ℕ = take (runAnswer (suc n) k .body) (keptAfter (suc n) k .octets) in
+    let few : length body ≤ longestBody = rw (length-take (runAnswer (suc n) k .body) (keptAfter (suc n) k .octets)) (omega (arith, run-body (suc n) k)) in
+    rw (body-alone last (runAnswer (suc n) k) (keptAfter (suc n) k .notes) (keptAfter (suc n) k .octets))
+    (period-fits last (runAnswer (suc n) k) (keptAfter (suc n) k .notes) body
     (omega (arith, r .run, r .within)) (run-left (suc n) k (in-order 0 k h) .order .notes-fit) few)

@@ -7,8 +7,8 @@ use native.Mathlib.Omega.{arith}
 use lib.Dec.{eqb, ltb}
 use lib.ListN.{length, take, drop, getD, set, length-append, length-drop, length-set, take-append-drop}
 use borrow.Author.Tests.{eqb-true, eq-eqb, le-leb, leb-true, ltb-false}
-use Rattle.cases.proofs.ByCases.{by-test}
-use Rattle.cases.proofs.Operators.{and-both}
+use Rattle.test_lemmas.proofs.ByCases.{by-test}
+use Rattle.test_lemmas.proofs.Operators.{and-both}
 use Rattle.hdlc.specs.Bits.{bodyBits, octets}
 use Rattle.hdlc.specs.Image.{image, longestBody}
 use Rattle.hdlc.proofs.ImageLaws.{length-image, length-stuff-most, length-bodyBits}
@@ -18,24 +18,24 @@ use Rattle.terminal.specs.Terminal.{fresh}
 use Rattle.terminal.specs.Calls.{terminalInRange}
 use Rattle.terminal.specs.declared.Terminal.{Terminal}
 use Rattle.terminal.proofs.RangesKept.{fresh-in-range}
-use Rattle.bus.specs.Bus.{terminals}
-use Rattle.bus.specs.Event.{eventFor}
-use Rattle.cells.specs.Events.{D1, D2, HIT}
-use Rattle.bus.specs.Calls.{Call}
-use Rattle.bus.specs.Calls.Call.{event, period}
-use Rattle.listening.specs.Shown.{allInRange}
+use Rattle.bus_rules.specs.Bus.{terminals}
+use Rattle.bus_rules.specs.Event.{eventFor}
+use Rattle.notes_and_cells.specs.Events.{D1, D2, HIT}
+use Rattle.bus_rules.specs.Calls.{Call}
+use Rattle.bus_rules.specs.Calls.Call.{event, period}
+use Rattle.period_hearing.specs.Shown.{allInRange}
 use Rattle.bus_record.specs.Record.{recordInRange}
 use Rattle.bus_event.specs.Event.{imagesRoom, areLetters, firstReason, takenOver, imagePut, frameReason, imagesWith, networkTold, terminalTold}
 use Rattle.bus_event.specs.Event as parts
 use Rattle.bus_event.proofs.Laws.{event-record-kept, event-terminal-kept}
-use Rattle.call_rules.specs.Kept.{Kept, kept, settled}
-use Rattle.call_rules.specs.Ready.{eightInRange, lentFits, runReason, runReply}
-use Rattle.call_rules.specs.Run.{notYet, keptAfter}
-use Rattle.call_rules.specs.Event.{reason, eventTold, terminalsAfter, imagesAfter, lettersAfter}
-use Rattle.call_rules.specs.Lists.{told, called}
-use Rattle.call_rules.proofs.InOrder.{InOrder, in-order, one-left, order-reply, order-ranges, eight-in-range}
-use Rattle.call_rules.proofs.ReadyKept.{order-kept}
-use Rattle.call_rules.proofs.RunSingle.{period-single, stays, kept-ends}
+use Rattle.bus_call_specs.specs.Kept.{Kept, kept, settled}
+use Rattle.bus_call_specs.specs.Ready.{eightInRange, lentFits, runReason, runReply}
+use Rattle.bus_call_specs.specs.Run.{notYet, keptAfter}
+use Rattle.bus_call_specs.specs.Event.{reason, eventTold, terminalsAfter, imagesAfter, lettersAfter}
+use Rattle.bus_call_specs.specs.Lists.{told, called}
+use Rattle.bus_call_specs.proofs.InOrder.{InOrder, in-order, one-left, order-reply, order-ranges, eight-in-range}
+use Rattle.bus_call_specs.proofs.ReadyKept.{order-kept}
+use Rattle.bus_call_specs.proofs.RunSingle.{period-single, stays, kept-ends}
 use Rattle.report.specs.Told.{Ready, done, doneAll, StaysReady}
 
 -- ---- The images: whatever is put among them, of whatever octets, they are as many.

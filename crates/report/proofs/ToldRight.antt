@@ -1,14 +1,14 @@
--- What the program puts into the report is what document 01's rules give for the same calls: the lists of crate `call_rules` (specs/Lists.antt),
+-- What the program puts into the report is what document 01's rules give for the same calls: the lists of crate `bus_call_specs` (specs/Lists.antt),
 -- whose calls are all lent what they must be.
 use mathlib.Core.Path.{_≡_, refl}
 use mathlib.Core.List.{List, [], _∷_, map}
-use Rattle.bus.specs.Bus.{Bus, freshBus}
-use Rattle.bus.specs.Calls.{Call, after, ran, reply, notes}
-use Rattle.bus.specs.Calls.Call.{event, period}
-use Rattle.call_rules.specs.Kept.{Kept, settled}
-use Rattle.call_rules.specs.Lists.{callOf, finds, leftBy, isLent, Same, OctetValue, OctetValues, replied, notesTold, freshFound, lend}
-use Rattle.call_rules.proofs.Fitting.{always-fit, in-order}
-use Rattle.call_rules.proofs.Lists.{fresh-carries, lists-carried}
+use Rattle.bus_rules.specs.Bus.{Bus, freshBus}
+use Rattle.bus_rules.specs.Calls.{Call, after, afterAll, reply, notes}
+use Rattle.bus_rules.specs.Calls.Call.{event, period}
+use Rattle.bus_call_specs.specs.Kept.{Kept, settled}
+use Rattle.bus_call_specs.specs.Lists.{callOf, finds, leftBy, isLent, Same, OctetValue, OctetValues, replied, notesTold, freshFound, lend}
+use Rattle.bus_call_specs.proofs.Fitting.{always-fit, in-order}
+use Rattle.bus_call_specs.proofs.Lists.{fresh-carries, lists-carried}
 use Rattle.report.specs.Report.{refusedNotes, bookNotes, allBookNotes}
 use Rattle.report.specs.Told.{done, refusedTold, bookTold, allBookTold, ToldRight, FreshReady}
 use Rattle.report.proofs.Order.{order-ready}
@@ -52,7 +52,7 @@ told-same (c ∷ more) k e b v s =
 
 -- ---- the fresh record
 pub fresh-ready : FreshReady
-unfolding ran
+unfolding afterAll
 fresh-ready images octets letters i o l =
     let k = freshFound images octets letters in
     order-ready k (in-order k freshBus (fresh-carries images octets letters i o l) (always-fit []))

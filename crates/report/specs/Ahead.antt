@@ -5,10 +5,10 @@ use mathlib.Core.Path.{_≡_}
 use Prim.Native.Nat.{ℕ, _+_, _≤_, _<_}
 use lib.ListN.{length, take, drop}
 use Rattle.hdlc.specs.Image.{longestBody}
-use Rattle.bus.specs.Calls.{Call}
+use Rattle.bus_rules.specs.Calls.{Call}
 use Rattle.bus_event.specs.Event.{imagesRoom, areLetters}
-use Rattle.call_rules.specs.Kept.{Kept}
-use Rattle.call_rules.specs.Lists.{freshFound}
+use Rattle.bus_call_specs.specs.Kept.{Kept}
+use Rattle.bus_call_specs.specs.Lists.{freshFound}
 use Rattle.book_line.specs.Line.{longestLine}
 use Rattle.book_reader.specs.Book.{Answer}
 use Rattle.book_reader.specs.Step.{BEFORE-FIRST-LINE, stepAt}
@@ -16,12 +16,12 @@ use Rattle.book_reader.specs.Parts.{toCome, joined}
 use Rattle.book_reader.specs.declared.step.Step.{Step}
 use Rattle.note_text.specs.NoteText.{heading, notesText}
 use Rattle.period_text.specs.PeriodText.{periodRoom}
-use Rattle.report.specs.Report.{callsOf, stopOf, report, bookCalls}
+use Rattle.report.specs.Report.{callsOfAnswers, stopOf, report, bookCalls}
 use Rattle.report.specs.Told.{Ready, doneAll, allBookTold}
 
 -- How far a book has come. The last line's period is the number of periods run: the periods before a line are run up to its own. A stand on
 -- which periods are run while the book's first line is to come is none of a book from its beginning; its lines come after those periods.
-pub record Stand : Type 0 where
+pub record BookState : Type 0 where
   pub kept : Kept
   -- the stage of the book's reader (crate `book_reader`, specs/Step.antt)
   pub stage : ℕ
@@ -29,23 +29,23 @@ pub record Stand : Type 0 where
   pub begun : Bool
   pub over : Bool
 
-abbrev pub fresh : List ℕ → List ℕ → List ℕ → Stand
+abbrev pub fresh : List ℕ → List ℕ → List ℕ → BookState
 fresh images octets letters = record { kept = freshFound images octets letters; stage = BEFORE-FIRST-LINE; begun = false; over = false }
 
 -- ---- What is ahead, where these octets of the book are left.
-unfoldable pub answersAhead : Stand → List ℕ → List Answer
+unfoldable pub answersAhead : BookState → List ℕ → List Answer
 answersAhead s left = toCome (record { stage = s .stage; last = s .kept .bus .periods .0 }) left
 
 -- the calls
-unfoldable pub callsAhead : Stand → List ℕ → List Call
-callsAhead s left = cond (s .over) [] (callsOf (s .kept .bus .periods .0) (answersAhead s left))
+unfoldable pub callsAhead : BookState → List ℕ → List Call
+callsAhead s left = cond (s .over) [] (callsOfAnswers (s .kept .bus .periods .0) (answersAhead s left))
 
 -- the report's octets
-unfoldable pub textAhead : Stand → List ℕ → List ℕ
+unfoldable pub textAhead : BookState → List ℕ → List ℕ
 textAhead s left =
     cond (s .over) []
     (cond (s .begun) [] heading
-    ++ (notesText (allBookTold (s .kept) (callsOf (s .kept .bus .periods .0) (answersAhead s left))) ++ stopOf (answersAhead s left)))
+    ++ (notesText (allBookTold (s .kept) (callsOfAnswers (s .kept .bus .periods .0) (answersAhead s left))) ++ stopOf (answersAhead s left)))
 
 -- ---- One call with lent text and room. Why it stopped: 0 where it goes on.
 abbrev pub TEXT : ℕ
@@ -58,7 +58,7 @@ abbrev pub OVER : ℕ
 OVER = 3
 
 -- It has taken so many octets of the text and written so many into the room. `whole` says that no octets come later.
-pub record Advanced (s : Stand) (text room : List ℕ) (whole : Bool) (s′ : Stand) (taken wrote why : ℕ) (room′ : List ℕ) : Type 0 where
+pub record Advanced (s : BookState) (text room : List ℕ) (whole : Bool) (s′ : BookState) (taken wrote why : ℕ) (room′ : List ℕ) : Type 0 where
   -- the calls that it has made on the bus are the next ones, and it has left what they left
   pub made : List Call
   pub left : s′ .kept ≡ doneAll (s .kept) made
@@ -83,7 +83,7 @@ pub record Advanced (s : Stand) (text room : List ℕ) (whole : Bool) (s′ : St
   pub over-said : s′ .over ≡ true → why ≡ OVER
 
 -- so that it has stopped for one of these
-pub record Stopped (s : Stand) (text room : List ℕ) (whole : Bool) (s′ : Stand) (taken wrote why : ℕ) (room′ : List ℕ) : Type 0 where
+pub record Stopped (s : BookState) (text room : List ℕ) (whole : Bool) (s′ : BookState) (taken wrote why : ℕ) (room′ : List ℕ) : Type 0 where
   pub went : Advanced s text room whole s′ taken wrote why room′
   pub goes-not-on : why ≡ 0 → ⊥
   pub listed : why ≤ OVER
@@ -91,24 +91,24 @@ pub record Stopped (s : Stand) (text room : List ℕ) (whole : Bool) (s′ : Sta
 -- Where it stops for text less than a line is left: a buffer that holds a longest line has room for more (proofs/Driving.antt).
 abbrev pub TextFew : Type 0
 TextFew =
-    (s s′ : Stand) (text room room′ : List ℕ) (whole : Bool) (taken wrote why : ℕ)
+    (s s′ : BookState) (text room room′ : List ℕ) (whole : Bool) (taken wrote why : ℕ)
     → Advanced s text room whole s′ taken wrote why room′ → why ≡ TEXT → length (drop taken text) < longestLine
 
 -- ---- A driver: it lends what it holds and some room, takes away what was written, and adds a part of the book where text is needed; where
 -- no part is left it says that the text is whole. The octets written and the calls made, taken together. A driver that learns of the book's
 -- end by reading nothing has an empty last part.
-pub data Driven : Stand → List ℕ → Bool → List (List ℕ) → List ℕ → List Call → Type 0 where
-  over : {s : Stand} {held : List ℕ} {whole : Bool} {parts : List (List ℕ)} (room room′ : List ℕ) (s′ : Stand) (taken wrote : ℕ)
+pub data Driven : BookState → List ℕ → Bool → List (List ℕ) → List ℕ → List Call → Type 0 where
+  over : {s : BookState} {held : List ℕ} {whole : Bool} {parts : List (List ℕ)} (room room′ : List ℕ) (s′ : BookState) (taken wrote : ℕ)
       → (g : Stopped s held room whole s′ taken wrote OVER room′) → Driven s held whole parts (take wrote room′) (g .went .made)
-  emptied : {s : Stand} {held : List ℕ} {whole : Bool} {parts : List (List ℕ)} {w : List ℕ} {calls : List Call}
-      (room room′ : List ℕ) (s′ : Stand) (taken wrote : ℕ)
+  emptied : {s : BookState} {held : List ℕ} {whole : Bool} {parts : List (List ℕ)} {w : List ℕ} {calls : List Call}
+      (room room′ : List ℕ) (s′ : BookState) (taken wrote : ℕ)
       → (g : Stopped s held room whole s′ taken wrote ROOM room′) → Driven s′ (drop taken held) whole parts w calls
       → Driven s held whole parts (take wrote room′ ++ w) (g .went .made ++ calls)
-  filled : {s : Stand} {held part : List ℕ} {parts : List (List ℕ)} {w : List ℕ} {calls : List Call}
-      (room room′ : List ℕ) (s′ : Stand) (taken wrote : ℕ)
+  filled : {s : BookState} {held part : List ℕ} {parts : List (List ℕ)} {w : List ℕ} {calls : List Call}
+      (room room′ : List ℕ) (s′ : BookState) (taken wrote : ℕ)
       → (g : Stopped s held room false s′ taken wrote TEXT room′) → Driven s′ (drop taken held ++ part) false parts w calls
       → Driven s held false (part ∷ parts) (take wrote room′ ++ w) (g .went .made ++ calls)
-  told : {s : Stand} {held : List ℕ} {w : List ℕ} {calls : List Call} → Driven s held true [] w calls → Driven s held false [] w calls
+  told : {s : BookState} {held : List ℕ} {w : List ℕ} {calls : List Call} → Driven s held true [] w calls → Driven s held false [] w calls
 
 -- However the book is cut into parts and whatever room is lent each time: what is written is the report of the book, and the calls made are the
 -- book's (proofs/Driving.antt).
@@ -124,21 +124,21 @@ WrittenRight =
 
 -- ---- No driver goes on for ever from here: whatever parts come and whatever it lends, as long as the room holds the notes of a period each
 -- time, and whatever the calls do, as long as each does what `Stopped` says.
-pub data Ending : Stand → List ℕ → Bool → List (List ℕ) → Type 0 where
-  ending : {s : Stand} {held : List ℕ} {whole : Bool} {parts : List (List ℕ)}
-      → (emptied : (room room′ : List ℕ) (s′ : Stand) (taken wrote : ℕ) → periodRoom ≤ length room
+pub data Ending : BookState → List ℕ → Bool → List (List ℕ) → Type 0 where
+  ending : {s : BookState} {held : List ℕ} {whole : Bool} {parts : List (List ℕ)}
+      → (emptied : (room room′ : List ℕ) (s′ : BookState) (taken wrote : ℕ) → periodRoom ≤ length room
       → Stopped s held room whole s′ taken wrote ROOM room′ → Ending s′ (drop taken held) whole parts)
-      → (filled : (room room′ : List ℕ) (s′ : Stand) (taken wrote : ℕ) (part : List ℕ) (rest : List (List ℕ)) → parts ≡ part ∷ rest
+      → (filled : (room room′ : List ℕ) (s′ : BookState) (taken wrote : ℕ) (part : List ℕ) (rest : List (List ℕ)) → parts ≡ part ∷ rest
       → Stopped s held room whole s′ taken wrote TEXT room′ → Ending s′ (drop taken held ++ part) whole rest)
       → (told : whole ≡ false → parts ≡ [] → Ending s held true [])
       → Ending s held whole parts
 
 -- (proofs/Driving.antt)
 abbrev pub NoneGoesOn : Type 0
-NoneGoesOn = (s : Stand) (held : List ℕ) (parts : List (List ℕ)) → Ending s held false parts
+NoneGoesOn = (s : BookState) (held : List ℕ) (parts : List (List ℕ)) → Ending s held false parts
 
 -- ---- No call of a driver is refused: at first everything is in order, and so it is after each call (proofs/Driving.antt).
-abbrev pub Sound : Stand → Type 0
+abbrev pub Sound : BookState → Type 0
 Sound s = Ready (s .kept)
 
 abbrev pub FreshSound : Type 0
@@ -148,12 +148,12 @@ FreshSound =
 
 abbrev pub StaysSound : Type 0
 StaysSound =
-    (s s′ : Stand) (text room room′ : List ℕ) (whole : Bool) (taken wrote why : ℕ)
+    (s s′ : BookState) (text room room′ : List ℕ) (whole : Bool) (taken wrote why : ℕ)
     → Stopped s text room whole s′ taken wrote why room′ → Sound s → Sound s′
 
 -- A call for every argument that is not refused.
-pub record OneCall (s : Stand) (text room : List ℕ) (whole : Bool) : Type 0 where
-  pub after : Stand
+pub record OneCall (s : BookState) (text room : List ℕ) (whole : Bool) : Type 0 where
+  pub after : BookState
   pub taken : ℕ
   pub wrote : ℕ
   pub why : ℕ
@@ -161,9 +161,9 @@ pub record OneCall (s : Stand) (text room : List ℕ) (whole : Bool) : Type 0 wh
   pub stopped : Stopped s text room whole after taken wrote why room-after
 
 abbrev pub EveryCall : Type 0
-EveryCall = (s : Stand) (text room : List ℕ) (whole : Bool) → Sound s → OneCall s text room whole
+EveryCall = (s : BookState) (text room : List ℕ) (whole : Bool) → Sound s → OneCall s text room whole
 
-pub record Ends (s : Stand) (held : List ℕ) (whole : Bool) (parts : List (List ℕ)) : Type 0 where
+pub record Ends (s : BookState) (held : List ℕ) (whole : Bool) (parts : List (List ℕ)) : Type 0 where
   pub written : List ℕ
   pub made : List Call
   pub driven : Driven s held whole parts written made
@@ -172,4 +172,4 @@ pub record Ends (s : Stand) (held : List ℕ) (whole : Bool) (parts : List (List
 abbrev pub DriverEnds : Type 0
 DriverEnds =
     EveryCall → (room : List ℕ) → periodRoom ≤ length room
-    → (s : Stand) (held : List ℕ) (parts : List (List ℕ)) → Sound s → Ends s held false parts
+    → (s : BookState) (held : List ℕ) (parts : List (List ℕ)) → Sound s → Ends s held false parts

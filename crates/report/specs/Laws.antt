@@ -4,17 +4,17 @@ use mathlib.Core.Path.{_≡_}
 use Prim.Native.Nat.{ℕ, _-_, _≤_}
 use lib.ListN.{replicate}
 use Rattle.timing.specs.Counts.{mostPeriods}
-use Rattle.bus.specs.Bus.{Bus, freshBus}
-use Rattle.bus.specs.Calls.{Call, reply, after, ran}
-use Rattle.bus.specs.Calls.Call.{period}
-use Rattle.bus.specs.Stretch.{Stretch}
-use Rattle.bus.specs.Claims.{Claimed}
-use Rattle.call_rules.specs.Lists.{OctetValues}
+use Rattle.bus_rules.specs.Bus.{Bus, freshBus}
+use Rattle.bus_rules.specs.Calls.{Call, reply, after, afterAll}
+use Rattle.bus_rules.specs.Calls.Call.{period}
+use Rattle.bus_rules.specs.Stretch.{Stretch}
+use Rattle.bus_rules.specs.Claims.{Claimed}
+use Rattle.bus_call_specs.specs.Lists.{OctetValues}
 use Rattle.report.specs.Report.{bookCalls}
 
 -- the periods before a line's are run: the line finds the bus at its period (proofs/Books.antt)
 abbrev pub RunsToLine : Type 0
-RunsToLine = (b : Bus) (at : ℕ) → b .periods ≤ at → at ≤ mostPeriods → ran b (replicate (at - b .periods) period) .periods ≡ at
+RunsToLine = (b : Bus) (at : ℕ) → b .periods ≤ at → at ≤ mostPeriods → afterAll b (replicate (at - b .periods) period) .periods ≡ at
 
 -- "In a book, 3 to 8 become the note `refused`": a number that comes back is 0 or one of these. 1 and 2 are for a record out of its range and
 -- for what is lent, and a hit of right form has 48 letters.
@@ -36,12 +36,12 @@ NoneLate b (c ∷ more) = (reply b c ≡ 9 → ⊥) × NoneLate (after b c) more
 abbrev pub BooksInTime : Type 0
 BooksInTime = (book : List ℕ) → NoneLate freshBus (bookCalls book)
 
--- values are octets, so that the calls of the engine are for them (crate `call_rules`, specs/Lists.antt)
+-- values are octets, so that the calls of the engine are for them (crate `bus_call_specs`, specs/Lists.antt)
 abbrev pub BooksOctets : Type 0
 BooksOctets = (book : List ℕ) → OctetValues (bookCalls book)
 
--- Demand 3 speaks of every book: of every stretch of its calls (crate `bus`, specs/Claims.antt).
+-- Demand 3 speaks of every book: of every stretch of its calls (crate `bus_rules`, specs/Claims.antt).
 abbrev pub BookCalls : Type 0
 BookCalls =
     (book : List ℕ) (before during after : List Call) → bookCalls book ≡ before ++ (during ++ after)
-    → Stretch (ran freshBus before) during → Claimed before during after
+    → Stretch (afterAll freshBus before) during → Claimed before during after

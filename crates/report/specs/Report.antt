@@ -4,14 +4,14 @@ use mathlib.Core.List.{List, [], _∷_, _++_}
 use Prim.Native.Nat.{ℕ, _-_}
 use lib.Dec.{eqb}
 use lib.ListN.{replicate}
-use Rattle.cells.specs.Notes.{REFUSED}
+use Rattle.notes_and_cells.specs.Notes.{REFUSED}
 use Rattle.book_line.specs.Line.{isEnd}
 use Rattle.book_line.specs.Value.{valueOctets}
 use Rattle.book_reader.specs.Book.{Answer, answers}
 use Rattle.book_reader.specs.Book.Answer.{entry, fault}
-use Rattle.bus.specs.Bus.{Bus, Note, freshBus}
-use Rattle.bus.specs.Calls.{Call, reply, notes, after}
-use Rattle.bus.specs.Calls.Call.{event, period}
+use Rattle.bus_rules.specs.Bus.{Bus, Note, freshBus}
+use Rattle.bus_rules.specs.Calls.{Call, reply, notes, after}
+use Rattle.bus_rules.specs.Calls.Call.{event, period}
 use Rattle.note_text.specs.NoteText.{heading, notesText, stoppedLine}
 
 -- ---- "A book's events and periods make such a list": the calls on the bus that a book makes.
@@ -22,13 +22,13 @@ unfoldable pub callAt : ℕ → ℕ → List ℕ → List Call
 callAt unit number value = cond (isEnd unit number) [] (event unit number (valueOctets number value) ∷ [])
 
 -- where so many periods are run: those before a line's own are run, then comes the line
-unfoldable pub callsOf : ℕ → List Answer → List Call
-callsOf run [] = []
-callsOf run (fault number ∷ more) = []
-callsOf run (entry at unit number value ∷ more) = replicate (at - run) period ++ (callAt unit number value ++ callsOf at more)
+unfoldable pub callsOfAnswers : ℕ → List Answer → List Call
+callsOfAnswers run [] = []
+callsOfAnswers run (fault number ∷ more) = []
+callsOfAnswers run (entry at unit number value ∷ more) = replicate (at - run) period ++ (callAt unit number value ++ callsOfAnswers at more)
 
 unfoldable pub bookCalls : List ℕ → List Call
-bookCalls book = callsOf 0 (answers book)
+bookCalls book = callsOfAnswers 0 (answers book)
 
 -- ---- What a call puts into the report.
 

@@ -1,4 +1,4 @@
--- The same on the record and what is lent with it, as the program goes through a book: lists of calls of crate `call_rules`
+-- The same on the record and what is lent with it, as the program goes through a book: lists of calls of crate `bus_call_specs`
 -- (specs/Lists.antt) that are all lent what they must be (`lend` there). The notes of a period are taken at once: no call finds any of the
 -- one before.
 use mathlib.Core.Bool.{true, cond}
@@ -7,17 +7,17 @@ use mathlib.Core.Path.{_≡_}
 use Prim.Native.Nat.{ℕ, _+_, _-_, _≤_}
 use lib.Dec.{eqb}
 use lib.ListN.{length, replicate}
-use Rattle.cells.specs.Notes.{REFUSED}
+use Rattle.notes_and_cells.specs.Notes.{REFUSED}
 use Rattle.hdlc.specs.Image.{longestBody}
 use Rattle.timing.specs.Counts.{mostPeriods}
-use Rattle.bus.specs.Bus.{Note, freshBus}
-use Rattle.bus.specs.Calls.{Call}
-use Rattle.bus.specs.Calls.Call.{event, period}
+use Rattle.bus_rules.specs.Bus.{Note, freshBus}
+use Rattle.bus_rules.specs.Calls.{Call}
+use Rattle.bus_rules.specs.Calls.Call.{event, period}
 use Rattle.bus_event.specs.Event.{imagesRoom, areLetters}
-use Rattle.call_rules.specs.Kept.{Kept, settled}
-use Rattle.call_rules.specs.Ready.{runReply}
-use Rattle.call_rules.specs.Run.{ran, keptAfter}
-use Rattle.call_rules.specs.Lists.{called, replied, notesTold, periodTold, freshFound, OctetValues}
+use Rattle.bus_call_specs.specs.Kept.{Kept, settled}
+use Rattle.bus_call_specs.specs.Ready.{runReply}
+use Rattle.bus_call_specs.specs.Run.{runAnswer, keptAfter}
+use Rattle.bus_call_specs.specs.Lists.{called, replied, notesTold, periodTold, freshFound, OctetValues}
 use Rattle.note_text.specs.NoteText.{notesText}
 use Rattle.period_text.specs.PeriodText.{periodRoom}
 use Rattle.report.specs.Report.{allBookNotes}
@@ -65,21 +65,21 @@ StaysReady = (k : Kept) (calls : List Call) → Ready k → Ready (doneAll k cal
 
 -- ---- A run of at most n periods is that many calls of one, one at least, and the notes of its last period are all their notes
 -- (proofs/OneRun.antt).
-pub record RunsOn (k : Kept) (n : ℕ) : Type 0 where
+pub record RunAsPeriods (k : Kept) (n : ℕ) : Type 0 where
   pub count : ℕ
   pub some : 1 ≤ count
   pub within : count ≤ n
-  pub accepted : ran n k .reply ≡ 0
+  pub accepted : runAnswer n k .reply ≡ 0
   pub left : settled (keptAfter n k) ≡ doneAll k (replicate count period)
-  pub run : ran n k .bus .periods .0 ≡ k .bus .periods .0 + count
-  pub tells : periodTold (ran n k .bus .periods .0 - 1) (ran n k) (keptAfter n k .notes) (keptAfter n k .octets)
+  pub run : runAnswer n k .bus .periods .0 ≡ k .bus .periods .0 + count
+  pub tells : periodTold (runAnswer n k .bus .periods .0 - 1) (runAnswer n k) (keptAfter n k .notes) (keptAfter n k .octets)
       ≡ allBookTold k (replicate count period)
 
 abbrev pub OneRun : Type 0
-OneRun = (k : Kept) (n : ℕ) → Ready k → 1 ≤ n → k .bus .periods .0 + n ≤ mostPeriods → RunsOn k n
+OneRun = (k : Kept) (n : ℕ) → Ready k → 1 ≤ n → k .bus .periods .0 + n ≤ mostPeriods → RunAsPeriods k n
 
 -- the octets of a heard body that are printed, in room that holds a period's notes (proofs/OneRun.antt)
 abbrev pub RunFits : Type 0
 RunFits =
     (k : Kept) (n : ℕ) → Ready k → 1 ≤ n → k .bus .periods .0 + n ≤ mostPeriods
-    → length (notesText (periodTold (ran n k .bus .periods .0 - 1) (ran n k) (keptAfter n k .notes) (keptAfter n k .octets))) ≤ periodRoom
+    → length (notesText (periodTold (runAnswer n k .bus .periods .0 - 1) (runAnswer n k) (keptAfter n k .notes) (keptAfter n k .octets))) ≤ periodRoom

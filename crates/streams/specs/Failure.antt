@@ -5,7 +5,7 @@ use mathlib.Core.Path.{_≡_, refl}
 use Prim.Native.Nat.{ℕ}
 use lib.Dec.{eqb}
 use lib.IntN.{ℤ, pos, negsuc}
-use Rattle.cells.specs.Names.{ascii}
+use Rattle.notes_and_cells.specs.Names.{ascii}
 use Rattle.text.specs.Text.{LF}
 use Rattle.note_text.specs.NoteText.{decimal, decimalIn}
 

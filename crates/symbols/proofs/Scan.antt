@@ -10,7 +10,7 @@ use lib.Dec.{eqb}
 use lib.ListN.{length, drop, getD, drop-of-length-le}
 use lib.Seq.{drop-cons}
 use Rattle.symbols.specs.Symbols.{sameSymbols}
-use Rattle.cases.proofs.ByCases.{by-test}
+use Rattle.test_lemmas.proofs.ByCases.{by-test}
 
 pub record Rest {X : Type 0} (F : List ℕ → X) (s : List ℕ) (i : ℕ) : Type 0 where
   pub low : i ≤ length s

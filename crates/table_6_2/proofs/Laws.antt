@@ -7,26 +7,26 @@ use native.Mathlib.Omega.{arith}
 use lib.Dec.{eqb}
 use lib.ListN.{length}
 use borrow.Author.Tests.{eqb-true, ne-eqb}
-use Rattle.cells.specs.Notes.{packedNotes, noted}
-use Rattle.cells.specs.Cells.{rowOf, cellIn, cellOf, infoIn, stateAfter, cellNotes, isVoid}
-use Rattle.cells.specs.declared.cell.Cell.{Cell}
-use Rattle.cells.specs.declared.cell.Cell.the-variants.{To}
-use Rattle.cells.specs.declared.notes.Notes.{Notes}
-use Rattle.cells.proofs.Everywhere.{in-table, in-sent, at-state, at-event}
-use Rattle.cells.proofs.NextState.{alike, alike-is, nextTo, row-keeps}
-use Rattle.cells.proofs.NotesKept.{tidy, tidy-is, atMost, at-most-is, everyNote, isIndication, indications}
-use Rattle.table_6_2.specs.Table62.{table62, t3Expiry, signalReceived, infoSent, F1, F2, F3, F4, F5, F6, F7, F8, AR, T3-DUE, SIGNAL}
+use Rattle.notes_and_cells.specs.Notes.{packedNotes, noted}
+use Rattle.notes_and_cells.specs.Cells.{rowOf, cellIn, cellOf, infoIn, stateAfter, cellNotes, isVoid}
+use Rattle.notes_and_cells.specs.declared.cell.Cell.{Cell}
+use Rattle.notes_and_cells.specs.declared.cell.Cell.the-variants.{To}
+use Rattle.notes_and_cells.specs.declared.notes.Notes.{Notes}
+use Rattle.notes_and_cells.proofs.Everywhere.{in-table, in-sent, at-state, at-event}
+use Rattle.notes_and_cells.proofs.NextState.{alike, alike-is, nextTo, row-keeps}
+use Rattle.notes_and_cells.proofs.NotesKept.{tidy, tidy-is, atMost, at-most-is, everyNote, isIndication, indications}
+use Rattle.table_6_2.specs.Table62.{table62, t3Expiry, signalReceived, infoSent, F1, F2, F3, F4, F5, F6, F7, F8, AR-ROW, T3-ROW, SIGNAL-ROW}
 use Rattle.table_6_2.specs.States.{nextState, inF6OrF7, inF6OrF7After, inF1After}
 
 -- Refusal 5: "`ar` in F1, F2, F4, F5, F7" are the empty and the impossible cells of the request's row.
 pub ar-barred :
-    map (λ s. isVoid (cellOf table62 AR s)) (F1 ∷ F2 ∷ F3 ∷ F4 ∷ F5 ∷ F6 ∷ F7 ∷ F8 ∷ [])
+    map (λ s. isVoid (cellOf table62 AR-ROW s)) (F1 ∷ F2 ∷ F3 ∷ F4 ∷ F5 ∷ F6 ∷ F7 ∷ F8 ∷ [])
     ≡ true ∷ true ∷ false ∷ true ∷ true ∷ false ∷ true ∷ false ∷ []
 unfolding cellIn
 ar-barred = refl
 
 -- T3, where it is due, leads neither into F7 nor out of it.
-pub t3-keeps-F7 : (s : ℕ) → eqb (stateAfter (cellOf table62 T3-DUE s) s) F7 ≡ eqb s F7
+pub t3-keeps-F7 : (s : ℕ) → eqb (stateAfter (cellOf table62 T3-ROW s) s) F7 ≡ eqb s F7
 t3-keeps-F7 s = row-keeps F7 t3Expiry refl s
 
 -- Every cell leads to one of F1 to F8.
@@ -75,7 +75,7 @@ module _ (e s : ℕ) (low : F1 ≤ s) (high : s ≤ length (rowOf table62 e)) wh
       (at-event (λ e s c. alike (eqb (stateAfter c s) F1) (inF1After e s)) table62 refl e s low high)
 
 -- A signal leads from F4 to F5, and from no other state.
-pub after-signal : (s : ℕ) → F1 ≤ s → s ≤ F8 → nextState SIGNAL s ≡ cond (eqb s F4) F5 s
+pub after-signal : (s : ℕ) → F1 ≤ s → s ≤ F8 → nextState SIGNAL-ROW s ≡ cond (eqb s F4) F5 s
 after-signal s low high =
-    eqb-true (nextState SIGNAL s) (cond (eqb s F4) F5 s)
+    eqb-true (nextState SIGNAL-ROW s) (cond (eqb s F4) F5 s)
     (at-state (λ s c. eqb (stateAfter c s) (cond (eqb s F4) F5 s)) signalReceived refl s low high)

@@ -2,8 +2,8 @@
 use mathlib.Core.Bool.{Bool, true, false, cond, not}
 use Prim.Native.Nat.{ℕ}
 use lib.Dec.{eqb}
-use Rattle.cells.specs.Cells.{cellOf, stateAfter}
-use Rattle.table_6_2.specs.Table62.{table62, F1, F6, F7, ON, OFF, INFO-0, INFO-2, INFO-4, LOSS}
+use Rattle.notes_and_cells.specs.Cells.{cellOf, stateAfter}
+use Rattle.table_6_2.specs.Table62.{table62, F1, F6, F7, ON-ROW, OFF-ROW, INFO-0-ROW, INFO-2-ROW, INFO-4-ROW, LOSS-ROW}
 
 -- The state that an event leads to.
 abbrev pub nextState : ℕ → ℕ → ℕ
@@ -17,11 +17,11 @@ inF6OrF7 state = cond (eqb state F6) true (eqb state F7)
 -- no other event leads in or out.
 abbrev pub inF6OrF7After : ℕ → ℕ → Bool
 inF6OrF7After event state =
-    cond (eqb event INFO-0) false
-    (cond (eqb event LOSS) false
-    (cond (eqb event OFF) false
-    (cond (eqb event INFO-2) (not (eqb state F1)) (cond (eqb event INFO-4) (not (eqb state F1)) (inF6OrF7 state)))))
+    cond (eqb event INFO-0-ROW) false
+    (cond (eqb event LOSS-ROW) false
+    (cond (eqb event OFF-ROW) false
+    (cond (eqb event INFO-2-ROW) (not (eqb state F1)) (cond (eqb event INFO-4-ROW) (not (eqb state F1)) (inF6OrF7 state)))))
 
 -- Whether it leads to F1: power on leads out, power off leads there, and no other event leads in or out.
 abbrev pub inF1After : ℕ → ℕ → Bool
-inF1After event state = cond (eqb event ON) false (cond (eqb event OFF) true (eqb state F1))
+inF1After event state = cond (eqb event ON-ROW) false (cond (eqb event OFF-ROW) true (eqb state F1))

@@ -2,9 +2,9 @@
 -- printed. PH-AI is PH-ACT, PH-DI is PH-DEACT, MPH-AI is MPH-ACT, MPH-DI is MPH-DEACT. "ST,T3" starts T3, "S/R T3" stops it.
 use mathlib.Core.List.{List, [], _∷_}
 use Prim.Native.Nat.{ℕ}
-use Rattle.cells.specs.Notes.{PH-ACT, PH-DEACT, MPH-ACT, MPH-DEACT, MPH-EI1, MPH-EI2, MPH-II-CONNECTED, MPH-II-DISCONNECTED}
-use Rattle.cells.specs.Cells.{to, starts-to, stops-to, stay, stay-with, impossible, absent}
-use Rattle.cells.specs.declared.cell.Cell.{Cell}
+use Rattle.notes_and_cells.specs.Notes.{PH-ACT, PH-DEACT, MPH-ACT, MPH-DEACT, MPH-EI1, MPH-EI2, MPH-II-CONNECTED, MPH-II-DISCONNECTED}
+use Rattle.notes_and_cells.specs.Cells.{to, starts-to, stops-to, stay, stay-with, impossible, absent}
+use Rattle.notes_and_cells.specs.declared.cell.Cell.{Cell}
 
 -- The numbers of the states.
 abbrev pub F1 : ℕ
@@ -112,29 +112,29 @@ abbrev pub table62 : List (List Cell)
 table62 = powerOn ∷ powerOff ∷ activationRequest ∷ t3Expiry ∷ info0Received ∷ signalReceived ∷ info2Received ∷ info4Received ∷ alignmentLost ∷ []
 
 -- The numbers of the events.
-abbrev pub ON : ℕ
-ON = 1
+abbrev pub ON-ROW : ℕ
+ON-ROW = 1
 
-abbrev pub OFF : ℕ
-OFF = 2
+abbrev pub OFF-ROW : ℕ
+OFF-ROW = 2
 
-abbrev pub AR : ℕ
-AR = 3
+abbrev pub AR-ROW : ℕ
+AR-ROW = 3
 
-abbrev pub T3-DUE : ℕ
-T3-DUE = 4
+abbrev pub T3-ROW : ℕ
+T3-ROW = 4
 
-abbrev pub INFO-0 : ℕ
-INFO-0 = 5
+abbrev pub INFO-0-ROW : ℕ
+INFO-0-ROW = 5
 
-abbrev pub SIGNAL : ℕ
-SIGNAL = 6
+abbrev pub SIGNAL-ROW : ℕ
+SIGNAL-ROW = 6
 
-abbrev pub INFO-2 : ℕ
-INFO-2 = 7
+abbrev pub INFO-2-ROW : ℕ
+INFO-2-ROW = 7
 
-abbrev pub INFO-4 : ℕ
-INFO-4 = 8
+abbrev pub INFO-4-ROW : ℕ
+INFO-4-ROW = 8
 
-abbrev pub LOSS : ℕ
-LOSS = 9
+abbrev pub LOSS-ROW : ℕ
+LOSS-ROW = 9

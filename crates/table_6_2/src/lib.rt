@@ -1,22 +1,22 @@
 // Table 6-2 of JT-I430: what a terminal in a state, F1 to F8, does at an event. The cells stand row by row in specs/Table62.antt.
 ghost use mathlib.Core.Path.{_≡_};
-ghost use Rattle.cells.specs.Cells.{cellIn, cellOf, infoIn};
+ghost use Rattle.notes_and_cells.specs.Cells.{cellIn, cellOf, infoIn};
 ghost use Rattle.table_6_2.specs.Table62 as table;
-use cells::cell::Cell;
-use cells::cell::KEEP;
-use cells::cell::NO_NOTES;
-use cells::cell::START;
-use cells::cell::STAY;
-use cells::cell::STOP;
-use cells::notes::MPH_ACT;
-use cells::notes::MPH_DEACT;
-use cells::notes::MPH_EI1;
-use cells::notes::MPH_EI2;
-use cells::notes::MPH_II_CONNECTED;
-use cells::notes::MPH_II_DISCONNECTED;
-use cells::notes::Notes;
-use cells::notes::PH_ACT;
-use cells::notes::PH_DEACT;
+use notes_and_cells::cell::Cell;
+use notes_and_cells::cell::KEEP;
+use notes_and_cells::cell::NO_NOTES;
+use notes_and_cells::cell::START;
+use notes_and_cells::cell::STAY;
+use notes_and_cells::cell::STOP;
+use notes_and_cells::notes::MPH_ACT;
+use notes_and_cells::notes::MPH_DEACT;
+use notes_and_cells::notes::MPH_EI1;
+use notes_and_cells::notes::MPH_EI2;
+use notes_and_cells::notes::MPH_II_CONNECTED;
+use notes_and_cells::notes::MPH_II_DISCONNECTED;
+use notes_and_cells::notes::Notes;
+use notes_and_cells::notes::PH_ACT;
+use notes_and_cells::notes::PH_DEACT;
 
 // The numbers of the states.
 pub const F1: u8 = 1;
@@ -36,38 +36,38 @@ pub const F7: u8 = 7;
 pub const F8: u8 = 8;
 
 // The numbers of the events, in the order of the table's rows.
-pub const ON: u8 = 1;
+pub const ON_ROW: u8 = 1;
 
-pub const OFF: u8 = 2;
+pub const OFF_ROW: u8 = 2;
 
-pub const AR: u8 = 3;
+pub const AR_ROW: u8 = 3;
 
-pub const T3_DUE: u8 = 4;
+pub const T3_ROW: u8 = 4;
 
-pub const INFO_0: u8 = 5;
+pub const INFO_0_ROW: u8 = 5;
 
-pub const SIGNAL: u8 = 6;
+pub const SIGNAL_ROW: u8 = 6;
 
-pub const INFO_2: u8 = 7;
+pub const INFO_2_ROW: u8 = 7;
 
-pub const INFO_4: u8 = 8;
+pub const INFO_4_ROW: u8 = 8;
 
-pub const LOSS: u8 = 9;
+pub const LOSS_ROW: u8 = 9;
 
 // The cell at an event and a state, for every number: what is no event or no state has an impossible cell.
 pub fn cell(event: u8, state: u8) -> Cell
     ensures { λ r. ⌜ r ≡ cellOf table.table62 event state ⌝ }
 {
     match event {
-        ON => power_on(state),
-        OFF => power_off(state),
-        AR => activation_request(state),
-        T3_DUE => t3_expiry(state),
-        INFO_0 => info_0_received(state),
-        SIGNAL => signal_received(state),
-        INFO_2 => info_2_received(state),
-        INFO_4 => info_4_received(state),
-        LOSS => alignment_lost(state),
+        ON_ROW => power_on(state),
+        OFF_ROW => power_off(state),
+        AR_ROW => activation_request(state),
+        T3_ROW => t3_expiry(state),
+        INFO_0_ROW => info_0_received(state),
+        SIGNAL_ROW => signal_received(state),
+        INFO_2_ROW => info_2_received(state),
+        INFO_4_ROW => info_4_received(state),
+        LOSS_ROW => alignment_lost(state),
         _ => Cell::Impossible,
     }
 }

@@ -2,9 +2,9 @@
 -- G4, as printed; the loss row as annex IV's tests 16 and 23 have it (docs/DECISIONS.md, reading 10: the scan lost a cell). The optional notes of its note 3 are given.
 use mathlib.Core.List.{List, [], _∷_}
 use Prim.Native.Nat.{ℕ}
-use Rattle.cells.specs.Notes.{PH-ACT, PH-DEACT, MPH-ACT, MPH-DEACT, MPH-EI}
-use Rattle.cells.specs.Cells.{to, starts-to, stops-to, starts-T2-to, stay, impossible, absent}
-use Rattle.cells.specs.declared.cell.Cell.{Cell}
+use Rattle.notes_and_cells.specs.Notes.{PH-ACT, PH-DEACT, MPH-ACT, MPH-DEACT, MPH-EI}
+use Rattle.notes_and_cells.specs.Cells.{to, starts-to, stops-to, starts-T2-to, stay, impossible, absent}
+use Rattle.notes_and_cells.specs.declared.cell.Cell.{Cell}
 
 -- The numbers of the states.
 abbrev pub G1 : ℕ
@@ -60,26 +60,26 @@ abbrev pub table63 : List (List Cell)
 table63 = activationRequest ∷ deactivationRequest ∷ t1Expiry ∷ t2Expiry ∷ info0Received ∷ info1Received ∷ info3Received ∷ alignmentLost ∷ []
 
 -- The numbers of the events.
-abbrev pub AR : ℕ
-AR = 1
+abbrev pub AR-ROW : ℕ
+AR-ROW = 1
 
-abbrev pub DR : ℕ
-DR = 2
+abbrev pub DR-ROW : ℕ
+DR-ROW = 2
 
-abbrev pub T1-DUE : ℕ
-T1-DUE = 3
+abbrev pub T1-ROW : ℕ
+T1-ROW = 3
 
-abbrev pub T2-DUE : ℕ
-T2-DUE = 4
+abbrev pub T2-ROW : ℕ
+T2-ROW = 4
 
-abbrev pub INFO-0 : ℕ
-INFO-0 = 5
+abbrev pub INFO-0-ROW : ℕ
+INFO-0-ROW = 5
 
-abbrev pub INFO-1 : ℕ
-INFO-1 = 6
+abbrev pub INFO-1-ROW : ℕ
+INFO-1-ROW = 6
 
-abbrev pub INFO-3 : ℕ
-INFO-3 = 7
+abbrev pub INFO-3-ROW : ℕ
+INFO-3-ROW = 7
 
-abbrev pub LOSS : ℕ
-LOSS = 8
+abbrev pub LOSS-ROW : ℕ
+LOSS-ROW = 8

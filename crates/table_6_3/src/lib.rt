@@ -1,20 +1,20 @@
 // Table 6-3 of JT-I430: what the network end in a state, G1 to G4, does at an event. The cells stand row by row in specs/Table63.antt.
 ghost use mathlib.Core.Path.{_≡_};
-ghost use Rattle.cells.specs.Cells.{cellIn, cellOf, infoIn};
+ghost use Rattle.notes_and_cells.specs.Cells.{cellIn, cellOf, infoIn};
 ghost use Rattle.table_6_3.specs.Table63 as table;
-use cells::cell::Cell;
-use cells::cell::KEEP;
-use cells::cell::NO_NOTES;
-use cells::cell::START;
-use cells::cell::START_T2;
-use cells::cell::STAY;
-use cells::cell::STOP;
-use cells::notes::MPH_ACT;
-use cells::notes::MPH_DEACT;
-use cells::notes::MPH_EI;
-use cells::notes::Notes;
-use cells::notes::PH_ACT;
-use cells::notes::PH_DEACT;
+use notes_and_cells::cell::Cell;
+use notes_and_cells::cell::KEEP;
+use notes_and_cells::cell::NO_NOTES;
+use notes_and_cells::cell::START;
+use notes_and_cells::cell::START_T2;
+use notes_and_cells::cell::STAY;
+use notes_and_cells::cell::STOP;
+use notes_and_cells::notes::MPH_ACT;
+use notes_and_cells::notes::MPH_DEACT;
+use notes_and_cells::notes::MPH_EI;
+use notes_and_cells::notes::Notes;
+use notes_and_cells::notes::PH_ACT;
+use notes_and_cells::notes::PH_DEACT;
 
 // The numbers of the states.
 pub const G1: u8 = 1;
@@ -26,35 +26,35 @@ pub const G3: u8 = 3;
 pub const G4: u8 = 4;
 
 // The numbers of the events, in the order of the table's rows.
-pub const AR: u8 = 1;
+pub const AR_ROW: u8 = 1;
 
-pub const DR: u8 = 2;
+pub const DR_ROW: u8 = 2;
 
-pub const T1_DUE: u8 = 3;
+pub const T1_ROW: u8 = 3;
 
-pub const T2_DUE: u8 = 4;
+pub const T2_ROW: u8 = 4;
 
-pub const INFO_0: u8 = 5;
+pub const INFO_0_ROW: u8 = 5;
 
-pub const INFO_1: u8 = 6;
+pub const INFO_1_ROW: u8 = 6;
 
-pub const INFO_3: u8 = 7;
+pub const INFO_3_ROW: u8 = 7;
 
-pub const LOSS: u8 = 8;
+pub const LOSS_ROW: u8 = 8;
 
 // The cell at an event and a state, for every number: what is no event or no state has an impossible cell.
 pub fn cell(event: u8, state: u8) -> Cell
     ensures { λ r. ⌜ r ≡ cellOf table.table63 event state ⌝ }
 {
     match event {
-        AR => activation_request(state),
-        DR => deactivation_request(state),
-        T1_DUE => t1_expiry(state),
-        T2_DUE => t2_expiry(state),
-        INFO_0 => info_0_received(state),
-        INFO_1 => info_1_received(state),
-        INFO_3 => info_3_received(state),
-        LOSS => alignment_lost(state),
+        AR_ROW => activation_request(state),
+        DR_ROW => deactivation_request(state),
+        T1_ROW => t1_expiry(state),
+        T2_ROW => t2_expiry(state),
+        INFO_0_ROW => info_0_received(state),
+        INFO_1_ROW => info_1_received(state),
+        INFO_3_ROW => info_3_received(state),
+        LOSS_ROW => alignment_lost(state),
         _ => Cell::Impossible,
     }
 }

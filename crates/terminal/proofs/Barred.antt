@@ -3,30 +3,30 @@ use mathlib.Core.Path.{_≡_, refl}
 use mathlib.Core.Bool.{true, cond, not}
 use Prim.Native.Nat.{ℕ, _≤_}
 use lib.Dec.{eqb}
-use Rattle.cases.proofs.ByCases.{by-test, both}
-use Rattle.cells.specs.Cells.{rowOf, cellOf, isVoid}
-use Rattle.cells.specs.declared.cell.Cell.{Cell}
-use Rattle.cells.specs.declared.cell.Cell.the-variants.{To, Stay, Impossible, Absent}
-use Rattle.cells.proofs.Everywhere.{at-state}
-use Rattle.cells.proofs.NextState.{alike, alike-is}
+use Rattle.test_lemmas.proofs.ByCases.{by-test, both}
+use Rattle.notes_and_cells.specs.Cells.{rowOf, cellOf, isVoid}
+use Rattle.notes_and_cells.specs.declared.cell.Cell.{Cell}
+use Rattle.notes_and_cells.specs.declared.cell.Cell.the-variants.{To, Stay, Impossible, Absent}
+use Rattle.notes_and_cells.proofs.Everywhere.{at-state}
+use Rattle.notes_and_cells.proofs.NextState.{alike, alike-is}
 use Rattle.dchannel.specs.declared.access.Access.{Access}
-use Rattle.table_6_2.specs.Table62.{table62, F1, F8, AR}
+use Rattle.table_6_2.specs.Table62.{table62, F1, F8, AR-ROW}
 use Rattle.timing.specs.Counts.{periodsInRange}
 use Rattle.timing.specs.declared.counts.Periods.{Periods}
-use Rattle.alignment.specs.Alignment.{gained, lost, followed}
+use Rattle.alignment.specs.Alignment.{framedToGain, unframedToLose, followed}
 use Rattle.alignment.specs.declared.Alignment.{Alignment}
 use Rattle.alignment.specs.declared.Followed.{Followed}
-use Rattle.hearing.specs.Heard.{downwardEvent}
-use Rattle.hearing.specs.declared.heard.Downward.{Downward}
+use Rattle.heard_line.specs.Heard.{downwardEvent}
+use Rattle.heard_line.specs.declared.heard.Downward.{Downward}
 use Rattle.terminal.specs.Terminal.{unchanged, acts, happens, aligned, bars, requests, heardAs, hears}
-use Rattle.terminal.specs.Calls.{terminalInRange, ready, checked, requested, heard}
+use Rattle.terminal.specs.Calls.{terminalInRange, ready, checked, requestCall, hearCall}
 use Rattle.terminal.specs.declared.Terminal.{Terminal}
 use Rattle.terminal.specs.declared.TerminalStep.{TerminalStep}
 use Rattle.terminal.proofs.RangesKept.{terminal-fits}
 
-pub void-ar : (s : ℕ) → F1 ≤ s → s ≤ F8 → isVoid (cellOf table62 AR s) ≡ bars AR s
+pub void-ar : (s : ℕ) → F1 ≤ s → s ≤ F8 → isVoid (cellOf table62 AR-ROW s) ≡ bars AR-ROW s
 unfolding bars
-void-ar s low high = alike-is _ _ (at-state (λ s c. alike (isVoid c) (bars AR s)) (rowOf table62 AR) refl s low high)
+void-ar s low high = alike-is _ _ (at-state (λ s c. alike (isVoid c) (bars AR-ROW s)) (rowOf table62 AR-ROW) refl s low high)
 
 -- ---- what the code's step gives, with the reply at a cell that is impossible or empty
 acts-void : (c : Cell) (now : ℕ) (t : Terminal) → cond (isVoid c) (unchanged 0 t) (acts c now t) ≡ acts c now t
@@ -48,12 +48,12 @@ happens-void e now t3 access state alignment = acts-void (cellOf table62 e state
 
 -- 0: a line heard, over what the calls in between gave
 pub heard-is : (line : Downward) (now : Periods) (t : Terminal) {f : Followed} {e : ℕ} {r : TerminalStep} →
-    f ≡ followed gained lost (line .pulse) (line .framed) (t .alignment) → e ≡ downwardEvent line f →
+    f ≡ followed framedToGain unframedToLose (line .pulse) (line .framed) (t .alignment) → e ≡ downwardEvent line f →
     r ≡ cond (ready now t)
     (cond (not (eqb (t .state) F1))
     (cond (isVoid (cellOf table62 e (t .state))) (unchanged 0 (fields (t .t3) (t .access) (t .state) (f .alignment))) (happens e (now .0) (fields (t .t3) (t .access) (t .state) (f .alignment))))
     (unchanged 0 t))
-    (unchanged 1 t) → r ≡ heard line now t
+    (unchanged 1 t) → r ≡ hearCall line now t
 unfolding checked hears heardAs aligned
 heard-is line now t {f} {e} pf pe h =
     by-test (eqb (t .state) F1)
@@ -66,7 +66,7 @@ unfolding ready
 ready-fits now t h = both (terminalInRange t) (periodsInRange now) h .0
 
 pub asked : (now : Periods) (t : Terminal) {r : TerminalStep} →
-    r ≡ cond (ready now t) (cond (isVoid (cellOf table62 AR (t .state))) (unchanged 5 t) (happens AR (now .0) t)) (unchanged 1 t) → r ≡ requested now t
+    r ≡ cond (ready now t) (cond (isVoid (cellOf table62 AR-ROW (t .state))) (unchanged 5 t) (happens AR-ROW (now .0) t)) (unchanged 1 t) → r ≡ requestCall now t
 unfolding checked requests
 asked now t h =
     by-test (ready now t)

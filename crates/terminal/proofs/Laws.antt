@@ -7,25 +7,25 @@ use native.Mathlib.Omega.{arith}
 use lib.Dec.{eqb}
 use lib.ListN.{length, length-append}
 use borrow.Author.Tests.{le-leb}
-use Rattle.cases.proofs.ByCases.{by-test}
-use Rattle.cells.specs.Notes.{DROPPED1, DROPPED2, packedNotes, noted}
-use Rattle.cells.specs.Cells.{cellOf, stateAfter, cellNotes}
-use Rattle.cells.specs.declared.cell.Cell.{Cell}
-use Rattle.cells.specs.declared.cell.Cell.the-variants.{To, Stay, Impossible, Absent}
-use Rattle.cells.proofs.NotesKept.{noted-packed, everyNote, every-append, every-of, isIndication}
+use Rattle.test_lemmas.proofs.ByCases.{by-test}
+use Rattle.notes_and_cells.specs.Notes.{DROPPED1, DROPPED2, packedNotes, noted}
+use Rattle.notes_and_cells.specs.Cells.{cellOf, stateAfter, cellNotes}
+use Rattle.notes_and_cells.specs.declared.cell.Cell.{Cell}
+use Rattle.notes_and_cells.specs.declared.cell.Cell.the-variants.{To, Stay, Impossible, Absent}
+use Rattle.notes_and_cells.proofs.NotesKept.{noted-packed, everyNote, every-append, every-of, isIndication}
 use Rattle.dchannel.specs.declared.access.Access.{Access}
 use Rattle.dchannel.specs.declared.access.Class.{Class}
-use Rattle.table_6_2.specs.Table62.{table62, F1, F7, ON, OFF, AR, T3-DUE}
+use Rattle.table_6_2.specs.Table62.{table62, F1, F7, ON-ROW, OFF-ROW, AR-ROW, T3-ROW}
 use Rattle.table_6_2.specs.States.{nextState}
 use Rattle.table_6_2.proofs.Laws.{notes-three, notes-indications, t3-keeps-F7}
 use Rattle.timing.specs.Counts.{mostPeriods, atPeriod}
 use Rattle.timing.specs.Timers.{due}
-use Rattle.alignment.specs.Alignment.{gained, lost, followed}
-use Rattle.hearing.specs.Heard.{downwardEvent}
+use Rattle.alignment.specs.Alignment.{framedToGain, unframedToLose, followed}
+use Rattle.heard_line.specs.Heard.{downwardEvent}
 use Rattle.alignment.specs.declared.Followed.{Followed}
-use Rattle.hearing.specs.declared.heard.Downward.{Downward}
+use Rattle.heard_line.specs.declared.heard.Downward.{Downward}
 use Rattle.terminal.specs.Terminal.{accessAfter, droppedNote, moved, acts, happens, aligned, noTimer, bars, switchesOn, switchesOff, requests, handsOver, holding, timer, heardAs, hears}
-use Rattle.terminal.specs.Calls.{terminalInRange, ready, checked, switchedOn, switchedOff, requested, timerDue, heard, handedOver}
+use Rattle.terminal.specs.Calls.{terminalInRange, ready, checked, switchOnCall, switchOffCall, requestCall, timerCall, hearCall, handOverCall}
 use Rattle.terminal.specs.declared.Terminal.{Terminal}
 use Rattle.terminal.specs.declared.TerminalStep.{TerminalStep}
 
@@ -35,23 +35,23 @@ unfolding checked ready
 checked-called step now t l h = rw (h, le-leb now mostPeriods l)
 
 module _ (now : ℕ) (t : Terminal) (l : now ≤ mostPeriods) (h : terminalInRange t ≡ true) where
-  pub switched-on-called : switchedOn (atPeriod now) t ≡ switchesOn now t
+  pub switched-on-called : switchOnCall (atPeriod now) t ≡ switchesOn now t
   switched-on-called = checked-called switchesOn now t l h
 
-  pub switched-off-called : switchedOff (atPeriod now) t ≡ switchesOff now t
+  pub switched-off-called : switchOffCall (atPeriod now) t ≡ switchesOff now t
   switched-off-called = checked-called switchesOff now t l h
 
-  pub requested-called : requested (atPeriod now) t ≡ requests now t
+  pub requested-called : requestCall (atPeriod now) t ≡ requests now t
   requested-called = checked-called requests now t l h
 
-  pub timer-due-called : timerDue (atPeriod now) t ≡ timer now t
+  pub timer-due-called : timerCall (atPeriod now) t ≡ timer now t
   timer-due-called = checked-called timer now t l h
 
-  pub heard-called : (line : Downward) → heard line (atPeriod now) t ≡ hears line now t
+  pub heard-called : (line : Downward) → hearCall line (atPeriod now) t ≡ hears line now t
   heard-called line = checked-called (hears line) now t l h
 
-pub handed-over-called : (class : Class) (n : ℕ) (t : Terminal) → terminalInRange t ≡ true → handedOver class n t ≡ handsOver class n t
-unfolding handedOver
+pub handed-over-called : (class : Class) (n : ℕ) (t : Terminal) → terminalInRange t ≡ true → handOverCall class n t ≡ handsOver class n t
+unfolding handOverCall
 handed-over-called class n t h = rw h
 
 -- ---- what an event does to the fields
@@ -101,15 +101,15 @@ module _ (now : ℕ) (t : Terminal) where
 
   pub switches-on-access : AccessByState (switchesOn now) t
   unfolding switchesOn happens aligned
-  switches-on-access = by-test (bars ON (t .state)) (λ e. rw (e, stays (t .state) (t .access))) (λ e. rw e (acts-access _ now _))
+  switches-on-access = by-test (bars ON-ROW (t .state)) (λ e. rw (e, stays (t .state) (t .access))) (λ e. rw e (acts-access _ now _))
 
   pub switches-off-access : AccessByState (switchesOff now) t
   unfolding switchesOff happens noTimer
-  switches-off-access = by-test (bars OFF (t .state)) (λ e. rw (e, stays (t .state) (t .access))) (λ e. rw e (acts-access _ now _))
+  switches-off-access = by-test (bars OFF-ROW (t .state)) (λ e. rw (e, stays (t .state) (t .access))) (λ e. rw e (acts-access _ now _))
 
   pub requests-access : AccessByState (requests now) t
   unfolding requests
-  requests-access = by-test (bars AR (t .state)) (λ e. rw (e, stays (t .state) (t .access))) (λ e. rw e (happens-access AR))
+  requests-access = by-test (bars AR-ROW (t .state)) (λ e. rw (e, stays (t .state) (t .access))) (λ e. rw e (happens-access AR-ROW))
 
   pub timer-access : AccessByState (timer now) t
   unfolding timer happens noTimer
@@ -122,7 +122,7 @@ module _ (now : ℕ) (t : Terminal) where
 -- T3, where it is due, leads neither into F7 nor out of it, and so leaves the access alone.
 pub timer-keeps-F7 : (now : ℕ) (t : Terminal) → eqb (timer now t .terminal .state) F7 ≡ eqb (t .state) F7
 unfolding timer noTimer
-timer-keeps-F7 now t = by-test (due (t .t3) now) (λ e. rw (e, happens-state now _ T3-DUE) (t3-keeps-F7 (t .state))) (λ e. rw e)
+timer-keeps-F7 now t = by-test (due (t .t3) now) (λ e. rw (e, happens-state now _ T3-ROW) (t3-keeps-F7 (t .state))) (λ e. rw e)
 
 kept-access : (from next : ℕ) (a : Access) → eqb next F7 ≡ eqb from F7 → accessAfter from next a ≡ record { access = a; dropped = 0 }
 unfolding accessAfter
@@ -160,7 +160,7 @@ happens-notes e now t = acts-notes (cellOf table62 e (t .state)) now t (notes-th
 
 -- A powered terminal hears a line: the event that it is, with the state, the alignment and the notes.
 abbrev pub following : Downward → Terminal → Followed
-following line t = followed gained lost (line .pulse) (line .framed) (t .alignment)
+following line t = followed framedToGain unframedToLose (line .pulse) (line .framed) (t .alignment)
 
 abbrev pub eventHeard : Downward → Terminal → ℕ
 eventHeard line t = downwardEvent line (following line t)
@@ -179,10 +179,10 @@ module _ (line : Downward) (now : ℕ) (t : Terminal) (on : eqb (t .state) F1 �
   hears-notes = rw on (happens-notes (eventHeard line t) now _)
 
 -- T3, where it is due, drops no frame: its notes are the cell's.
-pub timer-notes : (now : ℕ) (t : Terminal) → due (t .t3) now ≡ true → noted (timer now t .notes) ≡ noted (cellNotes (cellOf table62 T3-DUE (t .state)))
+pub timer-notes : (now : ℕ) (t : Terminal) → due (t .t3) now ≡ true → noted (timer now t .notes) ≡ noted (cellNotes (cellOf table62 T3-ROW (t .state)))
 unfolding timer noTimer droppedNote
 timer-notes now t d =
-    rw (d, happens-notes T3-DUE now (record { t3 = 0; access = t .access; state = t .state; alignment = t .alignment }), kept-access (t .state) (nextState T3-DUE (t .state)) (t .access) (t3-keeps-F7 (t .state)))
+    rw (d, happens-notes T3-ROW now (record { t3 = 0; access = t .access; state = t .state; alignment = t .alignment }), kept-access (t .state) (nextState T3-ROW (t .state)) (t .access) (t3-keeps-F7 (t .state)))
 
 -- Every note is an indication of table 6-2, DROPPED1 or DROPPED2.
 abbrev pub isTerminalNote : ℕ → Bool
@@ -204,19 +204,19 @@ happens-told e now t =
 module _ (now : ℕ) (t : Terminal) where
   pub on-told : Told (switchesOn now t)
   unfolding switchesOn everyNote noted
-  on-told = by-test (bars ON (t .state)) (λ e. rw e) (λ e. rw e (happens-told ON now _))
+  on-told = by-test (bars ON-ROW (t .state)) (λ e. rw e) (λ e. rw e (happens-told ON-ROW now _))
 
   pub off-told : Told (switchesOff now t)
   unfolding switchesOff everyNote noted
-  off-told = by-test (bars OFF (t .state)) (λ e. rw e) (λ e. rw e (happens-told OFF now _))
+  off-told = by-test (bars OFF-ROW (t .state)) (λ e. rw e) (λ e. rw e (happens-told OFF-ROW now _))
 
   pub requests-told : Told (requests now t)
   unfolding requests everyNote noted
-  requests-told = by-test (bars AR (t .state)) (λ e. rw e) (λ e. rw e (happens-told AR now t))
+  requests-told = by-test (bars AR-ROW (t .state)) (λ e. rw e) (λ e. rw e (happens-told AR-ROW now t))
 
   pub timer-told : Told (timer now t)
   unfolding timer everyNote noted
-  timer-told = by-test (due (t .t3) now) (λ e. rw e (happens-told T3-DUE now _)) (λ e. rw e)
+  timer-told = by-test (due (t .t3) now) (λ e. rw e (happens-told T3-ROW now _)) (λ e. rw e)
 
   pub hears-told : (line : Downward) → Told (hears line now t)
   unfolding hears heardAs everyNote noted

@@ -5,22 +5,22 @@ use Prim.Native.Nat.{ℕ, _+_, _≤_}
 use native.Mathlib.Omega.{arith}
 use lib.Dec.{ltb, eqb}
 use borrow.Author.Tests.{le-ltb, ltb-false, leb-true}
-use Rattle.cases.proofs.ByCases.{by-test, both, neither}
-use Rattle.cases.proofs.Operators.{and-cond}
-use Rattle.cells.specs.Cells.{cellOf}
-use Rattle.cells.specs.declared.cell.Cell.{Cell}
-use Rattle.cells.specs.declared.cell.Cell.the-variants.{To, Stay, Impossible, Absent}
-use Rattle.cells.proofs.NextState.{nextTo, next-fits}
-use Rattle.table_6_2.specs.Table62.{table62, F1, F7, F8, ON, OFF, AR, T3-DUE}
+use Rattle.test_lemmas.proofs.ByCases.{by-test, both, neither}
+use Rattle.test_lemmas.proofs.Operators.{and-cond}
+use Rattle.notes_and_cells.specs.Cells.{cellOf}
+use Rattle.notes_and_cells.specs.declared.cell.Cell.{Cell}
+use Rattle.notes_and_cells.specs.declared.cell.Cell.the-variants.{To, Stay, Impossible, Absent}
+use Rattle.notes_and_cells.proofs.NextState.{nextTo, next-fits}
+use Rattle.table_6_2.specs.Table62.{table62, F1, F7, F8, ON-ROW, OFF-ROW, AR-ROW, T3-ROW}
 use Rattle.table_6_2.proofs.Laws.{next-state}
 use Rattle.timing.specs.Counts.{mostPeriods, periodsInRange}
 use Rattle.timing.specs.Timers.{T3, due}
 use Rattle.timing.specs.declared.counts.Periods.{Periods}
 use Rattle.timing.proofs.RangesKept.{timer-at-most}
-use Rattle.alignment.specs.Alignment.{lost, alignmentInRange}
+use Rattle.alignment.specs.Alignment.{unframedToLose, alignmentInRange}
 use Rattle.alignment.specs.Alignment as alignment
 use Rattle.alignment.specs.declared.Alignment.{Alignment}
-use Rattle.hearing.specs.declared.heard.Downward.{Downward}
+use Rattle.heard_line.specs.declared.heard.Downward.{Downward}
 use Rattle.alignment.proofs.Alignments.{followed-in-range}
 use Rattle.dchannel.specs.Access.{normal2}
 use Rattle.dchannel.specs.Handing.{handed}
@@ -29,7 +29,7 @@ use Rattle.dchannel.specs.declared.access.Access.{Access}
 use Rattle.dchannel.specs.declared.access.Class.{Class}
 use Rattle.dchannel.proofs.RangesKept as dchannel
 use Rattle.terminal.specs.Terminal.{fresh, accessAfter, acts, moved, happens, aligned, noTimer, bars, switchesOn, switchesOff, requests, holding, handsOver, timer, heardAs, hears}
-use Rattle.terminal.specs.Calls.{terminalInRange, ready, checked, switchedOn, switchedOff, requested, timerDue, heard, handedOver}
+use Rattle.terminal.specs.Calls.{terminalInRange, ready, checked, switchOnCall, switchOffCall, requestCall, timerCall, hearCall, handOverCall}
 use Rattle.terminal.specs.declared.Terminal.{Terminal}
 use Rattle.terminal.specs.declared.TerminalStep.{TerminalStep}
 
@@ -120,26 +120,26 @@ module _ (now : ℕ) (l : now ≤ mostPeriods) where
   on-fits : (t : Terminal) → TerminalFits t → StepFits (switchesOn now t)
   unfolding switchesOn
   on-fits t f =
-      by-test (bars ON (t .state)) (λ e. rw e f) (λ e. rw e (happens-fits ON (aligned alignment.fresh t) (aligned-fits alignment.fresh t refl f)))
+      by-test (bars ON-ROW (t .state)) (λ e. rw e f) (λ e. rw e (happens-fits ON-ROW (aligned alignment.fresh t) (aligned-fits alignment.fresh t refl f)))
 
   off-fits : (t : Terminal) → TerminalFits t → StepFits (switchesOff now t)
   unfolding switchesOff
-  off-fits t f = by-test (bars OFF (t .state)) (λ e. rw e f) (λ e. rw e (happens-fits OFF (noTimer t) (no-timer-fits t f)))
+  off-fits t f = by-test (bars OFF-ROW (t .state)) (λ e. rw e f) (λ e. rw e (happens-fits OFF-ROW (noTimer t) (no-timer-fits t f)))
 
   requests-fits : (t : Terminal) → TerminalFits t → StepFits (requests now t)
   unfolding requests
-  requests-fits t f = by-test (bars AR (t .state)) (λ e. rw e f) (λ e. rw e (happens-fits AR t f))
+  requests-fits t f = by-test (bars AR-ROW (t .state)) (λ e. rw e f) (λ e. rw e (happens-fits AR-ROW t f))
 
   timer-fits : (t : Terminal) → TerminalFits t → StepFits (timer now t)
   unfolding timer
-  timer-fits t f = by-test (due (t .t3) now) (λ e. rw e (happens-fits T3-DUE (noTimer t) (no-timer-fits t f))) (λ e. rw e f)
+  timer-fits t f = by-test (due (t .t3) now) (λ e. rw e (happens-fits T3-ROW (noTimer t) (no-timer-fits t f))) (λ e. rw e f)
 
   hears-fits : (line : Downward) (t : Terminal) → TerminalFits t → StepFits (hears line now t)
   unfolding hears heardAs
   hears-fits line t f =
       by-test (eqb (t .state) F1)
       (λ e. rw e f)
-      (λ e. rw e (happens-fits _ _ (aligned-fits _ t (followed-in-range lost (omega arith) (t .alignment) (line .pulse) (line .framed)) f)))
+      (λ e. rw e (happens-fits _ _ (aligned-fits _ t (followed-in-range unframedToLose (omega arith) (t .alignment) (line .pulse) (line .framed)) f)))
 
 -- A record that is ready has a period in range.
 pub ready-now : (now : Periods) (t : Terminal) → ready now t ≡ true → now .0 ≤ mostPeriods
@@ -161,23 +161,23 @@ checked-in-range step fits now t h =
     (λ e. rw e h)
 
 module _ (now : Periods) (t : Terminal) (h : terminalInRange t ≡ true) where
-  pub switched-on-in-range : terminalInRange (switchedOn now t .terminal) ≡ true
+  pub switched-on-in-range : terminalInRange (switchOnCall now t .terminal) ≡ true
   switched-on-in-range = checked-in-range switchesOn on-fits now t h
 
-  pub switched-off-in-range : terminalInRange (switchedOff now t .terminal) ≡ true
+  pub switched-off-in-range : terminalInRange (switchOffCall now t .terminal) ≡ true
   switched-off-in-range = checked-in-range switchesOff off-fits now t h
 
-  pub requested-in-range : terminalInRange (requested now t .terminal) ≡ true
+  pub requested-in-range : terminalInRange (requestCall now t .terminal) ≡ true
   requested-in-range = checked-in-range requests requests-fits now t h
 
-  pub timer-due-in-range : terminalInRange (timerDue now t .terminal) ≡ true
+  pub timer-due-in-range : terminalInRange (timerCall now t .terminal) ≡ true
   timer-due-in-range = checked-in-range timer timer-fits now t h
 
-  pub heard-in-range : (line : Downward) → terminalInRange (heard line now t .terminal) ≡ true
+  pub heard-in-range : (line : Downward) → terminalInRange (hearCall line now t .terminal) ≡ true
   heard-in-range line = checked-in-range (hears line) (λ now l. hears-fits now l line) now t h
 
-pub handed-over-in-range : (class : Class) (n : ℕ) (t : Terminal) → terminalInRange t ≡ true → terminalInRange (handedOver class n t .terminal) ≡ true
-unfolding handedOver handsOver holding
+pub handed-over-in-range : (class : Class) (n : ℕ) (t : Terminal) → terminalInRange t ≡ true → terminalInRange (handOverCall class n t .terminal) ≡ true
+unfolding handOverCall handsOver holding
 handed-over-in-range class n t h =
     rw h
     (by-test (eqb (t .state) F7)

@@ -11,7 +11,7 @@ use Rattle.timing.specs.Counts.{mostPeriods, periodsInRange}
 use Rattle.timing.specs.Timers.{T3}
 use Rattle.timing.specs.declared.counts.Periods.{Periods}
 use Rattle.alignment.specs.Alignment.{alignmentInRange}
-use Rattle.hearing.specs.declared.heard.Downward.{Downward}
+use Rattle.heard_line.specs.declared.heard.Downward.{Downward}
 use Rattle.terminal.specs.Terminal.{unchanged, switchesOn, switchesOff, requests, handsOver, timer, hears}
 use Rattle.terminal.specs.declared.Terminal.{Terminal}
 use Rattle.terminal.specs.declared.TerminalStep.{TerminalStep}
@@ -31,21 +31,21 @@ ready now t = cond (terminalInRange t) (periodsInRange now) false
 unfoldable pub checked : (ℕ → Terminal → TerminalStep) → Periods → Terminal → TerminalStep
 checked step now t = cond (ready now t) (step (now .0) t) (unchanged 1 t)
 
-abbrev pub switchedOn : Periods → Terminal → TerminalStep
-switchedOn now t = checked switchesOn now t
+abbrev pub switchOnCall : Periods → Terminal → TerminalStep
+switchOnCall now t = checked switchesOn now t
 
-abbrev pub switchedOff : Periods → Terminal → TerminalStep
-switchedOff now t = checked switchesOff now t
+abbrev pub switchOffCall : Periods → Terminal → TerminalStep
+switchOffCall now t = checked switchesOff now t
 
-abbrev pub requested : Periods → Terminal → TerminalStep
-requested now t = checked requests now t
+abbrev pub requestCall : Periods → Terminal → TerminalStep
+requestCall now t = checked requests now t
 
-abbrev pub timerDue : Periods → Terminal → TerminalStep
-timerDue now t = checked timer now t
+abbrev pub timerCall : Periods → Terminal → TerminalStep
+timerCall now t = checked timer now t
 
-abbrev pub heard : Downward → Periods → Terminal → TerminalStep
-heard line now t = checked (hears line) now t
+abbrev pub hearCall : Downward → Periods → Terminal → TerminalStep
+hearCall line now t = checked (hears line) now t
 
 -- Handing a frame over takes no period.
-unfoldable pub handedOver : Class → ℕ → Terminal → TerminalStep
-handedOver class n t = cond (terminalInRange t) (handsOver class n t) (unchanged 1 t)
+unfoldable pub handOverCall : Class → ℕ → Terminal → TerminalStep
+handOverCall class n t = cond (terminalInRange t) (handsOver class n t) (unchanged 1 t)

@@ -11,18 +11,18 @@ use Rattle.dchannel.specs.declared.access.Access.{Access}
 use Rattle.dchannel.specs.declared.access.Class.{Class}
 use Rattle.dchannel.specs.declared.access.Handed.{Handed}
 use Rattle.dchannel.specs.declared.access.Left.{Left}
-use Rattle.cells.specs.Notes.{DROPPED1, DROPPED2, packedNotes, noted}
-use Rattle.cells.specs.Cells.{cellOf}
-use Rattle.cells.specs.declared.cell.Cell.{Cell}
-use Rattle.cells.specs.declared.cell.Cell.the-variants.{To, Stay, Impossible, Absent}
-use Rattle.table_6_2.specs.Table62.{table62, F1, F2, F4, F5, F7, ON, OFF, AR, T3-DUE}
+use Rattle.notes_and_cells.specs.Notes.{DROPPED1, DROPPED2, packedNotes, noted}
+use Rattle.notes_and_cells.specs.Cells.{cellOf}
+use Rattle.notes_and_cells.specs.declared.cell.Cell.{Cell}
+use Rattle.notes_and_cells.specs.declared.cell.Cell.the-variants.{To, Stay, Impossible, Absent}
+use Rattle.table_6_2.specs.Table62.{table62, F1, F2, F4, F5, F7, ON-ROW, OFF-ROW, AR-ROW, T3-ROW}
 use Rattle.timing.specs.Timers.{T3, due, timerAfter}
-use Rattle.alignment.specs.Alignment.{gained, lost, followed}
+use Rattle.alignment.specs.Alignment.{framedToGain, unframedToLose, followed}
 use Rattle.alignment.specs.Alignment as alignment
-use Rattle.hearing.specs.Heard.{downwardEvent}
+use Rattle.heard_line.specs.Heard.{downwardEvent}
 use Rattle.alignment.specs.declared.Alignment.{Alignment}
 use Rattle.alignment.specs.declared.Followed.{Followed}
-use Rattle.hearing.specs.declared.heard.Downward.{Downward}
+use Rattle.heard_line.specs.declared.heard.Downward.{Downward}
 use Rattle.terminal.specs.declared.Terminal.{Terminal}
 use Rattle.terminal.specs.declared.TerminalStep.{TerminalStep}
 
@@ -86,21 +86,21 @@ noTimer t = record { t3 = 0; access = t .access; state = t .state; alignment = t
 -- F1, `ar` in F1, F2, F4, F5, F7".
 unfoldable pub bars : ℕ → ℕ → Bool
 bars event state =
-    cond (eqb event ON) (not (eqb state F1))
-    (cond (eqb event OFF) (eqb state F1)
-    (cond (eqb event AR) (eqb state F1 || eqb state F2 || eqb state F4 || eqb state F5 || eqb state F7) false))
+    cond (eqb event ON-ROW) (not (eqb state F1))
+    (cond (eqb event OFF-ROW) (eqb state F1)
+    (cond (eqb event AR-ROW) (eqb state F1 || eqb state F2 || eqb state F4 || eqb state F5 || eqb state F7) false))
 
 -- `on`: it "finds it unaligned with no run".
 unfoldable pub switchesOn : ℕ → Terminal → TerminalStep
-switchesOn now t = cond (bars ON (t .state)) (unchanged 5 t) (happens ON now (aligned alignment.fresh t))
+switchesOn now t = cond (bars ON-ROW (t .state)) (unchanged 5 t) (happens ON-ROW now (aligned alignment.fresh t))
 
 -- `off`: "Power off stops T3."
 unfoldable pub switchesOff : ℕ → Terminal → TerminalStep
-switchesOff now t = cond (bars OFF (t .state)) (unchanged 5 t) (happens OFF now (noTimer t))
+switchesOff now t = cond (bars OFF-ROW (t .state)) (unchanged 5 t) (happens OFF-ROW now (noTimer t))
 
 -- `ar`, the request for activation.
 unfoldable pub requests : ℕ → Terminal → TerminalStep
-requests now t = cond (bars AR (t .state)) (unchanged 5 t) (happens AR now t)
+requests now t = cond (bars AR-ROW (t .state)) (unchanged 5 t) (happens AR-ROW now t)
 
 -- What the access answers to a hand-over, taken into the record.
 unfoldable pub holding : Handed → Terminal → TerminalStep
@@ -117,7 +117,7 @@ handsOver class n t = cond (eqb (t .state) F7) (holding (handed class n (t .acce
 
 -- The start of a period: T3, spent whatever the cell (docs/DECISIONS.md, reading 12), where it is due.
 unfoldable pub timer : ℕ → Terminal → TerminalStep
-timer now t = cond (due (t .t3) now) (happens T3-DUE now (noTimer t)) (unchanged 0 t)
+timer now t = cond (due (t .t3) now) (happens T3-ROW now (noTimer t)) (unchanged 0 t)
 
 -- A period is heard: alignment follows it, and then comes what the line is. "One in F1 hears nothing."
 unfoldable pub heardAs : Downward → Followed → ℕ → Terminal → TerminalStep
@@ -127,4 +127,4 @@ unfoldable pub hears : Downward → ℕ → Terminal → TerminalStep
 hears line now t =
     cond (eqb (t .state) F1)
     (unchanged 0 t)
-    (heardAs line (followed gained lost (line .pulse) (line .framed) (t .alignment)) now t)
+    (heardAs line (followed framedToGain unframedToLose (line .pulse) (line .framed) (t .alignment)) now t)

@@ -2,29 +2,29 @@
 ghost use mathlib.Core.Path.{_≡_};
 ghost use mathlib.Core.Bool.{cond};
 ghost use mathlib.Core.List.{_++_};
-ghost use Rattle.cells.specs.declared.cell.Cell.the-variants.{To};
-ghost use Rattle.cells.specs.Cells.{cellOf, isVoid};
-ghost use Rattle.cells.specs.Notes.{packedNotes, noted};
+ghost use Rattle.notes_and_cells.specs.declared.cell.Cell.the-variants.{To};
+ghost use Rattle.notes_and_cells.specs.Cells.{cellOf, isVoid};
+ghost use Rattle.notes_and_cells.specs.Notes.{packedNotes, noted};
 ghost use Rattle.table_6_2.specs.Table62.{table62};
 ghost use Rattle.terminal.specs.Calls as calls;
 ghost use Rattle.terminal.specs.Terminal as spec;
 use alignment::Alignment;
-use cells::cell::Cell;
-use cells::cell::NO_NOTES;
-use cells::notes::DROPPED1;
-use cells::notes::DROPPED2;
-use cells::notes::Notes;
 use dchannel::access::Access;
 use dchannel::access::Class;
 use dchannel::access::Left;
-use hearing::heard::Downward;
-use table_6_2::AR;
+use heard_line::heard::Downward;
+use notes_and_cells::cell::Cell;
+use notes_and_cells::cell::NO_NOTES;
+use notes_and_cells::notes::DROPPED1;
+use notes_and_cells::notes::DROPPED2;
+use notes_and_cells::notes::Notes;
+use table_6_2::AR_ROW;
 use table_6_2::F1;
 use table_6_2::F7;
 use table_6_2::F8;
-use table_6_2::OFF;
-use table_6_2::ON;
-use table_6_2::T3_DUE;
+use table_6_2::OFF_ROW;
+use table_6_2::ON_ROW;
+use table_6_2::T3_ROW;
 use table_6_2::cell;
 use timing::counts::MOST_PERIODS;
 use timing::counts::Periods;
@@ -82,28 +82,36 @@ impl Terminal {
 
     // Power on, barred with 5 outside F1; it finds the terminal unaligned.
     pub fn switch_on(self, now: Periods) -> TerminalStep
-        ensures { λ r. ⌜ r ≡ calls.switchedOn now self ⌝ }
+        ensures { λ r. ⌜ r ≡ calls.switchOnCall now self ⌝ }
     {
-        self.when(self.state == F1, 5, self.t3, Alignment::fresh(), 0, ON, now)
+        self.when(
+            self.state == F1,
+            5,
+            self.t3,
+            Alignment::fresh(),
+            0,
+            ON_ROW,
+            now,
+        )
     }
 
     // Power off, barred with 5 in F1; T3 is stopped.
     pub fn switch_off(self, now: Periods) -> TerminalStep
-        ensures { λ r. ⌜ r ≡ calls.switchedOff now self ⌝ }
+        ensures { λ r. ⌜ r ≡ calls.switchOffCall now self ⌝ }
     {
-        self.when(self.state != F1, 5, 0, self.alignment, 0, OFF, now)
+        self.when(self.state != F1, 5, 0, self.alignment, 0, OFF_ROW, now)
     }
 
     // `ar`, the request for activation, barred with 5 where its cell is impossible or empty.
     pub fn request(self, now: Periods) -> TerminalStep
-        ensures { λ r. ⌜ r ≡ calls.requested now self ⌝ }
+        ensures { λ r. ⌜ r ≡ calls.requestCall now self ⌝ }
     {
-        self.when(true, 0, self.t3, self.alignment, 5, AR, now)
+        self.when(true, 0, self.t3, self.alignment, 5, AR_ROW, now)
     }
 
     // A frame of a class is handed over, in F7 (else 6); its image has so many bits.
     pub fn hand_over(self, class: Class, length: u16) -> TerminalStep
-        ensures { λ r. ⌜ r ≡ calls.handedOver class length self ⌝ }
+        ensures { λ r. ⌜ r ≡ calls.handOverCall class length self ⌝ }
     {
         if self.in_range() {
             if self.state == F7 {
@@ -121,14 +129,14 @@ impl Terminal {
 
     // The start of a period: T3, where it is due, is spent.
     pub fn timer_due(self, now: Periods) -> TerminalStep
-        ensures { λ r. ⌜ r ≡ calls.timerDue now self ⌝ }
+        ensures { λ r. ⌜ r ≡ calls.timerCall now self ⌝ }
     {
-        self.when(due(self.t3, now), 0, 0, self.alignment, 0, T3_DUE, now)
+        self.when(due(self.t3, now), 0, 0, self.alignment, 0, T3_ROW, now)
     }
 
     // A period's downward line is heard; one in F1 hears nothing.
     pub fn hear(self, line: Downward, now: Periods) -> TerminalStep
-        ensures { λ r. ⌜ r ≡ calls.heard line now self ⌝ }
+        ensures { λ r. ⌜ r ≡ calls.hearCall line now self ⌝ }
     {
         let f = self.alignment.follow(line.pulse, line.framed);
         self.when(

@@ -7,7 +7,7 @@ use lib.Dec.{ltb, leb}
 use lib.ListN.{length, getD, take, drop, length-drop, drop-of-length-le}
 use borrow.Author.Tests.{ltb-true, ltb-false, leb-true, leb-false}
 use denote.Ref.{RefT, now}
-use Rattle.cases.proofs.ByCases.{by-test}
+use Rattle.test_lemmas.proofs.ByCases.{by-test}
 use Rattle.text.specs.Text.{space, split, upto, fields, field}
 use Rattle.text.specs.Part.{IsPart}
 use Rattle.text.specs.Fields.{fieldStart, fieldEnd, endsOf, fieldFrom, fieldTo}

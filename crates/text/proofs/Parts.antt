@@ -8,7 +8,7 @@ use lib.ListN.{length, take, drop, length-drop, drop-of-length-le}
 use lib.Seq.{take-all, take-nil, drop-drop, length-take-le}
 use borrow.Author.Tests.{ltb-true, ltb-false}
 use denote.Ref.{RefT, ptr, now}
-use Rattle.cases.proofs.ByCases.{by-test}
+use Rattle.test_lemmas.proofs.ByCases.{by-test}
 use Rattle.text.specs.Part.{IsPart, PartIsOne, PartLies, partBegin, partEnd}
 
 -- what is cut out from `from` to `to` is the same where both go no farther than the text

@@ -9,7 +9,7 @@ use lib.Dec.{eqb, ltb, leb·suc-suc}
 use lib.ListN.{length, getD, take, drop, length-drop, drop-of-length-le}
 use lib.Seq.{drop-cons, drop-drop}
 use borrow.Author.Tests.{eq-eqb, ne-eqb, lt-ltb, le-ltb}
-use Rattle.cases.proofs.ByCases.{by-test, clash}
+use Rattle.test_lemmas.proofs.ByCases.{by-test, clash}
 use Rattle.symbols.proofs.Scan.{Rest, rest-here, rest-next, rest-done, Tested, tested-next, tested-done, same-symbols-short}
 use Rattle.text.specs.Text.{onto, split, upto, same, all, isOther}
 

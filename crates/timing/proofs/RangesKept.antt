@@ -5,8 +5,8 @@ use Prim.Native.Nat.{ℕ, _+_, _*_, _≤_, _<_}
 use native.Mathlib.Omega.{arith}
 use lib.Dec.{eqb}
 use borrow.Author.Tests.{leb-true, leb-false, le-leb, ne-eqb}
-use Rattle.cases.proofs.ByCases.{by-test}
-use Rattle.cells.specs.Cells.{START, STOP}
+use Rattle.test_lemmas.proofs.ByCases.{by-test}
+use Rattle.notes_and_cells.specs.Cells.{START, STOP}
 use Rattle.timing.specs.Counts.{mostPeriods, periodsInRange, opportunitiesInRange, allRun, nextPeriod, fourMore}
 use Rattle.timing.specs.Timers.{due, startedBy, timerAfter}
 use Rattle.timing.specs.declared.counts.Periods.{Periods}

@@ -2,7 +2,7 @@
 use mathlib.Core.Bool.{Bool, false, cond}
 use Prim.Native.Nat.{ℕ, _+_}
 use lib.Dec.{eqb}
-use Rattle.cells.specs.Cells.{START, STOP}
+use Rattle.notes_and_cells.specs.Cells.{START, STOP}
 
 -- "T1 and T3 are 120,000 periods, T2 is 200"
 abbrev pub T1 : ℕ

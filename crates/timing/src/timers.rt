@@ -3,8 +3,8 @@ ghost use mathlib.Core.Path.{_≡_};
 ghost use Rattle.timing.specs.Timers.{due, startedBy, timerAfter};
 ghost use Rattle.timing.specs.Clear.{clear};
 use super::counts::Periods;
-use cells::cell::START;
-use cells::cell::STOP;
+use notes_and_cells::cell::START;
+use notes_and_cells::cell::STOP;
 
 pub const T1: u32 = 120_000;
 

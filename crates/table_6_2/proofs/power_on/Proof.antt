@@ -1,6 +1,6 @@
 use borrow.Author.Needs.{needs}
 use Rattle.table_6_2.specs.Table62.{powerOn}
-use Rattle.cells.proofs.Rows.{settled}
+use Rattle.notes_and_cells.proofs.Rows.{settled}
 use Rattle.table_6_2.proofs.power_on.Statement.{statement}
 use Rattle.table_6_2.proofs.power_on.Tie as tie
 

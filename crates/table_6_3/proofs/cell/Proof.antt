@@ -1,5 +1,5 @@
-use Rattle.table_6_3.specs.Table63.{table63, AR, DR, T1-DUE, T2-DUE, INFO-0, INFO-1, INFO-3, LOSS}
-use Rattle.cells.proofs.Rows.{row-at, no-row}
+use Rattle.table_6_3.specs.Table63.{table63, AR-ROW, DR-ROW, T1-ROW, T2-ROW, INFO-0-ROW, INFO-1-ROW, INFO-3-ROW, LOSS-ROW}
+use Rattle.notes_and_cells.proofs.Rows.{row-at, no-row}
 use borrow.Author.Needs.{needs}
 use Rattle.table_6_3.proofs.cell.Statement.{statement}
 use Rattle.table_6_3.proofs.cell.Tie as tie
@@ -29,28 +29,28 @@ alignment-lost-requires : tie.Need-alignment-lost-requires
 alignment-lost-requires c κs = search needs
 
 returns : tie.Need-returns
-returns c = row-at table63 _ _ AR (c .before .match .keys1) (c .activation-request .ensures)
+returns c = row-at table63 _ _ AR-ROW (c .before .match .keys1) (c .activation-request .ensures)
 
 returns-2 : tie.Need-returns-2
-returns-2 c = row-at table63 _ _ DR (c .before .match .keys2) (c .deactivation-request .ensures)
+returns-2 c = row-at table63 _ _ DR-ROW (c .before .match .keys2) (c .deactivation-request .ensures)
 
 returns-3 : tie.Need-returns-3
-returns-3 c = row-at table63 _ _ T1-DUE (c .before .match .keys3) (c .t1-expiry .ensures)
+returns-3 c = row-at table63 _ _ T1-ROW (c .before .match .keys3) (c .t1-expiry .ensures)
 
 returns-4 : tie.Need-returns-4
-returns-4 c = row-at table63 _ _ T2-DUE (c .before .match .keys4) (c .t2-expiry .ensures)
+returns-4 c = row-at table63 _ _ T2-ROW (c .before .match .keys4) (c .t2-expiry .ensures)
 
 returns-5 : tie.Need-returns-5
-returns-5 c = row-at table63 _ _ INFO-0 (c .before .match .keys5) (c .info-0-received .ensures)
+returns-5 c = row-at table63 _ _ INFO-0-ROW (c .before .match .keys5) (c .info-0-received .ensures)
 
 returns-6 : tie.Need-returns-6
-returns-6 c = row-at table63 _ _ INFO-1 (c .before .match .keys6) (c .info-1-received .ensures)
+returns-6 c = row-at table63 _ _ INFO-1-ROW (c .before .match .keys6) (c .info-1-received .ensures)
 
 returns-7 : tie.Need-returns-7
-returns-7 c = row-at table63 _ _ INFO-3 (c .before .match .keys7) (c .info-3-received .ensures)
+returns-7 c = row-at table63 _ _ INFO-3-ROW (c .before .match .keys7) (c .info-3-received .ensures)
 
 returns-8 : tie.Need-returns-8
-returns-8 c = row-at table63 _ _ LOSS (c .before .match .keys8) (c .alignment-lost .ensures)
+returns-8 c = row-at table63 _ _ LOSS-ROW (c .before .match .keys8) (c .alignment-lost .ensures)
 
 returns-9 : tie.Need-returns-9
 returns-9 c = no-row table63 _ _ (c .match .rest)

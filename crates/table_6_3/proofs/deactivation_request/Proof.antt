@@ -1,6 +1,6 @@
 use borrow.Author.Needs.{needs}
 use Rattle.table_6_3.specs.Table63.{deactivationRequest}
-use Rattle.cells.proofs.Rows.{settled}
+use Rattle.notes_and_cells.proofs.Rows.{settled}
 use Rattle.table_6_3.proofs.deactivation_request.Statement.{statement}
 use Rattle.table_6_3.proofs.deactivation_request.Tie as tie
 

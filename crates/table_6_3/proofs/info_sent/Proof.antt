@@ -1,6 +1,6 @@
 use borrow.Author.Needs.{needs}
 use Rattle.table_6_3.specs.Table63.{infoSent}
-use Rattle.cells.proofs.Rows.{settled-info}
+use Rattle.notes_and_cells.proofs.Rows.{settled-info}
 use Rattle.table_6_3.proofs.info_sent.Statement.{statement}
 use Rattle.table_6_3.proofs.info_sent.Tie as tie
 

@@ -1,6 +1,6 @@
 use borrow.Author.Needs.{needs}
 use Rattle.table_6_3.specs.Table63.{t1Expiry}
-use Rattle.cells.proofs.Rows.{settled}
+use Rattle.notes_and_cells.proofs.Rows.{settled}
 use Rattle.table_6_3.proofs.t1_expiry.Statement.{statement}
 use Rattle.table_6_3.proofs.t1_expiry.Tie as tie
 

@@ -1,7 +1,7 @@
 use borrow.Author.Needs.{needs}
 use mathlib.Core.Path.{_≡_, sym}
 use borrow.Author.Tests.{eq-eqb, ne-eqb}
-use Rattle.cells.proofs.NotesKept.{few, put-first}
+use Rattle.notes_and_cells.proofs.NotesKept.{few, put-first}
 use Rattle.terminal.specs.Terminal.{droppedNote}
 use Rattle.terminal.proofs.after_dropped.Statement.{statement}
 use Rattle.terminal.proofs.after_dropped.Tie as tie

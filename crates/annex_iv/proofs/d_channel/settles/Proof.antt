@@ -18,8 +18,8 @@ number-requires c κs = search needs
 loop-holds : tie.Need-loop-holds Inv-loop μ-loop
 loop-holds c = search needs
 
-turn-requires : tie.Need-turn-requires Inv-loop μ-loop
-turn-requires c κs = search needs
+access-step-requires : tie.Need-access-step-requires Inv-loop μ-loop
+access-step-requires c κs = search needs
 
 add-n : tie.Need-add-n Inv-loop μ-loop
 add-n c = search needs
@@ -51,7 +51,7 @@ settles-spec =
     slice-aggregate-number
     number-requires
     loop-holds
-    turn-requires
+    access-step-requires
     add-n
     loop-less
     loop-again

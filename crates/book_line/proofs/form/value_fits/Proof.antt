@@ -3,7 +3,7 @@ use mathlib.Core.Path.{_∙_}
 use borrow.Author.Needs.{needs}
 use borrow.Author.Tests.{eq-eqb, ne-eqb}
 use Rattle.book_line.specs.Line.{valueFits}
-use Rattle.cells.specs.Events.{HIT}
+use Rattle.notes_and_cells.specs.Events.{HIT}
 use Rattle.book_line.proofs.form.value_fits.Statement.{statement}
 use Rattle.book_line.proofs.form.value_fits.Tie as tie
 

@@ -1,7 +1,7 @@
 -- `value::octets` meets its contract, event by event.
 use borrow.Author.Needs.{needs}
 use borrow.Author.Tests.{eq-eqb, ne-eqb}
-use Rattle.cells.specs.Events.{HIT}
+use Rattle.notes_and_cells.specs.Events.{HIT}
 use Rattle.book_line.specs.Value.{valueOctets}
 use Rattle.book_line.proofs.Laying.{laid-nothing}
 use Rattle.book_line.proofs.Values.{body-pairs}

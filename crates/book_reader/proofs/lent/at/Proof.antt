@@ -1,10 +1,10 @@
--- `book_reader::lent::at` meets its contract: a walk of its MIR with the lemmas of crate `walks`. A number is read from a field of the struct,
+-- `book_reader::lent::at` meets its contract: a walk of its MIR with the lemmas of crate `slice_lemmas`. A number is read from a field of the struct,
 -- and the struct is seen at exit as it was passed. Assumes nothing.
-use Rattle.walks.proofs.Walk.{refl, _<_, _^_, [], _∷_, URA, named, w64, Val, vint, SProp, ent, emp, via, fst∗, Lft, Share, ftrue, flft}
-use Rattle.walks.proofs.Walk.{Memory, Routine, Heap, Tables, WpFn, Atoms, Fun, givenOf, tables, tablesOf, Given, ‵, raw, _⊛_, _$_, _∵_, !, qed}
-use Rattle.walks.proofs.Walk.{suffices, frame, done, of-opd, owns, Is, uint-makes, usize, owned}
-use Rattle.walks.proofs.Walk.{onEntry, Meets, tripleOf, entered, says, walkOf, ends-at, part, sets, enters, leaves}
-use Rattle.walks.proofs.Walk.{Ways-of, stays-of, meets-by}
+use Rattle.slice_lemmas.proofs.Walk.{refl, _<_, _^_, [], _∷_, URA, named, w64, Val, vint, SProp, ent, emp, via, fst∗, Lft, Share, ftrue, flft}
+use Rattle.slice_lemmas.proofs.Walk.{Memory, Routine, Heap, Tables, WpFn, Atoms, Fun, givenOf, tables, tablesOf, Given, ‵, raw, _⊛_, _$_, _∵_, !, qed}
+use Rattle.slice_lemmas.proofs.Walk.{suffices, frame, done, of-opd, owns, Is, uint-makes, usize, owned}
+use Rattle.slice_lemmas.proofs.Walk.{onEntry, Meets, tripleOf, entered, says, walkOf, ends-at, part, sets, enters, leaves}
+use Rattle.slice_lemmas.proofs.Walk.{Ways-of, stays-of, meets-by}
 use denote.Struct.Laws as LL
 use denote.Signature.{namedLft}
 use mir.Val.{WT, hasTy}

@@ -1,10 +1,10 @@
--- `book_reader::lent::new` meets its contract: a walk of its MIR with the lemmas of crate `walks`. A `Reader` is made of the slice passed and
+-- `book_reader::lent::new` meets its contract: a walk of its MIR with the lemmas of crate `slice_lemmas`. A `Reader` is made of the slice passed and
 -- 0, in the result's local. Assumes nothing.
-use Rattle.walks.proofs.Walk.{refl, ℕ, List, [], _∷_, lit<, URA, named, w64, Val, SProp, ent, emp, via, fst∗, Lft, Share, ftrue, flft}
-use Rattle.walks.proofs.Walk.{Memory, Routine, Heap, Tables, WpFn, Atoms, Fun, givenOf, tables, tablesOf, Given, ‵, raw, _⊛_, _$_, _∵_, !, qed}
-use Rattle.walks.proofs.Walk.{by, move, use1, split, fsplit, fjoin, suffices, frame, agg, lit, no-more, and-then, owns, Is, uint-makes, u8, usize, ShrSlice}
-use Rattle.walks.proofs.Walk.{owned, nothing, Vals, onEntry, Meets, tripleOf, entered, says-two, claims, walkOf, ends-at, loc, sets, enters, leaves}
-use Rattle.walks.proofs.Walk.{shr-way, Ways-of, stays-of, meets-by}
+use Rattle.slice_lemmas.proofs.Walk.{refl, ℕ, List, [], _∷_, lit<, URA, named, w64, Val, SProp, ent, emp, via, fst∗, Lft, Share, ftrue, flft}
+use Rattle.slice_lemmas.proofs.Walk.{Memory, Routine, Heap, Tables, WpFn, Atoms, Fun, givenOf, tables, tablesOf, Given, ‵, raw, _⊛_, _$_, _∵_, !, qed}
+use Rattle.slice_lemmas.proofs.Walk.{by, move, use1, split, fsplit, fjoin, suffices, frame, agg, lit, no-more, and-then, owns, Is, uint-makes, u8, usize, ShrSlice}
+use Rattle.slice_lemmas.proofs.Walk.{owned, nothing, Vals, onEntry, Meets, tripleOf, entered, says-two, claims, walkOf, ends-at, loc, sets, enters, leaves}
+use Rattle.slice_lemmas.proofs.Walk.{shr-way, Ways-of, stays-of, meets-by}
 use denote.Ref.{RefT, NamedLft}
 use denote.Signature.{namedLft}
 use denote.Slice.{shr-slice-lawful, shr-slice-copy}

@@ -1,11 +1,11 @@
--- `book_reader::lent::next` meets its contract: a walk of its MIR with the lemmas of crate `walks`. A struct is made anew of the slice that
+-- `book_reader::lent::next` meets its contract: a walk of its MIR with the lemmas of crate `slice_lemmas`. A struct is made anew of the slice that
 -- the one passed holds, and of the number that `moved_on` gives. The struct is Copy: what it owns is had twice, one copy is kept whole for the
 -- exit, and the other, with the facts of the number in the place of at's, is what the result owns. Assumes nothing.
-use Rattle.walks.proofs.Walk.{_≡_, refl, ℕ, _<_, _^_, [], _∷_, length, URA, named, w64, Val, vint, SProp, ent, emp, via, id⊢, fst∗, Lft, Share, ftrue, flft}
-use Rattle.walks.proofs.Walk.{Memory, Routine, Heap, Tables, WpFn, Atoms, Fun, givenOf, tables, tablesOf, Given, ‵, raw, _⊛_, _$_, _∵_, !, qed}
-use Rattle.walks.proofs.Walk.{by, move, use1, split, fsplit, fjoin, suffices, frame, agg, of-opd, no-more, and-then, owns, Is, uint-makes, usize}
-use Rattle.walks.proofs.Walk.{owned, Vals, onEntry, Meets, tripleOf, Contract, Triple, entered, cited, says-two, claims, walkOf, ends-at, uint-kind, loc, part}
-use Rattle.walks.proofs.Walk.{sets, enters, leaves, calls-plain, Ways-of, stays-of, meets-by}
+use Rattle.slice_lemmas.proofs.Walk.{_≡_, refl, ℕ, _<_, _^_, [], _∷_, length, URA, named, w64, Val, vint, SProp, ent, emp, via, id⊢, fst∗, Lft, Share, ftrue, flft}
+use Rattle.slice_lemmas.proofs.Walk.{Memory, Routine, Heap, Tables, WpFn, Atoms, Fun, givenOf, tables, tablesOf, Given, ‵, raw, _⊛_, _$_, _∵_, !, qed}
+use Rattle.slice_lemmas.proofs.Walk.{by, move, use1, split, fsplit, fjoin, suffices, frame, agg, of-opd, no-more, and-then, owns, Is, uint-makes, usize}
+use Rattle.slice_lemmas.proofs.Walk.{owned, Vals, onEntry, Meets, tripleOf, Contract, Triple, entered, cited, says-two, claims, walkOf, ends-at, uint-kind, loc, part}
+use Rattle.slice_lemmas.proofs.Walk.{sets, enters, leaves, calls-plain, Ways-of, stays-of, meets-by}
 use denote.Struct.Laws as LL
 use denote.Struct.Rest.{own-put}
 use denote.Ref.{now}

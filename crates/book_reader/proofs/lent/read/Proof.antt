@@ -1,11 +1,11 @@
--- `book_reader::lent::read` meets its contract: a walk of its MIR with the lemmas of crate `walks`. The struct is taken apart, and `step_at`
+-- `book_reader::lent::read` meets its contract: a walk of its MIR with the lemmas of crate `slice_lemmas`. The struct is taken apart, and `step_at`
 -- is called on the slice and the number; what all parameters own is kept whole for the exit. Assumes nothing.
-use Rattle.walks.proofs.Walk.{_≡_, refl, ℕ, _<_, _^_, Bool, [], _∷_, URA, named, w8, w32, w64, Val, vint, vbool, SProp, ent, sep}
-use Rattle.walks.proofs.Walk.{emp, via, id⊢, fst∗, Lft, Share, ftrue, flft, Memory, Routine, Heap, Tables, WpFn, Atoms, Fun, givenOf, tables, tablesOf}
-use Rattle.walks.proofs.Walk.{Given, ‵, raw, _⊛_, ⋆, _$_, _∵_, !, qed, move, use1, split, join, fsplit, fjoin, suffices, frame, done}
-use Rattle.walks.proofs.Walk.{of-opd, no-more, and-then, owns, Is, uint-makes, bool-makes, u8, u32, usize, bool, owned, nothing, Vals}
-use Rattle.walks.proofs.Walk.{onEntry, Meets, tripleOf, Contract, Triple, entered, cited, says, walkOf, ends-at, loc, part, sets, enters, leaves}
-use Rattle.walks.proofs.Walk.{bool-kind, plain-way, Ways-of, stays-of, meets-by}
+use Rattle.slice_lemmas.proofs.Walk.{_≡_, refl, ℕ, _<_, _^_, Bool, [], _∷_, URA, named, w8, w32, w64, Val, vint, vbool, SProp, ent, sep}
+use Rattle.slice_lemmas.proofs.Walk.{emp, via, id⊢, fst∗, Lft, Share, ftrue, flft, Memory, Routine, Heap, Tables, WpFn, Atoms, Fun, givenOf, tables, tablesOf}
+use Rattle.slice_lemmas.proofs.Walk.{Given, ‵, raw, _⊛_, ⋆, _$_, _∵_, !, qed, move, use1, split, join, fsplit, fjoin, suffices, frame, done}
+use Rattle.slice_lemmas.proofs.Walk.{of-opd, no-more, and-then, owns, Is, uint-makes, bool-makes, u8, u32, usize, bool, owned, nothing, Vals}
+use Rattle.slice_lemmas.proofs.Walk.{onEntry, Meets, tripleOf, Contract, Triple, entered, cited, says, walkOf, ends-at, loc, part, sets, enters, leaves}
+use Rattle.slice_lemmas.proofs.Walk.{bool-kind, plain-way, Ways-of, stays-of, meets-by}
 use denote.Struct.Laws as LL
 use denote.Ref.{now}
 use denote.Signature.{namedLft}

@@ -1,11 +1,11 @@
--- `book_reader::lent::value` meets its contract: a walk of its MIR with the lemmas of crate `walks`. The struct is taken apart, and `value_at`
+-- `book_reader::lent::value` meets its contract: a walk of its MIR with the lemmas of crate `slice_lemmas`. The struct is taken apart, and `value_at`
 -- is called; the part of the slice that it hands back is the result. Assumes nothing.
-use Rattle.walks.proofs.Walk.{refl, ℕ, _<_, _^_, List, [], _∷_, URA, named, w64, Val, vint, SProp, ent, sep}
-use Rattle.walks.proofs.Walk.{emp, via, id⊢, fst∗, Lft, Share, ftrue, flft, Memory, Routine, Heap, Tables, WpFn, Atoms, Fun, givenOf, tables, tablesOf}
-use Rattle.walks.proofs.Walk.{Given, ‵, raw, _⊛_, ⋆, _$_, _∵_, !, qed, move, use1, split, join, fsplit, fjoin, suffices, frame, done}
-use Rattle.walks.proofs.Walk.{of-opd, no-more, and-then, owns, Is, uint-makes, u8, usize, ShrSlice, owned, nothing, Vals}
-use Rattle.walks.proofs.Walk.{onEntry, Meets, tripleOf, Contract, Triple, entered, cited, says, walkOf, ends-at, loc, part, sets, enters, leaves}
-use Rattle.walks.proofs.Walk.{typed, Ways-of, stays-of, meets-by}
+use Rattle.slice_lemmas.proofs.Walk.{refl, ℕ, _<_, _^_, List, [], _∷_, URA, named, w64, Val, vint, SProp, ent, sep}
+use Rattle.slice_lemmas.proofs.Walk.{emp, via, id⊢, fst∗, Lft, Share, ftrue, flft, Memory, Routine, Heap, Tables, WpFn, Atoms, Fun, givenOf, tables, tablesOf}
+use Rattle.slice_lemmas.proofs.Walk.{Given, ‵, raw, _⊛_, ⋆, _$_, _∵_, !, qed, move, use1, split, join, fsplit, fjoin, suffices, frame, done}
+use Rattle.slice_lemmas.proofs.Walk.{of-opd, no-more, and-then, owns, Is, uint-makes, u8, usize, ShrSlice, owned, nothing, Vals}
+use Rattle.slice_lemmas.proofs.Walk.{onEntry, Meets, tripleOf, Contract, Triple, entered, cited, says, walkOf, ends-at, loc, part, sets, enters, leaves}
+use Rattle.slice_lemmas.proofs.Walk.{typed, Ways-of, stays-of, meets-by}
 use denote.Struct.Laws as LL
 use denote.Ref.{RefT}
 use denote.Signature.{namedLft}

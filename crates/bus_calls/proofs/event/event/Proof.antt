@@ -1,8 +1,8 @@
--- `bus_calls::event::event` meets its contract: a walk of its MIR with the lemmas of crate `walks`. All that it knows of the functions it calls are their contracts. Assumes nothing.
-use Rattle.walks.proofs.Walk.{_≡_, refl, sym, _∙_, ap, subst, ℕ, _<_, _^_, Bool, List, [], _∷_, eqb, length, getD, set, length-set, URA, w8, w32, w64, Val, vint, SProp, ent, emp, via, id⊢, fst∗, Memory, Routine, Heap, Tables, WpFn, Atoms, Fun, givenOf, tables, tablesOf, Given, ⋆, _$_, !, lit, of-opd, no-more, and-then, bin, Is, u8, u32, usize, bool, Room, onEntry, Meets, tripleOf, Contract, Triple, entered, cited, walkOf, loc, part, sets, leaves, returns-if, bool-kind, uint-kind, typed, loads, stores, Spot, spot, word, lends-at, shows-at, hands-at, Param, plain-of, lfts-at, shares-at, args-at, vals-of, lfts-of, shares-of, args-of, itemsOf, reborrows, Call, calls-giving, enters-with, returns-with, mut-way, shr-way, plain-way, Ways-of, stays-of, meets-by, says-four, learn-two}
+-- `bus_calls::event::event` meets its contract: a walk of its MIR with the lemmas of crate `slice_lemmas`. All that it knows of the functions it calls are their contracts. Assumes nothing.
+use Rattle.slice_lemmas.proofs.Walk.{_≡_, refl, sym, _∙_, ap, subst, ℕ, _<_, _^_, Bool, List, [], _∷_, eqb, length, getD, set, length-set, URA, w8, w32, w64, Val, vint, SProp, ent, emp, via, id⊢, fst∗, Memory, Routine, Heap, Tables, WpFn, Atoms, Fun, givenOf, tables, tablesOf, Given, ⋆, _$_, !, lit, of-opd, no-more, and-then, bin, Is, u8, u32, usize, bool, Room, onEntry, Meets, tripleOf, Contract, Triple, entered, cited, walkOf, loc, part, sets, leaves, returns-if, bool-kind, uint-kind, typed, loads, stores, Spot, spot, word, lends-at, shows-at, hands-at, Param, plain-of, lfts-at, shares-at, args-at, vals-of, lfts-of, shares-of, args-of, itemsOf, reborrows, Call, calls-giving, enters-with, returns-with, mut-way, shr-way, plain-way, Ways-of, stays-of, meets-by, says-four, learn-two}
 use borrow.Author.Tests.{not-true, not-false}
 use Prim.Native.Nat.{_-_}
-use Rattle.cells.specs.Notes.{packedNotes}
+use Rattle.notes_and_cells.specs.Notes.{packedNotes}
 use Rattle.timing.specs.declared.counts.Periods.{Periods}
 use Rattle.timing.proofs.counts.Periods as P
 use Rattle.terminal.specs.Terminal.{fresh}
@@ -15,9 +15,9 @@ use Rattle.bus_record.proofs.record.BusRecord as B
 use Rattle.bus_event.specs.Event.{told, firstReason, networkTold, terminalTold, lettersAfter, imagesAfter}
 use Rattle.bus_event.specs.declared.event.Told.{Told}
 use Rattle.bus_event.proofs.event.Told as D
-use Rattle.call_rules.specs.Ready.{eightInRange}
+use Rattle.bus_call_specs.specs.Ready.{eightInRange}
 use Rattle.bus_calls.proofs.Structs.{terminals, terminal-steps, periods, buses, tolds}
-use Rattle.call_rules.proofs.Events.{Promised, within, when-refused, at-network, at-terminal}
+use Rattle.bus_call_specs.proofs.Events.{Promised, within, when-refused, at-network, at-terminal}
 use Rattle.bus_calls.proofs.ready.in_range as ranges
 use Rattle.bus_calls.proofs.ready.in_range.Symbol as ranges-def
 use Rattle.bus_calls.proofs.ready.in_range.Symbol.{name as #ranges}

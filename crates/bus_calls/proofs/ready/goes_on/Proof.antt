@@ -1,6 +1,6 @@
 -- `goes_on` meets its contract: the four tests, one after another.
 use borrow.Author.Needs.{needs}
-use Rattle.call_rules.specs.Ready.{goesOn}
+use Rattle.bus_call_specs.specs.Ready.{goesOn}
 use Rattle.bus_calls.proofs.ready.goes_on.Statement.{statement}
 use Rattle.bus_calls.proofs.ready.goes_on.Tie as tie
 

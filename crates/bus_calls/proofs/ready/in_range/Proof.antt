@@ -1,11 +1,11 @@
--- `bus_calls::ready::in_range` meets its contract: a walk of its MIR with the lemmas of crate `walks`, with a bool gathered over a slice that is shown. All that it knows of `Terminal::in_range` is its contract. Assumes nothing.
-use Rattle.walks.proofs.Walk.{_≡_, refl, _∙_, ap, ℕ, _+_, Bool, _&&_, List, [], _∷_, eqb, lit<, length, getD, URA, w64, Val, vbool, vint, SProp, ent, emp, via, id⊢, fst∗, Memory, Routine, Heap, Tables, WpFn, Atoms, Fun, factI, givenOf, tables, tablesOf, Given, ⋆, _$_, !, lit, of-opd, no-more, and-then, bin, Is, Room, onEntry, Meets, tripleOf, Contract, Triple, entered, cited, walkOf, acc, acc-all, one-read, Holds, free, has, loc, part, sets, sets-last, leaves, blurs, bool-kind, typed, peeks-at, Spot, spot, word, hands-at, Param, plain-of, lfts-at, shares-at, args-at, vals-of, lfts-of, shares-of, args-of, itemsOf, Call, calls-giving, enters-with, returns-with, shr-way, Ways-of, stays-of, meets-by, whiles, next-fits}
+-- `bus_calls::ready::in_range` meets its contract: a walk of its MIR with the lemmas of crate `slice_lemmas`, with a bool gathered over a slice that is shown. All that it knows of `Terminal::in_range` is its contract. Assumes nothing.
+use Rattle.slice_lemmas.proofs.Walk.{_≡_, refl, _∙_, ap, ℕ, _+_, Bool, _&&_, List, [], _∷_, eqb, lit<, length, getD, URA, w64, Val, vbool, vint, SProp, ent, emp, via, id⊢, fst∗, Memory, Routine, Heap, Tables, WpFn, Atoms, Fun, factI, givenOf, tables, tablesOf, Given, ⋆, _$_, !, lit, of-opd, no-more, and-then, bin, Is, Room, onEntry, Meets, tripleOf, Contract, Triple, entered, cited, walkOf, acc, acc-all, one-read, Holds, free, has, loc, part, sets, sets-last, leaves, blurs, bool-kind, typed, peeks-at, Spot, spot, word, hands-at, Param, plain-of, lfts-at, shares-at, args-at, vals-of, lfts-of, shares-of, args-of, itemsOf, Call, calls-giving, enters-with, returns-with, shr-way, Ways-of, stays-of, meets-by, whiles, next-fits}
 use Rattle.bus_calls.proofs.Structs.{terminals}
 use Rattle.terminal.specs.declared.Terminal.{Terminal}
 use Rattle.terminal.proofs.Terminal as T
 use Rattle.terminal.specs.Calls.{terminalInRange}
-use Rattle.call_rules.specs.Ready.{eightInRange}
-use Rattle.call_rules.proofs.InOrder.{alsoInRange, from-first}
+use Rattle.bus_call_specs.specs.Ready.{eightInRange}
+use Rattle.bus_call_specs.proofs.InOrder.{alsoInRange, from-first}
 use Rattle.terminal.proofs.Terminal.in_range as step
 use Rattle.terminal.proofs.Terminal.in_range.Symbol as step-def
 use Rattle.terminal.proofs.Terminal.in_range.Symbol.{name as #step}

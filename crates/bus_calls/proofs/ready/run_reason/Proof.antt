@@ -5,7 +5,7 @@ use Prim.Native.Nat.{ℕ}
 use lib.Dec.{eqb, leb}
 use borrow.Author.Needs.{needs}
 use borrow.Author.Tests.{not-true, not-false}
-use Rattle.call_rules.specs.Ready.{lentFits, runReason}
+use Rattle.bus_call_specs.specs.Ready.{lentFits, runReason}
 use Rattle.bus_calls.proofs.ready.run_reason.Statement.{statement}
 use Rattle.bus_calls.proofs.ready.run_reason.Tie as tie
 

@@ -1,15 +1,15 @@
--- `bus_calls::run::period` meets its contract: a walk of its MIR with the lemmas of crate `walks`. All that it knows of `run` is its contract. Assumes nothing.
-use Rattle.walks.proofs.Walk.{_≡_, refl, ℕ, List, [], _∷_, lit<, length, URA, w32, Val, SProp, ent, emp, via, id⊢, fst∗, Memory, Routine, Heap, Tables, WpFn, Atoms, Fun, givenOf, tables, tablesOf, Given, ⋆, _$_, !, lit, no-more, and-then, Is, u8, u32, Room, onEntry, Meets, tripleOf, Contract, Triple, entered, cited, walkOf, loc, leaves, uint-kind, typed, Spot, spot, word, lends-at, hands-at, Param, plain-of, lfts-at, shares-at, args-at, vals-of, lfts-of, shares-of, args-of, itemsOf, reborrows, Call, calls-giving, enters-with, returns-with, mut-way, shr-way, plain-way, Ways-of, stays-of, meets-by, says-four, learn-four}
+-- `bus_calls::run::period` meets its contract: a walk of its MIR with the lemmas of crate `slice_lemmas`. All that it knows of `run` is its contract. Assumes nothing.
+use Rattle.slice_lemmas.proofs.Walk.{_≡_, refl, ℕ, List, [], _∷_, lit<, length, URA, w32, Val, SProp, ent, emp, via, id⊢, fst∗, Memory, Routine, Heap, Tables, WpFn, Atoms, Fun, givenOf, tables, tablesOf, Given, ⋆, _$_, !, lit, no-more, and-then, Is, u8, u32, Room, onEntry, Meets, tripleOf, Contract, Triple, entered, cited, walkOf, loc, leaves, uint-kind, typed, Spot, spot, word, lends-at, hands-at, Param, plain-of, lfts-at, shares-at, args-at, vals-of, lfts-of, shares-of, args-of, itemsOf, reborrows, Call, calls-giving, enters-with, returns-with, mut-way, shr-way, plain-way, Ways-of, stays-of, meets-by, says-four, learn-four}
 use Rattle.terminal.specs.declared.Terminal.{Terminal}
 use Rattle.terminal.proofs.Terminal as T
-use Rattle.listening.specs.declared.hears.UnitNotes.{UnitNotes}
-use Rattle.listening.proofs.hears.UnitNotes as N
+use Rattle.period_hearing.specs.declared.hears.UnitNotes.{UnitNotes}
+use Rattle.period_hearing.proofs.hears.UnitNotes as N
 use Rattle.bus_record.specs.declared.record.BusRecord.{BusRecord}
-use Rattle.bus_record.specs.declared.side.Ran.{Ran}
+use Rattle.bus_record.specs.declared.side.RunAnswer.{RunAnswer}
 use Rattle.bus_record.proofs.record.BusRecord as B
-use Rattle.bus_record.proofs.side.Ran as R
-use Rattle.call_rules.specs.Kept.{Kept, kept}
-use Rattle.call_rules.specs.Run.{ran, keptAfter}
+use Rattle.bus_record.proofs.side.RunAnswer as R
+use Rattle.bus_call_specs.specs.Kept.{Kept, kept}
+use Rattle.bus_call_specs.specs.Run.{runAnswer, keptAfter}
 use Rattle.bus_calls.proofs.Structs.{buses, runs}
 use Rattle.bus_calls.proofs.run.run as runs-of
 use Rattle.bus_calls.proofs.run.run.Symbol as runs-def
@@ -31,8 +31,8 @@ module _ {M : Type 1} (𝓤 : URA M) (H : Heap 𝓤) (A : Atoms 𝓤) (W : Given
   abbrev at : Kept
   at = kept bus ys es os ls us
 
-  abbrev Promised : Ran → List Terminal → List ℕ → List UnitNotes → Type 0
-  Promised r ts octs ns = (r ≡ ran 1 at) × (ts ≡ keptAfter 1 at .terminals) × (octs ≡ keptAfter 1 at .octets) × (ns ≡ keptAfter 1 at .notes)
+  abbrev Promised : RunAnswer → List Terminal → List ℕ → List UnitNotes → Type 0
+  Promised r ts octs ns = (r ≡ runAnswer 1 at) × (ts ≡ keptAfter 1 at .terminals) × (octs ≡ keptAfter 1 at .octets) × (ns ≡ keptAfter 1 at .notes)
 
   -- the parameters, the slices at these lists
   abbrev params : List Terminal → List ℕ → List UnitNotes → List Param
@@ -48,7 +48,7 @@ module _ {M : Type 1} (𝓤 : URA M) (H : Heap 𝓤) (A : Atoms 𝓤) (W : Given
   abbrev Post : Val → SProp 𝓤
   Post = walkOf 𝓤 H A all.ended (stays-of all.ended ways) (all.clauses 𝓤 H A mem run) .post bound
 
-  exits : (r : Ran) (ts : List Terminal) (octs : List ℕ) (ns : List UnitNotes) → length ts ≡ length ys → length octs ≡ length os → length ns ≡ length us → Promised r ts octs ns → Is R.the-row r (runs .val r ∷ []) → ent 𝓤 (⋆ 𝓤 H A (itemsOf W (params ts octs ns))) (Post (runs .val r))
+  exits : (r : RunAnswer) (ts : List Terminal) (octs : List ℕ) (ns : List UnitNotes) → length ts ≡ length ys → length octs ≡ length os → length ns ≡ length us → Promised r ts octs ns → Is R.the-row r (runs .val r ∷ []) → ent 𝓤 (⋆ 𝓤 H A (itemsOf W (params ts octs ns))) (Post (runs .val r))
   exits r ts octs ns l₁ l₃ l₅ so gr =
       returns-with W (params ts octs ns) all.ended (stays-of all.ended ways) (all.clauses 𝓤 H A mem run) bound runs r (tt, (ts, (tt, (octs, (tt, (ns, tt)))))) (tt, (l₁, (tt, (l₃, (tt, (l₅, tt)))))) gr (id⊢ 𝓤 _) (says-four 𝓤 so)
 

@@ -1,23 +1,23 @@
--- `bus_calls::run::run` meets its contract: a walk of its MIR with the lemmas of crate `walks`, a `while` on a truth value whose turn lends three slices to
+-- `bus_calls::run::run` meets its contract: a walk of its MIR with the lemmas of crate `slice_lemmas`, a `while` on a truth value whose turn lends three slices to
 -- `advance`. What holds before each turn is `Going` (RunLoop.antt). All that it knows of what it calls are their contracts. Assumes nothing.
-use Rattle.walks.proofs.Walk.{_≡_, refl, sym, _∙_, ap, subst, ℕ, _<_, _^_, arith, Bool, true, false, List, [], _∷_, length, set, URA, w8, w32, w64, Val, vbool, vint, SProp, ent, emp, via, id⊢, fst∗, Memory, Routine, Heap, Tables, WpFn, Atoms, Fun, factI, givenOf, tables, tablesOf, Given, Item, ⋆, _$_, !, lit, of-opd, no-more, and-then, bin, Is, u8, u32, usize, bool, Room, onEntry, Meets, tripleOf, Contract, Triple, entered, cited, walkOf, Holds, free, has, loc, part, sets, leaves, blurs, bool-kind, uint-kind, typed, Spot, spot, word, lends-at, shows-at, hands-at, Param, plain-of, lfts-at, shares-at, args-at, vals-of, lfts-of, shares-of, args-of, itemsOf, reborrows, Call, calls-giving, calls-giving-last, enters-with, returns-with, mut-way, shr-way, plain-way, Ways-of, stays-of, meets-by, whiles-by, says-four}
+use Rattle.slice_lemmas.proofs.Walk.{_≡_, refl, sym, _∙_, ap, subst, ℕ, _<_, _^_, arith, Bool, true, false, List, [], _∷_, length, set, URA, w8, w32, w64, Val, vbool, vint, SProp, ent, emp, via, id⊢, fst∗, Memory, Routine, Heap, Tables, WpFn, Atoms, Fun, factI, givenOf, tables, tablesOf, Given, Item, ⋆, _$_, !, lit, of-opd, no-more, and-then, bin, Is, u8, u32, usize, bool, Room, onEntry, Meets, tripleOf, Contract, Triple, entered, cited, walkOf, Holds, free, has, loc, part, sets, leaves, blurs, bool-kind, uint-kind, typed, Spot, spot, word, lends-at, shows-at, hands-at, Param, plain-of, lfts-at, shares-at, args-at, vals-of, lfts-of, shares-of, args-of, itemsOf, reborrows, Call, calls-giving, calls-giving-last, enters-with, returns-with, mut-way, shr-way, plain-way, Ways-of, stays-of, meets-by, whiles-by, says-four}
 use Prim.Native.Nat.{_+_, _-_, _≤_}
 use Rattle.terminal.specs.declared.Terminal.{Terminal}
 use Rattle.terminal.proofs.Terminal as T
-use Rattle.listening.specs.declared.hears.UnitNotes.{UnitNotes}
-use Rattle.listening.proofs.hears.UnitNotes as N
+use Rattle.period_hearing.specs.declared.hears.UnitNotes.{UnitNotes}
+use Rattle.period_hearing.proofs.hears.UnitNotes as N
 use Rattle.bus_record.specs.NetworkSide.{refusedRun}
 use Rattle.bus_record.specs.declared.record.BusRecord.{BusRecord}
-use Rattle.bus_record.specs.declared.side.Ran.{Ran}
+use Rattle.bus_record.specs.declared.side.RunAnswer.{RunAnswer}
 use Rattle.bus_record.proofs.record.BusRecord as B
-use Rattle.bus_record.proofs.side.Ran as R
-use Rattle.call_rules.specs.Kept.{Kept, kept}
-use Rattle.call_rules.specs.Ready.{eightInRange, runReason, runReply, goesOn}
-use Rattle.call_rules.specs.Run.{ran, keptAfter}
+use Rattle.bus_record.proofs.side.RunAnswer as R
+use Rattle.bus_call_specs.specs.Kept.{Kept, kept}
+use Rattle.bus_call_specs.specs.Ready.{eightInRange, runReason, runReply, goesOn}
+use Rattle.bus_call_specs.specs.Run.{runAnswer, keptAfter}
 use Rattle.bus_calls.proofs.Structs.{buses, runs, turns}
-use Rattle.call_rules.proofs.RunLoop.{Going, going-first, going-left, going-lengths, going-ends}
-use Rattle.leaps.specs.Turn.{Turns}
-use Rattle.leaps.proofs.Turning.{turned-within, turned-on}
+use Rattle.bus_call_specs.proofs.RunLoop.{Going, going-first, going-left, going-lengths, going-ends}
+use Rattle.idle_periods.specs.Turn.{Turns}
+use Rattle.idle_periods.proofs.Turning.{turned-within, turned-on}
 use Rattle.bus_calls.specs.declared.turn.Turn.{Turn}
 use Rattle.bus_calls.proofs.ready.in_range as ready
 use Rattle.bus_calls.proofs.ready.in_range.Symbol as ready-def
@@ -69,7 +69,7 @@ no-more-than n m l f = omega arith
 
 -- the state of a turn: what the last period gave, the periods left, whether there is one more, and the slices that change
 record State : Type 0 where
-  last : Ran
+  last : RunAnswer
   left : ℕ
   going : Bool
   terminals : List Terminal
@@ -81,11 +81,11 @@ module _ (bus : BusRecord) (ys : List Terminal) (es os ls : List ℕ) (us : List
   abbrev at : Kept
   at = kept bus ys es os ls us
 
-  abbrev Promised : Ran → List Terminal → List ℕ → List UnitNotes → Type 0
-  Promised r ts octs ns = (r ≡ ran most at) × (ts ≡ keptAfter most at .terminals) × (octs ≡ keptAfter most at .octets) × (ns ≡ keptAfter most at .notes)
+  abbrev Promised : RunAnswer → List Terminal → List ℕ → List UnitNotes → Type 0
+  Promised r ts octs ns = (r ≡ runAnswer most at) × (ts ≡ keptAfter most at .terminals) × (octs ≡ keptAfter most at .octets) × (ns ≡ keptAfter most at .notes)
 
-  abbrev GoesFrom : Ran → ℕ → List Terminal → List ℕ → List UnitNotes → Type 0
-  GoesFrom last left ts octs ns = Going es ls (ran most at) (keptAfter most at) last left ts octs ns
+  abbrev GoesFrom : RunAnswer → ℕ → List Terminal → List ℕ → List UnitNotes → Type 0
+  GoesFrom last left ts octs ns = Going es ls (runAnswer most at) (keptAfter most at) last left ts octs ns
 
   record Inv (s : State) : Type 0 where
     same₁ : length (s .terminals) ≡ length ys
@@ -98,15 +98,15 @@ module _ (bus : BusRecord) (ys : List Terminal) (es os ls : List ℕ) (us : List
 
   -- what `advance` says, given this record
   abbrev Advanced : State → BusRecord → Turn → List Terminal → List ℕ → List UnitNotes → Type 0
-  Advanced s b t ts octs ns = Turns (s .left) (kept b (s .terminals) es (s .octets) ls (s .notes)) (t .ran) (t .over) (kept (t .ran .bus) ts es octs ls ns)
+  Advanced s b t ts octs ns = Turns (s .left) (kept b (s .terminals) es (s .octets) ls (s .notes)) (t .answer) (t .over) (kept (t .answer .bus) ts es octs ls ns)
 
-  abbrev first-state : (r : Ran) → Bool → State
+  abbrev first-state : (r : RunAnswer) → Bool → State
   first-state r g = record { last = r; left = most; going = g; terminals = ys; octets = os; notes = us }
 
-  abbrev next-state : State → Ran → ℕ → Bool → List Terminal → List ℕ → List UnitNotes → State
+  abbrev next-state : State → RunAnswer → ℕ → Bool → List Terminal → List ℕ → List UnitNotes → State
   next-state s r o g ts octs ns = record { last = r; left = s .left - (1 + o); going = g; terminals = ts; octets = octs; notes = ns }
 
-  first-goes : (w : Bool) (k : ℕ) (r : Ran) → w ≡ eightInRange ys → k ≡ runReason w bus (length es) (length os) ls (length us) most → r ≡ refusedRun k bus → GoesFrom r most ys os us
+  first-goes : (w : Bool) (k : ℕ) (r : RunAnswer) → w ≡ eightInRange ys → k ≡ runReason w bus (length es) (length os) ls (length us) most → r ≡ refusedRun k bus → GoesFrom r most ys os us
   unfolding runReply
   first-goes w k r is-w is-k is-r = rw (is-r, is-k, is-w) (going-first most bus ys es os ls us)
 
@@ -115,27 +115,27 @@ module _ (bus : BusRecord) (ys : List Terminal) (es os ls : List ℕ) (us : List
     goes-here = sym (i .going-is) ∙ on
 
     lengths-here : length (s .notes) ≡ length (s .terminals)
-    lengths-here = going-lengths es ls (ran most at) (keptAfter most at) (s .last) (s .left) (s .terminals) (s .octets) (s .notes) (i .so-far) goes-here
+    lengths-here = going-lengths es ls (runAnswer most at) (keptAfter most at) (s .last) (s .left) (s .terminals) (s .octets) (s .notes) (i .so-far) goes-here
 
     some-left : 0 < s .left
-    some-left = going-left es ls (ran most at) (keptAfter most at) (s .last) (s .left) (s .terminals) (s .octets) (s .notes) (i .so-far) goes-here
+    some-left = going-left es ls (runAnswer most at) (keptAfter most at) (s .last) (s .left) (s .terminals) (s .octets) (s .notes) (i .so-far) goes-here
 
     module _ (b : BusRecord) (is-b : b ≡ s .last .bus) (t : Turn) (o : ℕ) (is-o : o ≡ t .over) (ts : List Terminal) (octs : List ℕ) (ns : List UnitNotes) (so : Advanced s b t ts octs ns) where
       so-here : Advanced s (s .last .bus) t ts octs ns
       so-here = subst (λ (x : BusRecord). Advanced s x t ts octs ns) is-b so
 
       turn-within : 1 + o ≤ s .left
-      turn-within = rw is-o (turned-within es ls (ran most at) (keptAfter most at) (s .last) (s .left) (s .terminals) (s .octets) (s .notes) (i .so-far) goes-here (t .ran) (t .over) ts octs ns so-here)
+      turn-within = rw is-o (turned-within es ls (runAnswer most at) (keptAfter most at) (s .last) (s .left) (s .terminals) (s .octets) (s .notes) (i .so-far) goes-here (t .answer) (t .over) ts octs ns so-here)
 
       fewer : s .left - (1 + o) < s .left
       fewer = omega (arith, some-left)
 
-      goes-after : (r : Ran) → r ≡ t .ran → GoesFrom r (s .left - (1 + o)) ts octs ns
-      goes-after r is-r = rw (is-r, is-o) (turned-on es ls (ran most at) (keptAfter most at) (s .last) (s .left) (s .terminals) (s .octets) (s .notes) (i .so-far) goes-here (t .ran) (t .over) ts octs ns so-here)
+      goes-after : (r : RunAnswer) → r ≡ t .answer → GoesFrom r (s .left - (1 + o)) ts octs ns
+      goes-after r is-r = rw (is-r, is-o) (turned-on es ls (runAnswer most at) (keptAfter most at) (s .last) (s .left) (s .terminals) (s .octets) (s .notes) (i .so-far) goes-here (t .answer) (t .over) ts octs ns so-here)
 
   done-all : (s : State) → Inv s → s .going ≡ false → Promised (s .last) (s .terminals) (s .octets) (s .notes)
   done-all s i off =
-      let e = going-ends es ls (ran most at) (keptAfter most at) (s .last) (s .left) (s .terminals) (s .octets) (s .notes) (i .so-far) (sym (i .going-is) ∙ off) in
+      let e = going-ends es ls (runAnswer most at) (keptAfter most at) (s .last) (s .left) (s .terminals) (s .octets) (s .notes) (i .so-far) (sym (i .going-is) ∙ off) in
       (e .0, ap (λ (k : Kept). k .terminals) (e .1), ap (λ (k : Kept). k .octets) (e .1), ap (λ (k : Kept). k .notes) (e .1))
 
 module _ {M : Type 1} (𝓤 : URA M) (H : Heap 𝓤) (A : Atoms 𝓤) (mem : Memory → SProp 𝓤) (run : Routine → Fun 𝓤) where
@@ -179,7 +179,7 @@ module _ {M : Type 1} (𝓤 : URA M) (H : Heap 𝓤) (A : Atoms 𝓤) (W : Given
   abbrev Post : Val → SProp 𝓤
   Post = walkOf 𝓤 H A all.ended (stays-of all.ended ways) (all.clauses 𝓤 H A mem run) .post bound
 
-  exits : (r : Ran) (ts : List Terminal) (octs : List ℕ) (ns : List UnitNotes) → length ts ≡ length ys → length octs ≡ length os → length ns ≡ length us → Promised bus ys es os ls us most r ts octs ns → Is R.the-row r (runs .val r ∷ []) → ent 𝓤 (⋆ 𝓤 H A (itemsOf W (params ts octs ns))) (Post (runs .val r))
+  exits : (r : RunAnswer) (ts : List Terminal) (octs : List ℕ) (ns : List UnitNotes) → length ts ≡ length ys → length octs ≡ length os → length ns ≡ length us → Promised bus ys es os ls us most r ts octs ns → Is R.the-row r (runs .val r ∷ []) → ent 𝓤 (⋆ 𝓤 H A (itemsOf W (params ts octs ns))) (Post (runs .val r))
   exits r ts octs ns l₁ l₃ l₅ so gr =
       returns-with W (params ts octs ns) all.ended (stays-of all.ended ways) (all.clauses 𝓤 H A mem run) bound runs r (tt, (ts, (tt, (octs, (tt, (ns, (tt, tt))))))) (tt, (l₁, (tt, (l₃, (tt, (l₅, (tt, tt))))))) gr (id⊢ 𝓤 _) (says-four 𝓤 so)
 
@@ -232,10 +232,10 @@ module _ {M : Type 1} (𝓤 : URA M) (H : Heap 𝓤) (A : Atoms 𝓤) (W : Given
     ensured = λ ns r ws. id⊢ 𝓤 _;
   }
 
-  abbrev to-goes : (r : Ran) → Is R.the-row r (runs .val r ∷ []) → (n : ℕ) → n < 2 ^ 32 → List Param
+  abbrev to-goes : (r : RunAnswer) → Is R.the-row r (runs .val r ∷ []) → (n : ℕ) → n < 2 ^ 32 → List Param
   to-goes r gr n gn = plain-of R.the-row runs r gr ∷ plain-of u32 (uint-kind w32) n (refl, gn) ∷ []
 
-  abbrev the-goes : (r : Ran) (gr : Is R.the-row r (runs .val r ∷ [])) (n : ℕ) (gn : n < 2 ^ 32) → Call W (to-goes r gr n gn) goes.ended (goes.clauses 𝓤 H A mem run)
+  abbrev the-goes : (r : RunAnswer) (gr : Is R.the-row r (runs .val r ∷ [])) (n : ℕ) (gn : n < 2 ^ 32) → Call W (to-goes r gr n gn) goes.ended (goes.clauses 𝓤 H A mem run)
   the-goes r gr n gn = record {
     bound = λ ns. ((lfts-of (to-goes r gr n gn) ns, shares-of (to-goes r gr n gn), tt, args-of (to-goes r gr n gn) ns, vals-of (to-goes r gr n gn)), tt);
     asks = λ ns. id⊢ 𝓤 _;
@@ -248,10 +248,10 @@ module _ {M : Type 1} (𝓤 : URA M) (H : Heap 𝓤) (A : Atoms 𝓤) (W : Given
     ensured = λ ns g ws. id⊢ 𝓤 _;
   }
 
-  abbrev to-bus : (r : Ran) (gr : Is R.the-row r (runs .val r ∷ [])) → List Param
+  abbrev to-bus : (r : RunAnswer) (gr : Is R.the-row r (runs .val r ∷ [])) → List Param
   to-bus r gr = plain-of R.the-row runs r gr ∷ []
 
-  abbrev the-bus : (r : Ran) (gr : Is R.the-row r (runs .val r ∷ [])) → Call W (to-bus r gr) bus-in.ended (bus-in.clauses 𝓤 H A mem run)
+  abbrev the-bus : (r : RunAnswer) (gr : Is R.the-row r (runs .val r ∷ [])) → Call W (to-bus r gr) bus-in.ended (bus-in.clauses 𝓤 H A mem run)
   the-bus r gr = record {
     bound = λ ns. ((lfts-of (to-bus r gr) ns, shares-of (to-bus r gr), tt, args-of (to-bus r gr) ns, vals-of (to-bus r gr)), tt);
     asks = λ ns. id⊢ 𝓤 _;
@@ -293,7 +293,7 @@ module _ {M : Type 1} (𝓤 : URA M) (H : Heap 𝓤) (A : Atoms 𝓤) (W : Given
     last = λ ns ws. ws;
     finals = λ ns ws. id⊢ 𝓤 _;
     result = λ ns. runs;
-    Said = λ ns r ws. r ≡ t .ran;
+    Said = λ ns r ws. r ≡ t .answer;
     ensured = λ ns r ws. id⊢ 𝓤 _;
   }
 

@@ -1,33 +1,33 @@
--- `bus_calls::step::step` meets its contract: a walk of its MIR with the lemmas of crate `walks`. The terminals are lent again to the exchange and,
+-- `bus_calls::step::step` meets its contract: a walk of its MIR with the lemmas of crate `slice_lemmas`. The terminals are lent again to the exchange and,
 -- with the notes, to the hearing; the octets to the network end's side. All that it knows of what it calls are their contracts. Assumes nothing.
-use Rattle.walks.proofs.Walk.{_≡_, refl, sym, _∙_, ℕ, Bool, List, [], _∷_, length, URA, Val, SProp, ent, emp, id⊢, Memory, Routine, Heap, Tables, WpFn, Atoms, Fun, givenOf, tables, tablesOf, Given, ⋆, _$_, !, no-more, and-then, Is, u8, bool, Room, onEntry, Meets, tripleOf, Contract, Triple, entered, cited, needs, walkOf, loc, leaves, bool-kind, typed, Spot, spot, word, lends-at, hands-at, Param, plain-of, lfts-at, shares-at, args-at, vals-of, lfts-of, shares-of, args-of, itemsOf, reborrows, Call, calls-giving, enters-with, returns-with, mut-way, shr-way, plain-way, Ways-of, stays-of, meets-by, says-four, learn-two, learn-three}
+use Rattle.slice_lemmas.proofs.Walk.{_≡_, refl, sym, _∙_, ℕ, Bool, List, [], _∷_, length, URA, Val, SProp, ent, emp, id⊢, Memory, Routine, Heap, Tables, WpFn, Atoms, Fun, givenOf, tables, tablesOf, Given, ⋆, _$_, !, no-more, and-then, Is, u8, bool, Room, onEntry, Meets, tripleOf, Contract, Triple, entered, cited, needs, walkOf, loc, leaves, bool-kind, typed, Spot, spot, word, lends-at, hands-at, Param, plain-of, lfts-at, shares-at, args-at, vals-of, lfts-of, shares-of, args-of, itemsOf, reborrows, Call, calls-giving, enters-with, returns-with, mut-way, shr-way, plain-way, Ways-of, stays-of, meets-by, says-four, learn-two, learn-three}
 use borrow.Author.Tests.{eq-eqb}
 use Rattle.timing.specs.declared.counts.Periods.{Periods}
 use Rattle.timing.proofs.counts.Periods as P
-use Rattle.hearing.specs.declared.heard.Downward.{Downward}
-use Rattle.hearing.proofs.heard.Downward as D
+use Rattle.heard_line.specs.declared.heard.Downward.{Downward}
+use Rattle.heard_line.proofs.heard.Downward as D
 use Rattle.terminal.specs.declared.Terminal.{Terminal}
 use Rattle.terminal.proofs.Terminal as T
-use Rattle.exchange.specs.Opportunities.{momentAfterFour, terminalsAfterFour}
-use Rattle.exchange.specs.declared.moment.Moment.{Moment}
-use Rattle.exchange.proofs.Structs.{moments}
-use Rattle.exchange.proofs.moment.Moment as Mo
-use Rattle.listening.specs.Hears.{allTold, allTerminals, allNotes}
-use Rattle.listening.specs.declared.hears.UnitNotes.{UnitNotes}
-use Rattle.listening.proofs.Structs.{lines, periods}
-use Rattle.listening.proofs.hears.UnitNotes as N
-use Rattle.bus_record.specs.Echo.{firstMoment, heardDown, stepMoment, stepExchanged, stepLine}
-use Rattle.bus_record.specs.NetworkSide.{ranAfter, octetsAfter}
+use Rattle.exchange.specs.Opportunities.{tallyAfterFour, terminalsAfterFour}
+use Rattle.exchange.specs.declared.tally.Tally.{Tally}
+use Rattle.exchange.proofs.Structs.{tallies}
+use Rattle.exchange.proofs.tally.Tally as Mo
+use Rattle.period_hearing.specs.Hears.{listenReply, listenTerminals, listenNotes}
+use Rattle.period_hearing.specs.declared.hears.UnitNotes.{UnitNotes}
+use Rattle.period_hearing.proofs.Structs.{lines, periods}
+use Rattle.period_hearing.proofs.hears.UnitNotes as N
+use Rattle.bus_record.specs.Echo.{firstTally, heardDown, stepTally, stepExchanged, stepLine}
+use Rattle.bus_record.specs.NetworkSide.{answerAfter, octetsAfter}
 use Rattle.bus_record.specs.declared.record.BusRecord.{BusRecord}
-use Rattle.bus_record.specs.declared.side.Ran.{Ran}
+use Rattle.bus_record.specs.declared.side.RunAnswer.{RunAnswer}
 use Rattle.bus_record.proofs.record.BusRecord as B
-use Rattle.bus_record.proofs.side.Ran as R
-use Rattle.call_rules.specs.Step.{stepTerminals, stepNotes, stepTold, stepRan, stepOctets}
+use Rattle.bus_record.proofs.side.RunAnswer as R
+use Rattle.bus_call_specs.specs.Step.{stepTerminals, stepNotes, stepTold, stepAnswer, stepOctets}
 use Rattle.bus_calls.proofs.Structs.{buses, runs}
-use Rattle.bus_record.proofs.echo.first_moment as first
-use Rattle.bus_record.proofs.echo.first_moment.Symbol as first-def
-use Rattle.bus_record.proofs.echo.first_moment.Symbol.{name as #first}
-use Rattle.bus_record.proofs.echo.first_moment.Met as first-thm
+use Rattle.bus_record.proofs.echo.first_tally as first
+use Rattle.bus_record.proofs.echo.first_tally.Symbol as first-def
+use Rattle.bus_record.proofs.echo.first_tally.Symbol.{name as #first}
+use Rattle.bus_record.proofs.echo.first_tally.Met as first-thm
 use Rattle.exchange.proofs.opportunity.exchange as exch
 use Rattle.exchange.proofs.opportunity.exchange.Symbol as exch-def
 use Rattle.exchange.proofs.opportunity.exchange.Symbol.{name as #exch}
@@ -40,10 +40,10 @@ use Rattle.bus_calls.proofs.fields.periods_of as period
 use Rattle.bus_calls.proofs.fields.periods_of.Symbol as period-def
 use Rattle.bus_calls.proofs.fields.periods_of.Symbol.{name as #period}
 use Rattle.bus_calls.proofs.fields.periods_of.Met as period-thm
-use Rattle.listening.proofs.listen.listen as listen
-use Rattle.listening.proofs.listen.listen.Symbol as listen-def
-use Rattle.listening.proofs.listen.listen.Symbol.{name as #listen}
-use Rattle.listening.proofs.listen.listen.Met as listen-thm
+use Rattle.period_hearing.proofs.listen.listen as listen
+use Rattle.period_hearing.proofs.listen.listen.Symbol as listen-def
+use Rattle.period_hearing.proofs.listen.listen.Symbol.{name as #listen}
+use Rattle.period_hearing.proofs.listen.listen.Met as listen-thm
 use Rattle.bus_record.proofs.side.network_side as side
 use Rattle.bus_record.proofs.side.network_side.Symbol as side-def
 use Rattle.bus_record.proofs.side.network_side.Symbol.{name as #side}
@@ -58,20 +58,20 @@ ways = (plain-way B.the-row buses (λ x f. refl), (mut-way 0 tt T.the-row, (shr-
 
 -- ---- The calls one after another are the period.
 module _ (bus : BusRecord) (ys : List Terminal) (es os ls : List ℕ) where
-  abbrev Promised : Ran → List Terminal → List ℕ → List UnitNotes → Type 0
-  Promised r ts octs ns = (r ≡ stepRan bus ys es os ls) × (ts ≡ stepTerminals bus ys es ls) × (octs ≡ stepOctets bus ys es os ls) × (ns ≡ stepNotes bus ys es ls)
+  abbrev Promised : RunAnswer → List Terminal → List ℕ → List UnitNotes → Type 0
+  Promised r ts octs ns = (r ≡ stepAnswer bus ys es os ls) × (ts ≡ stepTerminals bus ys es ls) × (octs ≡ stepOctets bus ys es os ls) × (ns ≡ stepNotes bus ys es ls)
 
-  abbrev Exchanged : Moment → Moment → List Terminal → Type 0
-  Exchanged m₀ m ts = (m ≡ momentAfterFour es m₀ ys) × (ts ≡ terminalsAfterFour es m₀ ys)
+  abbrev Exchanged : Tally → Tally → List Terminal → Type 0
+  Exchanged m₀ m ts = (m ≡ tallyAfterFour es m₀ ys) × (ts ≡ terminalsAfterFour es m₀ ys)
 
   abbrev Listened : Periods → List UnitNotes → List Terminal → Downward → Bool → List Terminal → List UnitNotes → Type 0
-  Listened p zs ts line told us ns = (told ≡ allTold line p zs ts) × (us ≡ allTerminals line p zs ts) × (ns ≡ allNotes line p zs ts)
+  Listened p zs ts line told us ns = (told ≡ listenReply line p zs ts) × (us ≡ listenTerminals line p zs ts) × (ns ≡ listenNotes line p zs ts)
 
-  abbrev Sided : Moment → Bool → Ran → List ℕ → Type 0
-  Sided m told r octs = (r ≡ ranAfter bus m os told) × (octs ≡ octetsAfter bus m os)
+  abbrev Sided : Tally → Bool → RunAnswer → List ℕ → Type 0
+  Sided m told r octs = (r ≡ answerAfter bus m os told) × (octs ≡ octetsAfter bus m os)
 
-  promised : {m₀ m : Moment} {ts us : List Terminal} {line : Downward} {p : Periods} {told : Bool} {ns : List UnitNotes} {r : Ran} {octs : List ℕ} (zs : List UnitNotes) → length zs ≡ length ts → m₀ ≡ firstMoment bus ls → Exchanged m₀ m ts → line ≡ heardDown bus (m .ds) ls → p ≡ bus .periods → Listened p zs ts line told us ns → Sided m told r octs → Promised r us octs ns
-  unfolding stepMoment stepExchanged stepLine stepTerminals stepNotes stepTold stepRan stepOctets allTold allTerminals allNotes
+  promised : {m₀ m : Tally} {ts us : List Terminal} {line : Downward} {p : Periods} {told : Bool} {ns : List UnitNotes} {r : RunAnswer} {octs : List ℕ} (zs : List UnitNotes) → length zs ≡ length ts → m₀ ≡ firstTally bus ls → Exchanged m₀ m ts → line ≡ heardDown bus (m .ds) ls → p ≡ bus .periods → Listened p zs ts line told us ns → Sided m told r octs → Promised r us octs ns
+  unfolding stepTally stepExchanged stepLine stepTerminals stepNotes stepTold stepAnswer stepOctets listenReply listenTerminals listenNotes
   promised {ts = ts} zs even a b c q d e = let d′ = rw (eq-eqb (length zs) (length ts) even) at d in (cc, cc, cc, cc)
 
 module _ {M : Type 1} (𝓤 : URA M) (H : Heap 𝓤) (A : Atoms 𝓤) (mem : Memory → SProp 𝓤) (run : Routine → Fun 𝓤) where
@@ -109,7 +109,7 @@ module _ {M : Type 1} (𝓤 : URA M) (H : Heap 𝓤) (A : Atoms 𝓤) (W : Given
   abbrev Post : Val → SProp 𝓤
   Post = walkOf 𝓤 H A all.ended (stays-of all.ended ways) (all.clauses 𝓤 H A mem run) .post bound
 
-  exits : (r : Ran) (ts : List Terminal) (octs : List ℕ) (ns : List UnitNotes) → length ts ≡ length ys → length octs ≡ length os → length ns ≡ length us → Promised bus ys es os ls r ts octs ns → Is R.the-row r (runs .val r ∷ []) → ent 𝓤 (⋆ 𝓤 H A (itemsOf W (params ts octs ns))) (Post (runs .val r))
+  exits : (r : RunAnswer) (ts : List Terminal) (octs : List ℕ) (ns : List UnitNotes) → length ts ≡ length ys → length octs ≡ length os → length ns ≡ length us → Promised bus ys es os ls r ts octs ns → Is R.the-row r (runs .val r ∷ []) → ent 𝓤 (⋆ 𝓤 H A (itemsOf W (params ts octs ns))) (Post (runs .val r))
   exits r ts octs ns l₁ l₃ l₅ so gr =
       returns-with W (params ts octs ns) all.ended (stays-of all.ended ways) (all.clauses 𝓤 H A mem run) bound runs r (tt, (ts, (tt, (octs, (tt, (ns, tt)))))) (tt, (l₁, (tt, (l₃, (tt, (l₅, tt)))))) gr (id⊢ 𝓤 _) (says-four 𝓤 so)
 
@@ -125,15 +125,15 @@ module _ {M : Type 1} (𝓤 : URA M) (H : Heap 𝓤) (A : Atoms 𝓤) (W : Given
     tokens = λ ns. id⊢ 𝓤 _;
     last = λ ns ws. ws;
     finals = λ ns ws. id⊢ 𝓤 _;
-    result = λ ns. moments;
-    Said = λ ns m ws. m ≡ firstMoment bus ls;
+    result = λ ns. tallies;
+    Said = λ ns m ws. m ≡ firstTally bus ls;
     ensured = λ ns m ws. id⊢ 𝓤 _;
   }
 
-  abbrev to-exch : (m : Moment) → Is Mo.the-row m (moments .val m ∷ []) → List Param
-  to-exch m gm = lends-at 0 T.the-row s₁ (length ys) ys ∷ hands-at 1 u8 s₂ (length es) es ∷ plain-of Mo.the-row moments m gm ∷ []
+  abbrev to-exch : (m : Tally) → Is Mo.the-row m (tallies .val m ∷ []) → List Param
+  to-exch m gm = lends-at 0 T.the-row s₁ (length ys) ys ∷ hands-at 1 u8 s₂ (length es) es ∷ plain-of Mo.the-row tallies m gm ∷ []
 
-  abbrev the-exch : (m : Moment) (gm : Is Mo.the-row m (moments .val m ∷ [])) → Call W (to-exch m gm) exch.ended (exch.clauses 𝓤 H A mem run)
+  abbrev the-exch : (m : Tally) (gm : Is Mo.the-row m (tallies .val m ∷ [])) → Call W (to-exch m gm) exch.ended (exch.clauses 𝓤 H A mem run)
   the-exch m gm = record {
     bound = λ ns. ((lfts-of (to-exch m gm) ns, shares-of (to-exch m gm), tt, args-of (to-exch m gm) ns, vals-of (to-exch m gm)), tt);
     asks = λ ns. id⊢ 𝓤 _;
@@ -141,15 +141,15 @@ module _ {M : Type 1} (𝓤 : URA M) (H : Heap 𝓤) (A : Atoms 𝓤) (W : Given
     tokens = λ ns. id⊢ 𝓤 _;
     last = λ ns ws. ws;
     finals = λ ns ws. id⊢ 𝓤 _;
-    result = λ ns. moments;
+    result = λ ns. tallies;
     Said = λ ns r ws. Exchanged bus ys es os ls m r (ws .0);
     ensured = λ ns r ws. learn-two 𝓤;
   }
 
-  abbrev to-down : (m : Moment) → Is Mo.the-row m (moments .val m ∷ []) → List Param
-  to-down m gm = plain-of B.the-row buses bus gb ∷ plain-of Mo.the-row moments m gm ∷ hands-at 3 u8 s₄ (length ls) ls ∷ []
+  abbrev to-down : (m : Tally) → Is Mo.the-row m (tallies .val m ∷ []) → List Param
+  to-down m gm = plain-of B.the-row buses bus gb ∷ plain-of Mo.the-row tallies m gm ∷ hands-at 3 u8 s₄ (length ls) ls ∷ []
 
-  abbrev the-down : (m : Moment) (gm : Is Mo.the-row m (moments .val m ∷ [])) → Call W (to-down m gm) down.ended (down.clauses 𝓤 H A mem run)
+  abbrev the-down : (m : Tally) (gm : Is Mo.the-row m (tallies .val m ∷ [])) → Call W (to-down m gm) down.ended (down.clauses 𝓤 H A mem run)
   the-down m gm = record {
     bound = λ ns. ((lfts-of (to-down m gm) ns, shares-of (to-down m gm), tt, args-of (to-down m gm) ns, vals-of (to-down m gm)), tt);
     asks = λ ns. id⊢ 𝓤 _;
@@ -194,10 +194,10 @@ module _ {M : Type 1} (𝓤 : URA M) (H : Heap 𝓤) (A : Atoms 𝓤) (W : Given
     ensured = λ ns told ws. learn-three 𝓤;
   }
 
-  abbrev to-side : (m : Moment) → Is Mo.the-row m (moments .val m ∷ []) → Bool → List Param
-  to-side m gm told = plain-of B.the-row buses bus gb ∷ plain-of Mo.the-row moments m gm ∷ lends-at 2 u8 s₃ (length os) os ∷ plain-of bool bool-kind told refl ∷ []
+  abbrev to-side : (m : Tally) → Is Mo.the-row m (tallies .val m ∷ []) → Bool → List Param
+  to-side m gm told = plain-of B.the-row buses bus gb ∷ plain-of Mo.the-row tallies m gm ∷ lends-at 2 u8 s₃ (length os) os ∷ plain-of bool bool-kind told refl ∷ []
 
-  abbrev the-side : (m : Moment) (gm : Is Mo.the-row m (moments .val m ∷ [])) (told : Bool) → Call W (to-side m gm told) side.ended (side.clauses 𝓤 H A mem run)
+  abbrev the-side : (m : Tally) (gm : Is Mo.the-row m (tallies .val m ∷ [])) (told : Bool) → Call W (to-side m gm told) side.ended (side.clauses 𝓤 H A mem run)
   the-side m gm told = record {
     bound = λ ns. ((lfts-of (to-side m gm told) ns, shares-of (to-side m gm told), tt, args-of (to-side m gm told) ns, vals-of (to-side m gm told)), tt);
     asks = λ ns. id⊢ 𝓤 _;
@@ -244,9 +244,9 @@ step-spec 𝓤 H 𝓜 𝓖 𝓡 =
     entered 𝓤 H (tripleOf 𝓤 H (𝓖 .A) all.signature (all.spec 𝓤 H (𝓖 .A) (𝓜 .mem) (𝓡 .run)))
     (tables 𝓤 H 𝓜 𝓡 code.env .C) (tables 𝓤 H 𝓜 𝓡 code.env .Λ) #walk code.function (code.unfolded 𝓤 H 𝓜 𝓡)
     (meets 𝓤 H (𝓖 .A) (givenOf 𝓤 H 𝓜 𝓖) (𝓜 .mem) (𝓡 .run) (tablesOf 𝓤 H 𝓜 (tables 𝓤 H 𝓜 𝓡 code.env))
-    (cited 𝓤 H (First 𝓤 H (𝓖 .A) (𝓜 .mem) (𝓡 .run)) 𝓜 𝓡 code.env #first first-def.routine code.calls-bus-record·echo·first-moment (first-thm.met 𝓤 H 𝓜 𝓖 𝓡))
+    (cited 𝓤 H (First 𝓤 H (𝓖 .A) (𝓜 .mem) (𝓡 .run)) 𝓜 𝓡 code.env #first first-def.routine code.calls-bus-record·echo·first-tally (first-thm.met 𝓤 H 𝓜 𝓖 𝓡))
     (cited 𝓤 H (Exch 𝓤 H (𝓖 .A) (𝓜 .mem) (𝓡 .run)) 𝓜 𝓡 code.env #exch exch-def.routine code.calls-exchange·opportunity·exchange (exch-thm.met 𝓤 H 𝓜 𝓖 𝓡))
     (cited 𝓤 H (Down 𝓤 H (𝓖 .A) (𝓜 .mem) (𝓡 .run)) 𝓜 𝓡 code.env #down down-def.routine code.calls-bus-calls·step·line-after (down-thm.met 𝓤 H 𝓜 𝓖 𝓡))
     (cited 𝓤 H (Period 𝓤 H (𝓖 .A) (𝓜 .mem) (𝓡 .run)) 𝓜 𝓡 code.env #period period-def.routine code.calls-bus-calls·fields·periods-of (period-thm.met 𝓤 H 𝓜 𝓖 𝓡))
-    (cited 𝓤 H (Listen 𝓤 H (𝓖 .A) (𝓜 .mem) (𝓡 .run)) 𝓜 𝓡 code.env #listen listen-def.routine code.calls-listening·listen·listen (listen-thm.met 𝓤 H 𝓜 𝓖 𝓡))
+    (cited 𝓤 H (Listen 𝓤 H (𝓖 .A) (𝓜 .mem) (𝓡 .run)) 𝓜 𝓡 code.env #listen listen-def.routine code.calls-period-hearing·listen·listen (listen-thm.met 𝓤 H 𝓜 𝓖 𝓡))
     (cited 𝓤 H (Side 𝓤 H (𝓖 .A) (𝓜 .mem) (𝓡 .run)) 𝓜 𝓡 code.env #side side-def.routine code.calls-bus-record·side·network-side (side-thm.met 𝓤 H 𝓜 𝓖 𝓡)))

@@ -1,70 +1,70 @@
--- `bus_calls::turn::advance` meets its contract: a walk of its MIR with the lemmas of crate `walks`. All that it knows of the functions it calls are their contracts;
+-- `bus_calls::turn::advance` meets its contract: a walk of its MIR with the lemmas of crate `slice_lemmas`. All that it knows of the functions it calls are their contracts;
 -- that a run alone is a turn is the law `alone-turns`. Assumes nothing.
-use Rattle.walks.proofs.Walk.{_≡_, refl, sym, _∙_, ap, subst, ℕ, _<_, _^_, arith, true, false, List, [], _∷_, eqb, length, URA, w32, Val, vint, SProp, ent, emp, id⊢, Memory, Routine, Heap, Tables, WpFn, Atoms, Fun, factI, givenOf, tables, tablesOf, Given, ⋆, _$_, !, lit, no-more, and-then, bin, Is, u8, u32, Room, onEntry, Meets, tripleOf, Contract, Triple, entered, cited, walkOf, loc, sets, leaves, returns-if, typed, uint-kind, bool-kind, unit-kind, Spot, spot, word, lends-at, shows-at, hands-at, Param, plain-of, lfts-at, shares-at, args-at, vals-of, lfts-of, shares-of, args-of, itemsOf, reborrows, Call, calls-giving, enters-with, returns-with, mut-way, shr-way, plain-way, Ways-of, stays-of, meets-by, needs, learn-two}
+use Rattle.slice_lemmas.proofs.Walk.{_≡_, refl, sym, _∙_, ap, subst, ℕ, _<_, _^_, arith, true, false, List, [], _∷_, eqb, length, URA, w32, Val, vint, SProp, ent, emp, id⊢, Memory, Routine, Heap, Tables, WpFn, Atoms, Fun, factI, givenOf, tables, tablesOf, Given, ⋆, _$_, !, lit, no-more, and-then, bin, Is, u8, u32, Room, onEntry, Meets, tripleOf, Contract, Triple, entered, cited, walkOf, loc, sets, leaves, returns-if, typed, uint-kind, bool-kind, unit-kind, Spot, spot, word, lends-at, shows-at, hands-at, Param, plain-of, lfts-at, shares-at, args-at, vals-of, lfts-of, shares-of, args-of, itemsOf, reborrows, Call, calls-giving, enters-with, returns-with, mut-way, shr-way, plain-way, Ways-of, stays-of, meets-by, needs, learn-two}
 use Prim.Native.Nat.{_-_, _≤_}
 use borrow.Author.Tests.{eqb-true, eqb-false}
-use Rattle.walks.specs.Over.{mapFrom}
+use Rattle.slice_lemmas.specs.Over.{mapFrom}
 use Rattle.timing.specs.declared.counts.Periods.{Periods}
 use Rattle.timing.proofs.counts.Periods as P
 use Rattle.terminal.specs.declared.Terminal.{Terminal}
 use Rattle.terminal.proofs.Terminal as T
-use Rattle.listening.specs.Hears.{silenced}
-use Rattle.listening.specs.declared.hears.UnitNotes.{UnitNotes}
-use Rattle.listening.proofs.hears.UnitNotes as N
+use Rattle.period_hearing.specs.Hears.{silenced}
+use Rattle.period_hearing.specs.declared.hears.UnitNotes.{UnitNotes}
+use Rattle.period_hearing.proofs.hears.UnitNotes as N
 use Rattle.bus_record.specs.declared.record.BusRecord.{BusRecord}
 use Rattle.bus_record.proofs.record.BusRecord as B
-use Rattle.solo.specs.Solo.{followed}
-use Rattle.solo.specs.Alone.{aloneRun, aloneRunOctets}
-use Rattle.solo.specs.Search.{searched, aloneFor, inVain}
-use Rattle.solo.specs.declared.solo.Solo.{Solo}
-use Rattle.solo.specs.declared.alone.Alone.{Alone}
-use Rattle.solo.specs.declared.search.Search.{Search}
-use Rattle.solo.proofs.solo.Solo as So
-use Rattle.solo.proofs.search.Search as Se
-use Rattle.solo.proofs.alone.Alone as Al
-use Rattle.solo.proofs.Structs.{periods, solos, searches}
-use Rattle.call_rules.specs.Kept.{kept}
-use Rattle.leaps.specs.Turn.{Turns}
-use Rattle.leaps.proofs.AloneTurns.{none-run, alone-turns}
+use Rattle.lone_sender.specs.Lone.{followed}
+use Rattle.lone_sender.specs.Alone.{aloneRun, aloneRunOctets}
+use Rattle.lone_sender.specs.Search.{searched, aloneFor, inVain}
+use Rattle.lone_sender.specs.declared.lone.LoneSender.{LoneSender}
+use Rattle.lone_sender.specs.declared.alone.Alone.{Alone}
+use Rattle.lone_sender.specs.declared.search.Search.{Search}
+use Rattle.lone_sender.proofs.lone.LoneSender as So
+use Rattle.lone_sender.proofs.search.Search as Se
+use Rattle.lone_sender.proofs.alone.Alone as Al
+use Rattle.lone_sender.proofs.Structs.{periods, lones, searches}
+use Rattle.bus_call_specs.specs.Kept.{kept}
+use Rattle.idle_periods.specs.Turn.{Turns}
+use Rattle.idle_periods.proofs.AloneTurns.{none-run, alone-turns}
 use Rattle.bus_calls.specs.declared.turn.Turn.{Turn}
 use Rattle.bus_calls.proofs.Structs.{buses, turns, alones}
 use Rattle.bus_calls.proofs.turn.Turn as Tu
-use Rattle.solo.proofs.search.in_vain as vain
-use Rattle.solo.proofs.search.in_vain.Symbol as vain-def
-use Rattle.solo.proofs.search.in_vain.Symbol.{name as #vain}
-use Rattle.solo.proofs.search.in_vain.Met as vain-thm
-use Rattle.solo.proofs.search.find as find
-use Rattle.solo.proofs.search.find.Symbol as find-def
-use Rattle.solo.proofs.search.find.Symbol.{name as #find}
-use Rattle.solo.proofs.search.find.Met as find-thm
-use Rattle.solo.proofs.search.Search.alone_for as most
-use Rattle.solo.proofs.search.Search.alone_for.Symbol as most-def
-use Rattle.solo.proofs.search.Search.alone_for.Symbol.{name as #most}
-use Rattle.solo.proofs.search.Search.alone_for.Met as most-thm
-use Rattle.solo.proofs.alone.run_alone as alone
-use Rattle.solo.proofs.alone.run_alone.Symbol as alone-def
-use Rattle.solo.proofs.alone.run_alone.Symbol.{name as #alone}
-use Rattle.solo.proofs.alone.run_alone.Met as alone-thm
-use Rattle.solo.proofs.follow.follow as follow
-use Rattle.solo.proofs.follow.follow.Symbol as follow-def
-use Rattle.solo.proofs.follow.follow.Symbol.{name as #follow}
-use Rattle.solo.proofs.follow.follow.Met as follow-thm
-use Rattle.listening.proofs.silence.silence as silence
-use Rattle.listening.proofs.silence.silence.Symbol as silence-def
-use Rattle.listening.proofs.silence.silence.Symbol.{name as #silence}
-use Rattle.listening.proofs.silence.silence.Met as silence-thm
+use Rattle.lone_sender.proofs.search.in_vain as vain
+use Rattle.lone_sender.proofs.search.in_vain.Symbol as vain-def
+use Rattle.lone_sender.proofs.search.in_vain.Symbol.{name as #vain}
+use Rattle.lone_sender.proofs.search.in_vain.Met as vain-thm
+use Rattle.lone_sender.proofs.search.find as find
+use Rattle.lone_sender.proofs.search.find.Symbol as find-def
+use Rattle.lone_sender.proofs.search.find.Symbol.{name as #find}
+use Rattle.lone_sender.proofs.search.find.Met as find-thm
+use Rattle.lone_sender.proofs.search.Search.alone_for as most
+use Rattle.lone_sender.proofs.search.Search.alone_for.Symbol as most-def
+use Rattle.lone_sender.proofs.search.Search.alone_for.Symbol.{name as #most}
+use Rattle.lone_sender.proofs.search.Search.alone_for.Met as most-thm
+use Rattle.lone_sender.proofs.alone.run_alone as alone
+use Rattle.lone_sender.proofs.alone.run_alone.Symbol as alone-def
+use Rattle.lone_sender.proofs.alone.run_alone.Symbol.{name as #alone}
+use Rattle.lone_sender.proofs.alone.run_alone.Met as alone-thm
+use Rattle.lone_sender.proofs.follow.follow as follow
+use Rattle.lone_sender.proofs.follow.follow.Symbol as follow-def
+use Rattle.lone_sender.proofs.follow.follow.Symbol.{name as #follow}
+use Rattle.lone_sender.proofs.follow.follow.Met as follow-thm
+use Rattle.period_hearing.proofs.silence.silence as silence
+use Rattle.period_hearing.proofs.silence.silence.Symbol as silence-def
+use Rattle.period_hearing.proofs.silence.silence.Symbol.{name as #silence}
+use Rattle.period_hearing.proofs.silence.silence.Met as silence-thm
 use Rattle.bus_calls.proofs.fields.periods_of as period
 use Rattle.bus_calls.proofs.fields.periods_of.Symbol as period-def
 use Rattle.bus_calls.proofs.fields.periods_of.Symbol.{name as #period}
 use Rattle.bus_calls.proofs.fields.periods_of.Met as period-thm
-use Rattle.bus_calls.proofs.fields.solo_found as sender
-use Rattle.bus_calls.proofs.fields.solo_found.Symbol as sender-def
-use Rattle.bus_calls.proofs.fields.solo_found.Symbol.{name as #sender}
-use Rattle.bus_calls.proofs.fields.solo_found.Met as sender-thm
-use Rattle.bus_calls.proofs.fields.solo_after as after
-use Rattle.bus_calls.proofs.fields.solo_after.Symbol as after-def
-use Rattle.bus_calls.proofs.fields.solo_after.Symbol.{name as #after}
-use Rattle.bus_calls.proofs.fields.solo_after.Met as after-thm
+use Rattle.bus_calls.proofs.fields.lone_found as sender
+use Rattle.bus_calls.proofs.fields.lone_found.Symbol as sender-def
+use Rattle.bus_calls.proofs.fields.lone_found.Symbol.{name as #sender}
+use Rattle.bus_calls.proofs.fields.lone_found.Met as sender-thm
+use Rattle.bus_calls.proofs.fields.lone_after as after
+use Rattle.bus_calls.proofs.fields.lone_after.Symbol as after-def
+use Rattle.bus_calls.proofs.fields.lone_after.Symbol.{name as #after}
+use Rattle.bus_calls.proofs.fields.lone_after.Met as after-thm
 use Rattle.bus_calls.proofs.turn.none_run as none
 use Rattle.bus_calls.proofs.turn.none_run.Symbol as none-def
 use Rattle.bus_calls.proofs.turn.none_run.Symbol.{name as #none}
@@ -140,12 +140,12 @@ record Known {M : Type 1} (𝓤 : URA M) (H : Heap 𝓤) (A : Atoms 𝓤) (mem :
 module _ (bus : BusRecord) (ys : List Terminal) (es os ls : List ℕ) (us : List UnitNotes) (left : ℕ) where
   -- from the lists, with these octets
   abbrev Promised : List ℕ → Turn → List Terminal → List ℕ → List UnitNotes → Type 0
-  Promised octets r ts octs ns = Turns left (kept bus ys es octets ls us) (r .ran) (r .over) (kept (r .ran .bus) ts es octs ls ns)
+  Promised octets r ts octs ns = Turns left (kept bus ys es octets ls us) (r .answer) (r .over) (kept (r .answer .bus) ts es octs ls ns)
 
-  abbrev RunsAlone : Solo → ℕ → Alone → List ℕ → Type 0
+  abbrev RunsAlone : LoneSender → ℕ → Alone → List ℕ → Type 0
   RunsAlone b most a octets = (a ≡ aloneRun es most bus b os) × (octets ≡ aloneRunOctets es most bus b os)
 
-  module _ (b : Solo) (most : ℕ) (a : Alone) (octets : List ℕ) (ran : RunsAlone b most a octets) where
+  module _ (b : LoneSender) (most : ℕ) (a : Alone) (octets : List ℕ) (ran : RunsAlone b most a octets) where
     -- no period has been run alone
     none-alone : eqb (a .over) 0 ≡ true → octets ≡ os
     none-alone z = ran .1 ∙ none-run es most bus b os (ap (λ (x : Alone). x .over) (sym (ran .0)) ∙ eqb-true (a .over) 0 z)
@@ -153,16 +153,16 @@ module _ (bus : BusRecord) (ys : List Terminal) (es os ls : List ℕ) (us : List
     some-alone : eqb (a .over) 0 ≡ false → 1 ≤ a .over
     some-alone z = omega (arith, eqb-false (a .over) 0 z)
 
-    alone-promised : (found : Search) → found ≡ searched (bus .periods) left ys → b ≡ found .solo → most ≡ aloneFor found → eqb most 0 ≡ false → eqb (a .over) 0 ≡ false → (t : Turn) → (t .ran ≡ a .ran) × (t .over ≡ a .over - 1)
-        → (ts : List Terminal) → ts ≡ mapFrom (followed (a .solo)) 0 ys → (ns : List UnitNotes) → ns ≡ mapFrom silenced 0 us → Promised os t ts octets ns
+    alone-promised : (found : Search) → found ≡ searched (bus .periods) left ys → b ≡ found .lone → most ≡ aloneFor found → eqb most 0 ≡ false → eqb (a .over) 0 ≡ false → (t : Turn) → (t .answer ≡ a .answer) × (t .over ≡ a .over - 1)
+        → (ts : List Terminal) → ts ≡ mapFrom (followed (a .lone)) 0 ys → (ns : List UnitNotes) → ns ≡ mapFrom silenced 0 us → Promised os t ts octets ns
     alone-promised found is-found is-b is-most some over t is-t ts is-ts ns is-ns =
         let k = kept bus ys es os ls us in
         let m : most ≡ aloneFor (searched (bus .periods) left ys) = is-most ∙ ap aloneFor is-found in
-        let s : b ≡ searched (bus .periods) left ys .solo = is-b ∙ ap (λ (x : Search). x .solo) is-found in
-        let r : a ≡ aloneRun es (aloneFor (searched (bus .periods) left ys)) bus (searched (bus .periods) left ys .solo) os = rw (m, s) at (ran .0) in
-        let o : octets ≡ aloneRunOctets es (aloneFor (searched (bus .periods) left ys)) bus (searched (bus .periods) left ys .solo) os = rw (m, s) at (ran .1) in
+        let s : b ≡ searched (bus .periods) left ys .lone = is-b ∙ ap (λ (x : Search). x .lone) is-found in
+        let r : a ≡ aloneRun es (aloneFor (searched (bus .periods) left ys)) bus (searched (bus .periods) left ys .lone) os = rw (m, s) at (ran .0) in
+        let o : octets ≡ aloneRunOctets es (aloneFor (searched (bus .periods) left ys)) bus (searched (bus .periods) left ys .lone) os = rw (m, s) at (ran .1) in
         let search : 0 < aloneFor (searched (bus .periods) left ys) = omega (arith, m, eqb-false most 0 some) in
-        let run : 0 < aloneRun es (aloneFor (searched (bus .periods) left ys)) bus (searched (bus .periods) left ys .solo) os .over = rw r at (some-alone over) in
+        let run : 0 < aloneRun es (aloneFor (searched (bus .periods) left ys)) bus (searched (bus .periods) left ys .lone) os .over = rw r at (some-alone over) in
         rw (is-t .0, is-t .1, is-ts, is-ns, o, r) (alone-turns left k search run)
 
 module _ {M : Type 1} (𝓤 : URA M) (H : Heap 𝓤) (A : Atoms 𝓤) (W : Given 𝓤 H A) (mem : Memory → SProp 𝓤) (run : Routine → Fun 𝓤) (s₁ s₂ s₃ s₄ s₅ : Spot) (bus : BusRecord) (ys : List Terminal) (es os ls : List ℕ) (us : List UnitNotes) (left : ℕ)
@@ -261,15 +261,15 @@ module _ {M : Type 1} (𝓤 : URA M) (H : Heap 𝓤) (A : Atoms 𝓤) (W : Given
     tokens = λ ns. id⊢ 𝓤 _;
     last = λ ns ws. ws;
     finals = λ ns ws. id⊢ 𝓤 _;
-    result = λ ns. solos;
-    Said = λ ns b ws. b ≡ f .solo;
+    result = λ ns. lones;
+    Said = λ ns b ws. b ≡ f .lone;
     ensured = λ ns b ws. id⊢ 𝓤 _;
   }
 
-  abbrev to-alone : (b : Solo) (gs : Is So.the-row b (solos .val b ∷ [])) (m : ℕ) (gm : m < 2 ^ 32) → List Param
-  to-alone b gs m gm = plain-of B.the-row buses bus gb ∷ hands-at 1 u8 s₂ (length es) es ∷ lends-at 2 u8 s₃ (length os) os ∷ plain-of So.the-row solos b gs ∷ plain-of u32 (uint-kind w32) m (refl, gm) ∷ []
+  abbrev to-alone : (b : LoneSender) (gs : Is So.the-row b (lones .val b ∷ [])) (m : ℕ) (gm : m < 2 ^ 32) → List Param
+  to-alone b gs m gm = plain-of B.the-row buses bus gb ∷ hands-at 1 u8 s₂ (length es) es ∷ lends-at 2 u8 s₃ (length os) os ∷ plain-of So.the-row lones b gs ∷ plain-of u32 (uint-kind w32) m (refl, gm) ∷ []
 
-  abbrev the-alone : (b : Solo) (gs : Is So.the-row b (solos .val b ∷ [])) (m : ℕ) (gm : m < 2 ^ 32) → Call W (to-alone b gs m gm) alone.ended (alone.clauses 𝓤 H A mem run)
+  abbrev the-alone : (b : LoneSender) (gs : Is So.the-row b (lones .val b ∷ [])) (m : ℕ) (gm : m < 2 ^ 32) → Call W (to-alone b gs m gm) alone.ended (alone.clauses 𝓤 H A mem run)
   the-alone b gs m gm = record {
     bound = λ ns. ((lfts-of (to-alone b gs m gm) ns, shares-of (to-alone b gs m gm), tt, args-of (to-alone b gs m gm) ns, vals-of (to-alone b gs m gm)), tt);
     asks = λ ns. id⊢ 𝓤 _;
@@ -309,15 +309,15 @@ module _ {M : Type 1} (𝓤 : URA M) (H : Heap 𝓤) (A : Atoms 𝓤) (W : Given
     tokens = λ ns. id⊢ 𝓤 _;
     last = λ ns ws. ws;
     finals = λ ns ws. id⊢ 𝓤 _;
-    result = λ ns. solos;
-    Said = λ ns b ws. b ≡ a .solo;
+    result = λ ns. lones;
+    Said = λ ns b ws. b ≡ a .lone;
     ensured = λ ns b ws. id⊢ 𝓤 _;
   }
 
-  abbrev to-follow : (b : Solo) (gs : Is So.the-row b (solos .val b ∷ [])) → List Param
-  to-follow b gs = lends-at 0 T.the-row s₁ (length ys) ys ∷ plain-of So.the-row solos b gs ∷ []
+  abbrev to-follow : (b : LoneSender) (gs : Is So.the-row b (lones .val b ∷ [])) → List Param
+  to-follow b gs = lends-at 0 T.the-row s₁ (length ys) ys ∷ plain-of So.the-row lones b gs ∷ []
 
-  abbrev the-follow : (b : Solo) (gs : Is So.the-row b (solos .val b ∷ [])) → Call W (to-follow b gs) follow.ended (follow.clauses 𝓤 H A mem run)
+  abbrev the-follow : (b : LoneSender) (gs : Is So.the-row b (lones .val b ∷ [])) → Call W (to-follow b gs) follow.ended (follow.clauses 𝓤 H A mem run)
   the-follow b gs = record {
     bound = λ ns. ((lfts-of (to-follow b gs) ns, shares-of (to-follow b gs), tt, args-of (to-follow b gs) ns, vals-of (to-follow b gs)), tt);
     asks = λ ns. id⊢ 𝓤 _;
@@ -358,7 +358,7 @@ module _ {M : Type 1} (𝓤 : URA M) (H : Heap 𝓤) (A : Atoms 𝓤) (W : Given
     last = λ ns ws. ws;
     finals = λ ns ws. id⊢ 𝓤 _;
     result = λ ns. turns;
-    Said = λ ns t ws. (t .ran ≡ a .ran) × (t .over ≡ a .over - 1);
+    Said = λ ns t ws. (t .answer ≡ a .answer) × (t .over ≡ a .over - 1);
     ensured = λ ns t ws. learn-two 𝓤;
   }
 
@@ -418,7 +418,7 @@ module _ {M : Type 1} (𝓤 : URA M) (H : Heap 𝓤) (A : Atoms 𝓤) (W : Given
       -- turn_alone(alone)
       calls-giving (the-turn a ga) [] ! refl 𝓣 (known .knows-turn) (λ ns Θ. and-then ! (loc ! tt refl) (no-more !)) tt (λ ns. refl) (λ ns t _ _ is-t gt.
       leaves ! Post refl tt refl (exits t (wf .0) (wa .1 .1 .0) (wn .0) (lf .0) (la .0) (ln .0)
-      (alone-promised bus ys es os ls us left b m a (wa .1 .1 .0) ran f (is-f ∙ ap (λ (q : Periods). searched q left ys) is-p) is-b is-m some (sym is-z ∙ over) t is-t (wf .0) (is-f′ ∙ ap (λ (q : Solo). mapFrom (followed q) 0 ys) is-c) (wn .0) is-n) gt))))))))))))))))
+      (alone-promised bus ys es os ls us left b m a (wa .1 .1 .0) ran f (is-f ∙ ap (λ (q : Periods). searched q left ys) is-p) is-b is-m some (sym is-z ∙ over) t is-t (wf .0) (is-f′ ∙ ap (λ (q : LoneSender). mapFrom (followed q) 0 ys) is-c) (wn .0) is-n) gt))))))))))))))))
 
 meets : {M : Type 1} (𝓤 : URA M) (H : Heap 𝓤) (A : Atoms 𝓤) → Given 𝓤 H A → (mem : Memory → SProp 𝓤) (run : Routine → Fun 𝓤) (𝓣 : Tables 𝓤 H) → Known 𝓤 H A mem run 𝓣 → Meets 𝓤 H A all.signature (WpFn 𝓤 H (𝓣 .C) (𝓣 .Λ) code.function) (all.spec 𝓤 H A mem run)
 meets 𝓤 H A W mem run 𝓣 known =
@@ -434,15 +434,15 @@ advance-spec 𝓤 H 𝓜 𝓖 𝓡 =
     (tables 𝓤 H 𝓜 𝓡 code.env .C) (tables 𝓤 H 𝓜 𝓡 code.env .Λ) #walk code.function (code.unfolded 𝓤 H 𝓜 𝓡)
     (meets 𝓤 H (𝓖 .A) (givenOf 𝓤 H 𝓜 𝓖) (𝓜 .mem) (𝓡 .run) (tablesOf 𝓤 H 𝓜 (tables 𝓤 H 𝓜 𝓡 code.env))
     (record {
-      knows-vain = cited 𝓤 H (Vain 𝓤 H (𝓖 .A) (𝓜 .mem) (𝓡 .run)) 𝓜 𝓡 code.env #vain vain-def.routine code.calls-solo·search·in-vain (vain-thm.met 𝓤 H 𝓜 𝓖 𝓡);
-      knows-find = cited 𝓤 H (Finds 𝓤 H (𝓖 .A) (𝓜 .mem) (𝓡 .run)) 𝓜 𝓡 code.env #find find-def.routine code.calls-solo·search·find (find-thm.met 𝓤 H 𝓜 𝓖 𝓡);
-      knows-most = cited 𝓤 H (Most 𝓤 H (𝓖 .A) (𝓜 .mem) (𝓡 .run)) 𝓜 𝓡 code.env #most most-def.routine code.calls-solo·search·Search·alone-for (most-thm.met 𝓤 H 𝓜 𝓖 𝓡);
-      knows-alone = cited 𝓤 H (Alones 𝓤 H (𝓖 .A) (𝓜 .mem) (𝓡 .run)) 𝓜 𝓡 code.env #alone alone-def.routine code.calls-solo·alone·run-alone (alone-thm.met 𝓤 H 𝓜 𝓖 𝓡);
-      knows-follow = cited 𝓤 H (Follows 𝓤 H (𝓖 .A) (𝓜 .mem) (𝓡 .run)) 𝓜 𝓡 code.env #follow follow-def.routine code.calls-solo·follow·follow (follow-thm.met 𝓤 H 𝓜 𝓖 𝓡);
-      knows-silence = cited 𝓤 H (Silences 𝓤 H (𝓖 .A) (𝓜 .mem) (𝓡 .run)) 𝓜 𝓡 code.env #silence silence-def.routine code.calls-listening·silence·silence (silence-thm.met 𝓤 H 𝓜 𝓖 𝓡);
+      knows-vain = cited 𝓤 H (Vain 𝓤 H (𝓖 .A) (𝓜 .mem) (𝓡 .run)) 𝓜 𝓡 code.env #vain vain-def.routine code.calls-lone-sender·search·in-vain (vain-thm.met 𝓤 H 𝓜 𝓖 𝓡);
+      knows-find = cited 𝓤 H (Finds 𝓤 H (𝓖 .A) (𝓜 .mem) (𝓡 .run)) 𝓜 𝓡 code.env #find find-def.routine code.calls-lone-sender·search·find (find-thm.met 𝓤 H 𝓜 𝓖 𝓡);
+      knows-most = cited 𝓤 H (Most 𝓤 H (𝓖 .A) (𝓜 .mem) (𝓡 .run)) 𝓜 𝓡 code.env #most most-def.routine code.calls-lone-sender·search·Search·alone-for (most-thm.met 𝓤 H 𝓜 𝓖 𝓡);
+      knows-alone = cited 𝓤 H (Alones 𝓤 H (𝓖 .A) (𝓜 .mem) (𝓡 .run)) 𝓜 𝓡 code.env #alone alone-def.routine code.calls-lone-sender·alone·run-alone (alone-thm.met 𝓤 H 𝓜 𝓖 𝓡);
+      knows-follow = cited 𝓤 H (Follows 𝓤 H (𝓖 .A) (𝓜 .mem) (𝓡 .run)) 𝓜 𝓡 code.env #follow follow-def.routine code.calls-lone-sender·follow·follow (follow-thm.met 𝓤 H 𝓜 𝓖 𝓡);
+      knows-silence = cited 𝓤 H (Silences 𝓤 H (𝓖 .A) (𝓜 .mem) (𝓡 .run)) 𝓜 𝓡 code.env #silence silence-def.routine code.calls-period-hearing·silence·silence (silence-thm.met 𝓤 H 𝓜 𝓖 𝓡);
       knows-period = cited 𝓤 H (Periodic 𝓤 H (𝓖 .A) (𝓜 .mem) (𝓡 .run)) 𝓜 𝓡 code.env #period period-def.routine code.calls-bus-calls·fields·periods-of (period-thm.met 𝓤 H 𝓜 𝓖 𝓡);
-      knows-sender = cited 𝓤 H (Senders 𝓤 H (𝓖 .A) (𝓜 .mem) (𝓡 .run)) 𝓜 𝓡 code.env #sender sender-def.routine code.calls-bus-calls·fields·solo-found (sender-thm.met 𝓤 H 𝓜 𝓖 𝓡);
-      knows-after = cited 𝓤 H (Afters 𝓤 H (𝓖 .A) (𝓜 .mem) (𝓡 .run)) 𝓜 𝓡 code.env #after after-def.routine code.calls-bus-calls·fields·solo-after (after-thm.met 𝓤 H 𝓜 𝓖 𝓡);
+      knows-sender = cited 𝓤 H (Senders 𝓤 H (𝓖 .A) (𝓜 .mem) (𝓡 .run)) 𝓜 𝓡 code.env #sender sender-def.routine code.calls-bus-calls·fields·lone-found (sender-thm.met 𝓤 H 𝓜 𝓖 𝓡);
+      knows-after = cited 𝓤 H (Afters 𝓤 H (𝓖 .A) (𝓜 .mem) (𝓡 .run)) 𝓜 𝓡 code.env #after after-def.routine code.calls-bus-calls·fields·lone-after (after-thm.met 𝓤 H 𝓜 𝓖 𝓡);
       knows-none = cited 𝓤 H (Nones 𝓤 H (𝓖 .A) (𝓜 .mem) (𝓡 .run)) 𝓜 𝓡 code.env #none none-def.routine code.calls-bus-calls·turn·none-run (none-thm.met 𝓤 H 𝓜 𝓖 𝓡);
       knows-turn = cited 𝓤 H (Turned 𝓤 H (𝓖 .A) (𝓜 .mem) (𝓡 .run)) 𝓜 𝓡 code.env #turn turn-def.routine code.calls-bus-calls·turn·turn-alone (turn-thm.met 𝓤 H 𝓜 𝓖 𝓡);
       knows-leap = cited 𝓤 H (Leaps 𝓤 H (𝓖 .A) (𝓜 .mem) (𝓡 .run)) 𝓜 𝓡 code.env #leap leap-def.routine code.calls-bus-calls·turn·leap-on (leap-thm.met 𝓤 H 𝓜 𝓖 𝓡);

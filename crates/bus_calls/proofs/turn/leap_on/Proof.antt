@@ -1,30 +1,30 @@
--- `bus_calls::turn::leap_on` meets its contract: a walk of its MIR with the lemmas of crate `walks`. All that it knows of the functions it calls are their contracts;
+-- `bus_calls::turn::leap_on` meets its contract: a walk of its MIR with the lemmas of crate `slice_lemmas`. All that it knows of the functions it calls are their contracts;
 -- that a leap and a period run on is the law `leap-turns`. Assumes nothing.
-use Rattle.walks.proofs.Walk.{_≡_, refl, ℕ, _<_, _^_, List, [], _∷_, length, URA, w32, Val, vint, SProp, ent, emp, id⊢, Memory, Routine, Heap, Tables, WpFn, Atoms, Fun, factI, givenOf, tables, tablesOf, Given, ⋆, _$_, !, no-more, and-then, Is, u8, u32, Room, onEntry, Meets, tripleOf, Contract, Triple, entered, cited, walkOf, loc, leaves, typed, uint-kind, Spot, spot, word, lends-at, shows-at, hands-at, Param, plain-of, lfts-at, shares-at, args-at, vals-of, lfts-of, shares-of, args-of, itemsOf, reborrows, Call, calls-giving, enters-with, returns-with, mut-way, shr-way, plain-way, Ways-of, stays-of, meets-by, needs, learn-two, learn-four}
+use Rattle.slice_lemmas.proofs.Walk.{_≡_, refl, ℕ, _<_, _^_, List, [], _∷_, length, URA, w32, Val, vint, SProp, ent, emp, id⊢, Memory, Routine, Heap, Tables, WpFn, Atoms, Fun, factI, givenOf, tables, tablesOf, Given, ⋆, _$_, !, no-more, and-then, Is, u8, u32, Room, onEntry, Meets, tripleOf, Contract, Triple, entered, cited, walkOf, loc, leaves, typed, uint-kind, Spot, spot, word, lends-at, shows-at, hands-at, Param, plain-of, lfts-at, shares-at, args-at, vals-of, lfts-of, shares-of, args-of, itemsOf, reborrows, Call, calls-giving, enters-with, returns-with, mut-way, shr-way, plain-way, Ways-of, stays-of, meets-by, needs, learn-two, learn-four}
 use Rattle.terminal.specs.declared.Terminal.{Terminal}
 use Rattle.terminal.proofs.Terminal as T
-use Rattle.listening.specs.declared.hears.UnitNotes.{UnitNotes}
-use Rattle.listening.proofs.hears.UnitNotes as N
+use Rattle.period_hearing.specs.declared.hears.UnitNotes.{UnitNotes}
+use Rattle.period_hearing.proofs.hears.UnitNotes as N
 use Rattle.bus_record.specs.declared.record.BusRecord.{BusRecord}
-use Rattle.bus_record.specs.declared.side.Ran.{Ran}
+use Rattle.bus_record.specs.declared.side.RunAnswer.{RunAnswer}
 use Rattle.bus_record.proofs.record.BusRecord as B
-use Rattle.bus_record.proofs.side.Ran as R
-use Rattle.call_rules.specs.Kept.{Kept, kept}
-use Rattle.call_rules.specs.Step.{stepRan, stepTerminals, stepOctets, stepNotes}
-use Rattle.leaps.specs.Still as still
-use Rattle.leaps.specs.Turn.{Turns}
-use Rattle.leaps.proofs.Turning.{leap-turns}
+use Rattle.bus_record.proofs.side.RunAnswer as R
+use Rattle.bus_call_specs.specs.Kept.{Kept, kept}
+use Rattle.bus_call_specs.specs.Step.{stepAnswer, stepTerminals, stepOctets, stepNotes}
+use Rattle.idle_periods.specs.Still as still
+use Rattle.idle_periods.specs.Turn.{Turns}
+use Rattle.idle_periods.proofs.Turning.{leap-turns}
 use Rattle.bus_calls.specs.declared.turn.Turn.{Turn}
 use Rattle.bus_calls.proofs.Structs.{buses, runs, turns}
 use Rattle.bus_calls.proofs.turn.Turn as Tu
-use Rattle.leaps.proofs.reach.reach as reach
-use Rattle.leaps.proofs.reach.reach.Symbol as reach-def
-use Rattle.leaps.proofs.reach.reach.Symbol.{name as #reach}
-use Rattle.leaps.proofs.reach.reach.Met as reach-thm
-use Rattle.leaps.proofs.leap.leapt as leap
-use Rattle.leaps.proofs.leap.leapt.Symbol as leap-def
-use Rattle.leaps.proofs.leap.leapt.Symbol.{name as #leap}
-use Rattle.leaps.proofs.leap.leapt.Met as leap-thm
+use Rattle.idle_periods.proofs.reach.reach as reach
+use Rattle.idle_periods.proofs.reach.reach.Symbol as reach-def
+use Rattle.idle_periods.proofs.reach.reach.Symbol.{name as #reach}
+use Rattle.idle_periods.proofs.reach.reach.Met as reach-thm
+use Rattle.idle_periods.proofs.leap.leapt as leap
+use Rattle.idle_periods.proofs.leap.leapt.Symbol as leap-def
+use Rattle.idle_periods.proofs.leap.leapt.Symbol.{name as #leap}
+use Rattle.idle_periods.proofs.leap.leapt.Met as leap-thm
 use Rattle.bus_calls.proofs.step.step as step
 use Rattle.bus_calls.proofs.step.step.Symbol as step-def
 use Rattle.bus_calls.proofs.step.step.Symbol.{name as #step}
@@ -60,13 +60,13 @@ module _ (bus : BusRecord) (ys : List Terminal) (es os ls : List ℕ) (us : List
   at = kept bus ys es os ls us
 
   abbrev Promised : Turn → List Terminal → List ℕ → List UnitNotes → Type 0
-  Promised r ts octs ns = Turns left at (r .ran) (r .over) (kept (r .ran .bus) ts es octs ls ns)
+  Promised r ts octs ns = Turns left at (r .answer) (r .over) (kept (r .answer .bus) ts es octs ls ns)
 
-  abbrev Stepped : BusRecord → Ran → List Terminal → List ℕ → List UnitNotes → Type 0
-  Stepped b r ts octs ns = (r ≡ stepRan b ys es os ls) × (ts ≡ stepTerminals b ys es ls) × (octs ≡ stepOctets b ys es os ls) × (ns ≡ stepNotes b ys es ls)
+  abbrev Stepped : BusRecord → RunAnswer → List Terminal → List ℕ → List UnitNotes → Type 0
+  Stepped b r ts octs ns = (r ≡ stepAnswer b ys es os ls) × (ts ≡ stepTerminals b ys es ls) × (octs ≡ stepOctets b ys es os ls) × (ns ≡ stepNotes b ys es ls)
 
-  promised : (far : ℕ) → far ≡ still.reach bus ys left → (b : BusRecord) → b ≡ still.leapt far bus → (r : Ran) (ts : List Terminal) (octs : List ℕ) (ns : List UnitNotes) → Stepped b r ts octs ns
-      → (t : Turn) → (t .ran ≡ r) × (t .over ≡ far) → Promised t ts octs ns
+  promised : (far : ℕ) → far ≡ still.reach bus ys left → (b : BusRecord) → b ≡ still.leapt far bus → (r : RunAnswer) (ts : List Terminal) (octs : List ℕ) (ns : List UnitNotes) → Stepped b r ts octs ns
+      → (t : Turn) → (t .answer ≡ r) × (t .over ≡ far) → Promised t ts octs ns
   promised far is-far b is-b r ts octs ns so t is-t = rw (is-t .0, is-t .1, so .0, so .1, so .2, so .3, is-b, is-far) (leap-turns left at)
 
 module _ {M : Type 1} (𝓤 : URA M) (H : Heap 𝓤) (A : Atoms 𝓤) (W : Given 𝓤 H A) (mem : Memory → SProp 𝓤) (run : Routine → Fun 𝓤) (s₁ s₂ s₃ s₄ s₅ : Spot) (bus : BusRecord) (ys : List Terminal) (es os ls : List ℕ) (us : List UnitNotes) (left : ℕ)
@@ -139,10 +139,10 @@ module _ {M : Type 1} (𝓤 : URA M) (H : Heap 𝓤) (A : Atoms 𝓤) (W : Given
     ensured = λ ns r ws. learn-four 𝓤;
   }
 
-  abbrev to-made : (r : Ran) → Is R.the-row r (runs .val r ∷ []) → (far : ℕ) → far < 2 ^ 32 → List Param
+  abbrev to-made : (r : RunAnswer) → Is R.the-row r (runs .val r ∷ []) → (far : ℕ) → far < 2 ^ 32 → List Param
   to-made r gr far gf = plain-of R.the-row runs r gr ∷ plain-of u32 (uint-kind w32) far (refl, gf) ∷ []
 
-  abbrev the-made : (r : Ran) (gr : Is R.the-row r (runs .val r ∷ [])) (far : ℕ) (gf : far < 2 ^ 32) → Call W (to-made r gr far gf) made.ended (made.clauses 𝓤 H A mem run)
+  abbrev the-made : (r : RunAnswer) (gr : Is R.the-row r (runs .val r ∷ [])) (far : ℕ) (gf : far < 2 ^ 32) → Call W (to-made r gr far gf) made.ended (made.clauses 𝓤 H A mem run)
   the-made r gr far gf = record {
     bound = λ ns. ((lfts-of (to-made r gr far gf) ns, shares-of (to-made r gr far gf), tt, args-of (to-made r gr far gf) ns, vals-of (to-made r gr far gf)), tt);
     asks = λ ns. id⊢ 𝓤 _;
@@ -151,7 +151,7 @@ module _ {M : Type 1} (𝓤 : URA M) (H : Heap 𝓤) (A : Atoms 𝓤) (W : Given
     last = λ ns ws. ws;
     finals = λ ns ws. id⊢ 𝓤 _;
     result = λ ns. turns;
-    Said = λ ns t ws. (t .ran ≡ r) × (t .over ≡ far);
+    Said = λ ns t ws. (t .answer ≡ r) × (t .over ≡ far);
     ensured = λ ns t ws. learn-two 𝓤;
   }
 
@@ -185,7 +185,7 @@ leap-on-spec 𝓤 H 𝓜 𝓖 𝓡 =
     entered 𝓤 H (tripleOf 𝓤 H (𝓖 .A) all.signature (all.spec 𝓤 H (𝓖 .A) (𝓜 .mem) (𝓡 .run)))
     (tables 𝓤 H 𝓜 𝓡 code.env .C) (tables 𝓤 H 𝓜 𝓡 code.env .Λ) #walk code.function (code.unfolded 𝓤 H 𝓜 𝓡)
     (meets 𝓤 H (𝓖 .A) (givenOf 𝓤 H 𝓜 𝓖) (𝓜 .mem) (𝓡 .run) (tablesOf 𝓤 H 𝓜 (tables 𝓤 H 𝓜 𝓡 code.env))
-    (cited 𝓤 H (Reaches 𝓤 H (𝓖 .A) (𝓜 .mem) (𝓡 .run)) 𝓜 𝓡 code.env #reach reach-def.routine code.calls-leaps·reach·reach (reach-thm.met 𝓤 H 𝓜 𝓖 𝓡))
-    (cited 𝓤 H (Leaps 𝓤 H (𝓖 .A) (𝓜 .mem) (𝓡 .run)) 𝓜 𝓡 code.env #leap leap-def.routine code.calls-leaps·leap·leapt (leap-thm.met 𝓤 H 𝓜 𝓖 𝓡))
+    (cited 𝓤 H (Reaches 𝓤 H (𝓖 .A) (𝓜 .mem) (𝓡 .run)) 𝓜 𝓡 code.env #reach reach-def.routine code.calls-idle-periods·reach·reach (reach-thm.met 𝓤 H 𝓜 𝓖 𝓡))
+    (cited 𝓤 H (Leaps 𝓤 H (𝓖 .A) (𝓜 .mem) (𝓡 .run)) 𝓜 𝓡 code.env #leap leap-def.routine code.calls-idle-periods·leap·leapt (leap-thm.met 𝓤 H 𝓜 𝓖 𝓡))
     (cited 𝓤 H (Steps 𝓤 H (𝓖 .A) (𝓜 .mem) (𝓡 .run)) 𝓜 𝓡 code.env #step step-def.routine code.calls-bus-calls·step·step (step-thm.met 𝓤 H 𝓜 𝓖 𝓡))
     (cited 𝓤 H (Makes 𝓤 H (𝓖 .A) (𝓜 .mem) (𝓡 .run)) 𝓜 𝓡 code.env #made made-def.routine code.calls-bus-calls·turn·turned (made-thm.met 𝓤 H 𝓜 𝓖 𝓡)))

@@ -1,7 +1,7 @@
 -- `event_for` meets its contract: whether an event is one for a unit.
 use mathlib.Core.Bool.{or-assoc, or-false}
 use borrow.Author.Tests.{eq-eqb, ne-eqb}
-use Rattle.bus.specs.Event.{eventFor}
+use Rattle.bus_rules.specs.Event.{eventFor}
 use Rattle.bus_event.proofs.event.event_for.Statement.{statement}
 use Rattle.bus_event.proofs.event.event_for.Tie as tie
 

@@ -3,7 +3,7 @@ use mathlib.Core.Path.{_∙_}
 use native.Mathlib.Omega.{arith}
 use borrow.Author.Tests.{eq-eqb, ne-eqb}
 use Rattle.symbols.specs.Symbols.{lineLength}
-use Rattle.bus_octets.specs.Layout.{lettersAt, lettersOf}
+use Rattle.bus_octets.specs.Layout.{lettersAt, lettersRead}
 use Rattle.bus_octets.proofs.Lengths.{part-back}
 use borrow.Author.Needs.{needs}
 use Rattle.bus_octets.proofs.shown.letters_in.Statement.{statement}
@@ -25,7 +25,7 @@ put-requires : tie.Need-put-requires
 put-requires c κs = search needs
 
 returns : tie.Need-returns
-unfolding lettersOf
+unfolding lettersRead
 returns c =
     let after-put = c .before in
     let taken = after-put .before .before .before in
@@ -33,7 +33,7 @@ returns c =
     rw (eq-eqb _ _ (taken .if1 .taken)) (after-put .put .ensures .room-is ∙ part-back lineLength lettersAt s (omega (arith, taken .if1 .taken)))
 
 returns-2 : tie.Need-returns-2
-unfolding lettersOf
+unfolding lettersRead
 returns-2 c = rw (ne-eqb _ _ (c .if1 .left))
 
 pub letters-in-spec : {M : Type 1} → statement M

@@ -4,8 +4,8 @@ use mathlib.Core.Path.{_≡_, refl, _∙_}
 use Prim.Native.Nat.{_-_, _≤_}
 use native.Mathlib.Omega.{arith}
 use lib.ListN.{length}
-use Rattle.walks.proofs.Over.{acc, one-read}
-use Rattle.call_rules.proofs.InOrder.{alsoInRange}
+use Rattle.slice_lemmas.proofs.Over.{acc, one-read}
+use Rattle.bus_call_specs.proofs.InOrder.{alsoInRange}
 use Rattle.bus_octets.proofs.Eight.{all-read}
 use borrow.Author.Needs.{needs}
 use Rattle.bus_octets.proofs.test.all_in_range.Statement.{statement}

@@ -1,6 +1,6 @@
 -- `build_down` meets its contract: the line of a state.
 use borrow.Author.Tests.{eq-eqb, ne-eqb}
-use Rattle.bus.specs.Exchange.{sentDown}
+use Rattle.bus_rules.specs.Exchange.{sentDown}
 use Rattle.bus_record.specs.Echo.{builtDown}
 use borrow.Author.Needs.{needs}
 use Rattle.bus_record.proofs.echo.build_down.Statement.{statement}

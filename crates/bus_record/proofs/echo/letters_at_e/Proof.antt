@@ -1,5 +1,5 @@
 -- `letters_at_e` meets its contract: the letters at the four E.
-use Rattle.exchange.specs.Shown.{lettersOf}
+use Rattle.exchange.specs.Shown.{lettersAtE}
 use Rattle.bus_record.specs.Echo.{hitIn}
 use borrow.Author.Needs.{needs}
 use Rattle.bus_record.proofs.echo.letters_at_e.Statement.{statement}
@@ -18,11 +18,11 @@ letter-at-requires-4 : tie.Need-letter-at-requires-4
 letter-at-requires-4 c κs = search needs
 
 returns : tie.Need-returns
-unfolding lettersOf hitIn
+unfolding lettersAtE hitIn
 returns c = simp (c .before .before .before .before .if1 .taken, c .before .before .before .letter-at .ensures, c .before .before .letter-at2 .ensures, c .before .letter-at3 .ensures, c .letter-at4 .ensures)
 
 returns-2 : tie.Need-returns-2
-unfolding lettersOf hitIn
+unfolding lettersAtE hitIn
 returns-2 c = simp (c .if1 .left)
 
 pub letters-at-e-spec : {M : Type 1} → statement M

@@ -1,6 +1,6 @@
 -- `network_listens` meets its contract: hearing, then the timers; one that rests is left as it is, and so it may be.
 use borrow.Author.Needs.{needs}
-use Rattle.bus_record.specs.NetworkSide.{hears, timers, networkListens}
+use Rattle.bus_record.specs.NetworkSide.{hearingStep, timerStep, networkListens}
 use Rattle.bus_record.proofs.NetworkRests.{found-rests}
 use Rattle.bus_record.proofs.side.network_listens.Statement.{statement}
 use Rattle.bus_record.proofs.side.network_listens.Tie as tie
@@ -38,7 +38,7 @@ timer-due-requires : tie.Need-timer-due-requires
 timer-due-requires c κs = search needs
 
 returns-2 : tie.Need-returns-2
-unfolding networkListens timers hears
+unfolding networkListens timerStep hearingStep
 returns-2 c = simp (c .before .before .before .before .before .before .before .timer-due .ensures, c .before .before .before .before .before .before .before .before .before .before .before .before .before .before .next-period .ensures, c .before .before .before .before .before .before .before .before .before .hear .ensures)
 
 pub network-listens-spec : {M : Type 1} → statement M

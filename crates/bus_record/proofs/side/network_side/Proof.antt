@@ -1,5 +1,5 @@
 -- `network_side` meets its contract: reading, hearing and all that a period gives.
-use Rattle.bus_record.specs.NetworkSide.{ranAfter, octetsAfter}
+use Rattle.bus_record.specs.NetworkSide.{answerAfter, octetsAfter}
 use borrow.Author.Needs.{needs}
 use Rattle.bus_record.proofs.side.network_side.Statement.{statement}
 use Rattle.bus_record.proofs.side.network_side.Tie as tie
@@ -20,7 +20,7 @@ same-length : tie.Need-same-length
 same-length c = search needs
 
 returns : tie.Need-returns
-unfolding ranAfter octetsAfter
+unfolding answerAfter octetsAfter
 returns c = (simp (c .ran-with .ensures, c .before .before .before .before .before .read-in .ensures .0, c .before .network-listens .ensures, c .before .before .shown-from .ensures), c .before .before .before .before .before .read-in .ensures .1)
 
 pub network-side-spec : {M : Type 1} → statement M

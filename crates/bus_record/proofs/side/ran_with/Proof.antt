@@ -1,5 +1,5 @@
 -- `ran_with` meets its contract: all that a period gives, field by field.
-use Rattle.bus_record.specs.NetworkSide.{anyNote, ranWith}
+use Rattle.bus_record.specs.NetworkSide.{periodHasNote, answerWith}
 use borrow.Author.Needs.{needs}
 use Rattle.bus_record.proofs.side.ran_with.Statement.{statement}
 use Rattle.bus_record.proofs.side.ran_with.Tie as tie
@@ -14,7 +14,7 @@ reader-after-requires : tie.Need-reader-after-requires
 reader-after-requires c κs = search needs
 
 returns : tie.Need-returns
-unfolding ranWith anyNote
+unfolding answerWith periodHasNote
 returns c = simp (c .before .before .before .before .before .before .before .next-period .ensures, c .before .before .before .before .before .before .counted .ensures, c .before .before .before .before .before .reader-after .ensures)
 
 pub ran-with-spec : {M : Type 1} → statement M

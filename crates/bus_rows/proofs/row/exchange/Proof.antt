@@ -12,11 +12,11 @@ Inv-loop bus images counts₀ used pairs₀ terminals₀ m₀ i₀ counts pairs 
 abbrev μ-loop : tie.MeasureT-loop
 μ-loop bus images counts₀ used pairs₀ terminals₀ m₀ i₀ counts pairs terminals m i = 4 - i
 
-slice-aggregate-first-moment : tie.Need-slice-aggregate-first-moment Inv-loop μ-loop
-slice-aggregate-first-moment c = search needs
+slice-aggregate-first-tally : tie.Need-slice-aggregate-first-tally Inv-loop μ-loop
+slice-aggregate-first-tally c = search needs
 
-first-moment-requires : tie.Need-first-moment-requires Inv-loop μ-loop
-first-moment-requires c κs = search needs
+first-tally-requires : tie.Need-first-tally-requires Inv-loop μ-loop
+first-tally-requires c κs = search needs
 
 loop-holds : tie.Need-loop-holds Inv-loop μ-loop
 loop-holds c = search needs
@@ -99,8 +99,8 @@ exchange-spec =
     (tie.spec
     Inv-loop
     μ-loop
-    slice-aggregate-first-moment
-    first-moment-requires
+    slice-aggregate-first-tally
+    first-tally-requires
     loop-holds
     opportunity-requires
     cast-pairs

@@ -3,7 +3,7 @@ use mathlib.Core.Path.{sym, _∙_}
 use Rattle.symbols.specs.Symbols.{lineLength, isLine, fits}
 use Rattle.combining.specs.Hit.{noneLetter, hit, hitFits}
 use Rattle.symbols.proofs.Lines.{fits-length, line-length}
-use Rattle.cases.proofs.ByCases.{and-both-true, and-left-false, and-right-false}
+use Rattle.test_lemmas.proofs.ByCases.{and-both-true, and-left-false, and-right-false}
 use Rattle.symbols.proofs.Written.{reply-refused, reply-done}
 use borrow.Author.Needs.{needs}
 use Rattle.combining.proofs.hit.apply_hit.Statement.{statement}

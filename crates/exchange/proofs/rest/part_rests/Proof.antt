@@ -1,6 +1,6 @@
 -- `exchange::rest::part_rests` meets its contract.
 use mathlib.Core.Bool.{and-true}
-use Rattle.cases.proofs.Operators.{not-or}
+use Rattle.test_lemmas.proofs.Operators.{not-or}
 use borrow.Author.Needs.{needs}
 use Rattle.exchange.specs.Rest.{partRests}
 use Rattle.exchange.proofs.rest.part_rests.Statement.{statement}

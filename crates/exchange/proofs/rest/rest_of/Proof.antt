@@ -1,5 +1,5 @@
--- `exchange::rest::rest_of` meets its contract: a walk of its MIR with the lemmas of crate `walks`, with a struct gathered over a slice that is shown. All that it knows of `Rest::start` and `Rest::also` are their contracts. Assumes nothing.
-use Rattle.walks.proofs.Walk.{_≡_, refl, _∙_, ap, subst, ℕ, _+_, _<_, List, [], _∷_, lit<, length, getD, URA, w64, Val, vint, SProp, ent, emp, via, id⊢, fst∗, Memory, Routine, Heap, Tables, WpFn, Atoms, Fun, factI, givenOf, tables, tablesOf, Given, ⋆, _$_, !, lit, of-opd, no-more, and-then, bin, Is, Room, onEntry, Meets, tripleOf, Contract, Triple, entered, cited, walkOf, acc, acc-all, one-read, Holds, free, has, loc, sets, sets-last, leaves, blurs, typed, peeks-at, Spot, spot, word, hands-at, Param, plain-of, lfts-at, shares-at, args-at, vals-of, lfts-of, shares-of, args-of, itemsOf, Call, calls-giving, enters-with, returns-with, shr-way, Ways-of, stays-of, meets-by, whiles, next-fits}
+-- `exchange::rest::rest_of` meets its contract: a walk of its MIR with the lemmas of crate `slice_lemmas`, with a struct gathered over a slice that is shown. All that it knows of `Rest::start` and `Rest::also` are their contracts. Assumes nothing.
+use Rattle.slice_lemmas.proofs.Walk.{_≡_, refl, _∙_, ap, subst, ℕ, _+_, _<_, List, [], _∷_, lit<, length, getD, URA, w64, Val, vint, SProp, ent, emp, via, id⊢, fst∗, Memory, Routine, Heap, Tables, WpFn, Atoms, Fun, factI, givenOf, tables, tablesOf, Given, ⋆, _$_, !, lit, of-opd, no-more, and-then, bin, Is, Room, onEntry, Meets, tripleOf, Contract, Triple, entered, cited, walkOf, acc, acc-all, one-read, Holds, free, has, loc, sets, sets-last, leaves, blurs, typed, peeks-at, Spot, spot, word, hands-at, Param, plain-of, lfts-at, shares-at, args-at, vals-of, lfts-of, shares-of, args-of, itemsOf, Call, calls-giving, enters-with, returns-with, shr-way, Ways-of, stays-of, meets-by, whiles, next-fits}
 use Rattle.terminal.specs.declared.Terminal.{Terminal}
 use Rattle.terminal.proofs.Terminal as T
 use Rattle.exchange.specs.Rest.{noneGone, alsoRests, restOf}

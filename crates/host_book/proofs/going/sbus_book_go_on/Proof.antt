@@ -16,8 +16,8 @@ returns c = turned-down _ _ _ _ _ _ (c .before .going-reason .ensures) (c .if1 .
 go-requires : tie.Need-go-requires
 go-requires c κs = let left = c .before .before in going-book _ _ _ (left .before .going-reason .ensures) (left .if1 .left)
 
-put-went-requires : tie.Need-put-went-requires
-put-went-requires c κs = search needs
+put-gone-on-requires : tie.Need-put-gone-on-requires
+put-gone-on-requires c κs = search needs
 
 same-length-2 : tie.Need-same-length-2
 same-length-2 c = search needs
@@ -33,7 +33,7 @@ returns-2 c =
     let said = c .before .before in
     let go = said .before .before .before .before .before .before in
     let left = go .before .before .before in
-    gone-on _ _ _ _ _ _ (left .before .going-reason .ensures) (left .if1 .left) (go .go .result) _ _ _ (go .go .ensures) (said .put-went .ensures)
+    gone-on _ _ _ _ _ _ (left .before .going-reason .ensures) (left .if1 .left) (go .go .result) _ _ _ (go .go .ensures) (said .put-gone-on .ensures)
 
 pub sbus-book-go-on-spec : {M : Type 1} → statement M
 sbus-book-go-on-spec =
@@ -43,7 +43,7 @@ sbus-book-go-on-spec =
     same-length
     returns
     go-requires
-    put-went-requires
+    put-gone-on-requires
     same-length-2
     same-length-3
     same-length-4

@@ -16,8 +16,8 @@ read-up-requires c κs = search needs
 enum-known-f : tie.Need-enum-known-f
 enum-known-f c = search needs
 
-padded-requires : tie.Need-padded-requires
-padded-requires c κs = search needs
+as-down-requires : tie.Need-as-down-requires
+as-down-requires c κs = search needs
 
 enum-known-n : tie.Need-enum-known-n
 enum-known-n c = search needs
@@ -25,7 +25,7 @@ enum-known-n c = search needs
 returns-2 : tie.Need-returns-2
 returns-2 c =
     let read = c .before .before .before .before in
-    rw (c .padded .ensures) (read-upward _ _ _ (read .before .if1 .left) (read .read-up .ensures) (c .before .before .f .given .1))
+    rw (c .as-down .ensures) (read-upward _ _ _ (read .before .if1 .left) (read .read-up .ensures) (c .before .before .f .given .1))
 
 returns-3 : tie.Need-returns-3
 returns-3 c =
@@ -40,7 +40,7 @@ read-as-spec =
     returns
     read-up-requires
     enum-known-f
-    padded-requires
+    as-down-requires
     enum-known-n
     returns-2
     returns-3)

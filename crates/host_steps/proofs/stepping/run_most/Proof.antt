@@ -35,22 +35,22 @@ returns-2 c =
     run-refused (a .bus .now) (a .notes .now) (a .most) _ (left .before .lent-reason .ensures) (left .if1 .left) _ _ _ (go .go .ensures .0)
     (go .go .ensures .1 .0) (go .go .ensures .1 .1) _ (c .number .ensures) (c .before .if2 .taken)
 
-sub-put-ran : tie.Need-sub-put-ran
-sub-put-ran c = search needs
+sub-put-run : tie.Need-sub-put-run
+sub-put-run c = search needs
 
-part-put-ran-start : tie.Need-part-put-ran-start
-part-put-ran-start c = search needs
+part-put-run-start : tie.Need-part-put-run-start
+part-put-run-start c = search needs
 
-part-put-ran-end : tie.Need-part-put-ran-end
-part-put-ran-end c =
+part-put-run-end : tie.Need-part-put-run-end
+part-put-run-end c =
     let go = c .before .before .before .before .before .before .before .before in
     let left = go .before .before in
     let a = left .before .before .before .before .before .args in
     let h = lent-bus (a .bus .now) _ _ _ (left .before .lent-reason .ensures) (left .if1 .left) in
     omega (arith, ap length (go .go .ensures .1 .1), left-long (a .bus .now) h (a .most))
 
-put-ran-requires : tie.Need-put-ran-requires
-put-ran-requires c κs = search needs
+put-run-requires : tie.Need-put-run-requires
+put-run-requires c κs = search needs
 
 same-length-3 : tie.Need-same-length-3
 same-length-3 c = search needs
@@ -66,7 +66,7 @@ returns-3 c =
     let left = go .before .before in
     let a = left .before .before .before .before .before .args in
     run-ended (a .bus .now) (a .notes .now) (a .most) _ (left .before .lent-reason .ensures) (left .if1 .left) _ _ _ (go .go .ensures .0)
-    (go .go .ensures .1 .0) (go .go .ensures .1 .1) (told .if2 .left) _ (notes .put-ran .ensures)
+    (go .go .ensures .1 .0) (go .go .ensures .1 .1) (told .if2 .left) _ (notes .put-run .ensures)
 
 pub run-most-spec : {M : Type 1} → statement M
 run-most-spec =
@@ -79,10 +79,10 @@ run-most-spec =
     number-requires
     same-length-2
     returns-2
-    sub-put-ran
-    part-put-ran-start
-    part-put-ran-end
-    put-ran-requires
+    sub-put-run
+    part-put-run-start
+    part-put-run-end
+    put-run-requires
     same-length-3
     same-length-4
     returns-3)

@@ -5,7 +5,7 @@ use Prim.Native.Nat.{ℕ, _%_, _<_}
 use borrow.Author.Tests.{eqb-true, eq-eqb, ne-eqb}
 use lib.Dec.{eqb}
 use lib.ListN.{getD, List·getD-map}
-use Rattle.cases.proofs.ByCases.{at-each-below}
+use Rattle.test_lemmas.proofs.ByCases.{at-each-below}
 use Rattle.symbols.specs.Symbols.{none, plus, minus, lineLength}
 use Rattle.info.specs.Info.{repeated, info1}
 use Rattle.info.proofs.info.repeated_symbol.Statement.{statement}

@@ -1,6 +1,6 @@
 -- `put_name` meets its contract: each code's part of the table is its name (proofs/NameTable).
 use native.Mathlib.Omega.{arith}
-use Rattle.cells.specs.Names.{printed, printedAs}
+use Rattle.notes_and_cells.specs.Names.{printed, printedAs}
 use Rattle.note_text.specs.LineParts.{named}
 use Rattle.note_text.proofs.NameTable.{part-inside, part-right}
 use borrow.Author.Needs.{needs}

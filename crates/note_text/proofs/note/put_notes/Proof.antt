@@ -3,8 +3,8 @@ use Prim.Native.Nat.{ℕ, _-_, _≤_}
 use native.Mathlib.Omega.{arith}
 use mathlib.Core.List.{List, [], _∷_}
 use lib.ListN.{take}
-use Rattle.bus.specs.Bus.{notesOf}
-use Rattle.cells.specs.Notes.{noted}
+use Rattle.bus_rules.specs.Bus.{notesOf}
+use Rattle.notes_and_cells.specs.Notes.{noted}
 use Rattle.note_text.specs.Room.{Put}
 use Rattle.note_text.specs.NoteText.{notesIn}
 use Rattle.note_text.proofs.RoomLaws.{put-put, put-start, put-length}

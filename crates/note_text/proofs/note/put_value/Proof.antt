@@ -1,7 +1,7 @@
 -- `put_value` meets its contract: only `heard` and `refused` leave their value open (proofs/NameTable).
 use native.Mathlib.Omega.{arith}
 use borrow.Author.Tests.{ne-eqb}
-use Rattle.cells.specs.Names.{printed, printedAs}
+use Rattle.notes_and_cells.specs.Names.{printed, printedAs}
 use Rattle.note_text.proofs.RoomLaws.{put-start}
 use Rattle.note_text.proofs.NameTable.{nothing-open}
 use borrow.Author.Needs.{needs}

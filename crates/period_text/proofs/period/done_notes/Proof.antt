@@ -1,5 +1,5 @@
 -- `done_notes` meets its contract, case by case.
-use Rattle.cells.specs.Notes.{noted}
+use Rattle.notes_and_cells.specs.Notes.{noted}
 use Rattle.period_text.proofs.period.done_notes.Statement.{statement}
 use Rattle.period_text.proofs.period.done_notes.Tie as tie
 

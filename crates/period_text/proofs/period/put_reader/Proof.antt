@@ -3,7 +3,7 @@ use mathlib.Core.Path.{sym}
 use native.Mathlib.Omega.{arith}
 use borrow.Author.Tests.{eq-eqb, ne-eqb}
 use lib.Seq.{length-take-le}
-use Rattle.call_rules.specs.Lists.{readerTold}
+use Rattle.bus_call_specs.specs.Lists.{readerTold}
 use Rattle.note_text.specs.NoteText.{notesIn}
 use Rattle.note_text.proofs.NoteLaws.{one-note, take-count}
 use borrow.Author.Needs.{needs}

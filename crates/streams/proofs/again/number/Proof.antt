@@ -10,7 +10,7 @@ use mir.Syntax.{w32, w64}
 use mir.Val.{Fits, toZ, ofZ}
 use mir.ValLaws.{toZ-ofZ}
 use borrow.Author.Tests.{ltb-true}
-use Rattle.cases.proofs.ByCases.{clash}
+use Rattle.test_lemmas.proofs.ByCases.{clash}
 use Rattle.streams.specs.Failure.{errnoOf}
 use Rattle.streams.proofs.again.number.Statement.{statement}
 use Rattle.streams.proofs.again.number.Tie as tie

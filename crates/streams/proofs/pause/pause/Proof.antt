@@ -1,8 +1,8 @@
--- `streams::pause::pause` meets its contract: a walk of its MIR with the lemmas of crate `walks`. Each of the two structs is a local that is
+-- `streams::pause::pause` meets its contract: a walk of its MIR with the lemmas of crate `slice_lemmas`. Each of the two structs is a local that is
 -- lent to the call for a lifetime of its own, and taken back: the time asked as it was, the time left at some value. All that it knows of
 -- the call is its contract, which crate `libc` assumes. Assumes nothing else.
-use Rattle.walks.proofs.Walk.{_≡_, refl, sym, ℕ, List, [], _∷_, lit<, getD, set, URA, fullShare, named, w32, w64, Val, vunit, vint, SProp, ent, emp, via, id⊢, fst∗, GName, flft, ftrue, Memory, Routine, Heap, Tables, WpFn, Atoms, Fun, givenOf, tables, tablesOf, Given, Item, ‵, _⊛_, _$_, !, move, keep, use1, use2, split, join, rewrite, fsplit, fjoin, of-opd, unit-lit, no-more, and-then, agg, lit, Is, onEntry, Meets, tripleOf, Contract, Triple, entered, cited, walkOf, Holds, free, has, away, loc, sets, leaves, Kind, struct-kind, unit-kind, typed, calls-fn, enters-with, returns-at, meets-by, nothing, owned}
-use Rattle.walks.proofs.Locals.{held, there, inside, goes-away, comes-home}
+use Rattle.slice_lemmas.proofs.Walk.{_≡_, refl, sym, ℕ, List, [], _∷_, lit<, getD, set, URA, fullShare, named, w32, w64, Val, vunit, vint, SProp, ent, emp, via, id⊢, fst∗, GName, flft, ftrue, Memory, Routine, Heap, Tables, WpFn, Atoms, Fun, givenOf, tables, tablesOf, Given, Item, ‵, _⊛_, _$_, !, move, keep, use1, use2, split, join, rewrite, fsplit, fjoin, of-opd, unit-lit, no-more, and-then, agg, lit, Is, onEntry, Meets, tripleOf, Contract, Triple, entered, cited, walkOf, Holds, free, has, away, loc, sets, leaves, Kind, struct-kind, unit-kind, typed, calls-fn, enters-with, returns-at, meets-by, nothing, owned}
+use Rattle.slice_lemmas.proofs.Locals.{held, there, inside, goes-away, comes-home}
 use lib.Dec.{T}
 use lib.IntN.{pos}
 use mir.Syntax.{Ty, tyInt}

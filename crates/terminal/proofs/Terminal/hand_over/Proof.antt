@@ -1,6 +1,6 @@
 use borrow.Author.Tests.{eq-eqb, ne-eqb}
 use Rattle.terminal.specs.Terminal.{holding, handsOver}
-use Rattle.terminal.specs.Calls.{handedOver}
+use Rattle.terminal.specs.Calls.{handOverCall}
 use borrow.Author.Needs.{needs}
 use Rattle.terminal.proofs.Terminal.hand_over.Statement.{statement}
 use Rattle.terminal.proofs.Terminal.hand_over.Tie as tie
@@ -24,15 +24,15 @@ unchanged-requires-3 : tie.Need-unchanged-requires-3
 unchanged-requires-3 c κs = search needs
 
 returns : tie.Need-returns
-unfolding handedOver handsOver holding
+unfolding handOverCall handsOver holding
 returns c = simp (c .unchanged .ensures, c .before .of .ensures, c .before .before .hand .ensures, eq-eqb _ _ (c .before .before .before .if2 .taken), c .before .before .before .before .before .if1 .taken, ← c .before .before .before .before .before .before .in-range .ensures)
 
 returns-2 : tie.Need-returns-2
-unfolding handedOver handsOver holding
+unfolding handOverCall handsOver holding
 returns-2 c = simp (c .unchanged2 .ensures, ne-eqb _ _ (c .before .if2 .left), c .before .before .before .if1 .taken, ← c .before .before .before .before .in-range .ensures)
 
 returns-3 : tie.Need-returns-3
-unfolding handedOver handsOver holding
+unfolding handOverCall handsOver holding
 returns-3 c = simp (c .unchanged3 .ensures, c .before .if1 .left, ← c .before .before .in-range .ensures)
 
 pub hand-over-spec : {M : Type 1} → statement M

@@ -1,6 +1,6 @@
 use Rattle.terminal.specs.Terminal.{noTimer, bars, switchesOff}
 use Rattle.terminal.specs.Calls.{checked}
-use Rattle.cases.proofs.Operators.{cond-not}
+use Rattle.test_lemmas.proofs.Operators.{cond-not}
 use Rattle.terminal.proofs.Barred.{happens-void}
 use borrow.Author.Needs.{needs}
 use Rattle.terminal.proofs.Terminal.switch_off.Statement.{statement}

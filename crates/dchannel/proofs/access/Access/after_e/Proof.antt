@@ -2,7 +2,7 @@ use mathlib.Core.Path.{_≡_, _∙_}
 use mathlib.Core.Logic.{⊎-elim}
 use borrow.Author.Tests.{lt-ltb, le-ltb}
 use Rattle.dchannel.specs.Access.{normal2, afterE, countAfter, lowAfter}
-use Rattle.cases.proofs.Operators.{without-cond}
+use Rattle.test_lemmas.proofs.Operators.{without-cond}
 use borrow.Author.Needs.{needs}
 use Rattle.dchannel.proofs.access.Access.after_e.Statement.{statement}
 use Rattle.dchannel.proofs.access.Access.after_e.Tie as tie

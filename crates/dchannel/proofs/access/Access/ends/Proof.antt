@@ -1,4 +1,4 @@
-use Rattle.cases.proofs.Operators.{or-cond}
+use Rattle.test_lemmas.proofs.Operators.{or-cond}
 use Rattle.dchannel.specs.Access.{completes, stops}
 use Rattle.dchannel.proofs.access.Access.ends.Statement.{statement}
 use Rattle.dchannel.proofs.access.Access.ends.Tie as tie

@@ -1,6 +1,6 @@
 use native.Mathlib.Omega.{arith}
 use borrow.Author.Tests.{ne-eqb}
-use Rattle.cases.proofs.Operators.{without-cond, byte-cond, byte-most}
+use Rattle.test_lemmas.proofs.Operators.{without-cond, byte-cond, byte-most}
 use Rattle.dchannel.specs.Access.{mayStart, threshold, lowOf}
 use borrow.Author.Needs.{needs}
 use Rattle.dchannel.proofs.access.Access.may_start.Statement.{statement}

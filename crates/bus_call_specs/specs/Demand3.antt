@@ -1,0 +1,35 @@
+-- Demand 3 on the calls (document 01, "Lists and stretches"): "Demand 3 is a single claim about the whole list of such calls and not one for
+-- each. The list starts with a fresh bus and its eight terminal records; every call, refused or not, gets what the one before left, and nobody
+-- else writes record or slice between."
+use mathlib.Core.Bool.{true}
+use mathlib.Core.List.{List, _++_}
+use mathlib.Core.Path.{_≡_}
+use Prim.Native.Nat.{ℕ, _≤_}
+use lib.ListN.{length}
+use Rattle.hdlc.specs.Image.{longestBody}
+use Rattle.bus_rules.specs.Bus.{freshBus}
+use Rattle.bus_rules.specs.Calls.{afterAll, notesOfAll}
+use Rattle.bus_rules.specs.Stretch.{Stretch}
+use Rattle.bus_rules.specs.Claims.{Claimed}
+use Rattle.bus_event.specs.Event.{imagesRoom, areLetters}
+use Rattle.bus_call_specs.specs.Kept.{Kept}
+use Rattle.bus_call_specs.specs.Lists.{LentCall, Same, freshFound, made, leftAll, notesOfCalls, AllAdmitted}
+
+-- What is claimed of a stretch `during` of the list `before`, `during`, `after` of calls, the first of which finds k. Calls that are not
+-- lent what they must be stand in the list, too: the rules refuse them with 1 or 2, and then there are no notes and no change, so that the
+-- sentences are about the others (specs/Lists.antt `replyTo`, `made`).
+pub record ClaimedOnCalls (k : Kept) (before during after : List LentCall) : Type 0 where
+  -- the sentences of demand 3, of the bus that document 01's rules give for the same calls
+  pub claims : Claimed (made before) (made during) (made after)
+  -- each call of the whole list gives the reply and the notes of those rules, and what it leaves stands for the bus after it
+  pub carried : Same k freshBus (before ++ (during ++ after))
+  -- "the calls in it hand back exactly the notes that those rules give"
+  pub notes-of-stretch : notesOfCalls (leftAll k before) during ≡ notesOfAll (afterAll freshBus (made before)) (made during)
+
+-- For whatever is lent with the fresh record, and every list of calls whose values are octets (proofs/Demand3.antt).
+abbrev pub Demand3OnCalls : Type 0
+Demand3OnCalls =
+    (images octets letters : List ℕ) (before during after : List LentCall)
+    → length images ≡ imagesRoom → longestBody ≤ length octets → areLetters letters ≡ true
+    → AllAdmitted (before ++ (during ++ after)) → Stretch (afterAll freshBus (made before)) (made during)
+    → ClaimedOnCalls (freshFound images octets letters) before during after

@@ -1,0 +1,76 @@
+-- The bus (document 01, "Order inside a period" and "D access (6.1)"): one network end, terminals 1 to 8, and what the record counts.
+use mathlib.Core.Bool.{Bool, true}
+use mathlib.Core.List.{List, [], _∷_}
+use Prim.Native.Nat.{ℕ}
+use lib.ListN.{getD, replicate}
+use Rattle.hdlc.specs.Image.{image}
+use Rattle.hdlc.specs.Reading.{Reading, cleared}
+use Rattle.network.specs.Network as network
+use Rattle.terminal.specs.Terminal as terminal
+use Rattle.network.specs.declared.Network.{Network}
+use Rattle.terminal.specs.declared.Terminal.{Terminal}
+
+-- A terminal with the frame that it holds, where it holds one.
+pub record Station : Type 0 where
+  pub terminal : Terminal
+  -- the bits of the frame's image
+  pub image : List Bool
+  -- the body that was given with `d1` or `d2`: no rule looks at it, only the words of demand 3 do
+  pub body : List ℕ
+
+-- The hit that is given for the coming exchange, 48 letters.
+pub data Hit : Type 0 where
+  none : Hit
+  given : List ℕ → Hit
+
+pub record Bus : Type 0 where
+  -- periods run, which is the number of the period that comes next, and D opportunities run
+  pub periods : ℕ
+  pub opportunities : ℕ
+  pub network : Network
+  -- the reader of D, over the raw bits that it has read
+  pub reading : Reading
+  -- the last combined D that the network end heard
+  pub heardD : Bool
+  pub hit : Hit
+  -- terminal 1 first
+  pub stations : List Station
+
+-- "terminals 1 to 8"
+abbrev pub terminals : ℕ
+terminals = 8
+
+-- no frame is held: nothing looks at image and body
+abbrev pub freshStation : Station
+freshStation = record { terminal = terminal.fresh; image = image []; body = [] }
+
+-- the terminal at an index, its unit less 1
+abbrev pub stationAt : ℕ → Bus → Station
+stationAt i b = getD (b .stations) i freshStation
+
+-- "A fresh bus is in G1 and F1, unaligned, with no timer running and all levels normal." The last D heard is 1 (docs/DECISIONS.md,
+-- reading 4).
+abbrev pub freshBus : Bus
+freshBus =
+    record {
+      periods = 0;
+      opportunities = 0;
+      network = network.fresh;
+      reading = cleared;
+      heardD = true;
+      hit = Hit.none;
+      stations = replicate terminals freshStation;
+    }
+
+-- A note: "The fields are the period, the unit, the note and its value." The note is its code, and the value of MPH-II is in its code; the
+-- value of `heard` is the body, others have none. `refused` is the book's: no call has a note of it.
+pub record Note : Type 0 where
+  pub period : ℕ
+  pub unit : ℕ
+  pub code : ℕ
+  pub value : List ℕ
+
+-- The notes of a unit that have no value, by their codes.
+unfoldable pub notesOf : ℕ → ℕ → List ℕ → List Note
+notesOf now unit [] = []
+notesOf now unit (code ∷ codes) = record { period = now; unit = unit; code = code; value = [] } ∷ notesOf now unit codes

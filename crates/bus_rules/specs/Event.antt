@@ -1,0 +1,157 @@
+-- An event of the book on the bus (document 01, "Bench book and report" and "Reasons a call is turned down"): any unit number, any event
+-- number, any value.
+use mathlib.Core.Bool.{Bool, false, cond, not, _&&_, _||_}
+use mathlib.Core.List.{List, [], _∷_}
+use Prim.Native.Nat.{ℕ, suc, _-_}
+use lib.Dec.{eqb, ltb}
+use lib.ListN.{length}
+use Rattle.symbols.specs.Symbols.{lineLength, fits}
+use Rattle.combining.specs.Hit.{noneLetter}
+use Rattle.notes_and_cells.specs.Events.{ON, OFF, AR, DR, D1, D2, HIT}
+use Rattle.notes_and_cells.specs.Notes.{noted}
+use Rattle.table_6_2.specs.Table62.{F7}
+use Rattle.table_6_2.specs.Table62 as table62
+use Rattle.table_6_3.specs.Table63 as table63
+use Rattle.hdlc.specs.Image.{image, isBody}
+use Rattle.dchannel.specs.Handing.{takenUp}
+use Rattle.contention.specs.Change.{change}
+use Rattle.network.specs.Network as network
+use Rattle.terminal.specs.Terminal as terminal
+use Rattle.network.specs.declared.Network.{Network}
+use Rattle.network.specs.declared.NetworkStep.{NetworkStep}
+use Rattle.terminal.specs.declared.Terminal.{Terminal}
+use Rattle.terminal.specs.declared.TerminalStep.{TerminalStep}
+use Rattle.bus_rules.specs.Bus.{Station, Hit, Bus, Note, terminals, stationAt, notesOf}
+use Rattle.bus_rules.specs.Period.{readingAfter, stepped}
+
+-- whether a number is one of some
+abbrev pub among : ℕ → List ℕ → Bool
+among n [] = false
+among n (x ∷ xs) = eqb n x || among n xs
+
+-- the terminal of a unit
+abbrev pub stationOf : Bus → ℕ → Station
+stationOf b unit = stationAt (unit - 1) b
+
+-- the class of the frame that an event gives, 0 where it gives none
+unfoldable pub classOf : ℕ → ℕ
+classOf event = cond (eqb event D1) 1 (cond (eqb event D2) 2 0)
+
+-- 4: "`on`, `off` (terminals), `ar` (all), `dr` (unit 0), `d1`, `d2` (terminals ..), `hit` (unit 0 ..)"
+unfoldable pub eventFor : ℕ → ℕ → Bool
+eventFor unit event = cond (eqb unit 0) (among event (AR ∷ DR ∷ HIT ∷ [])) (among event (ON ∷ OFF ∷ AR ∷ D1 ∷ D2 ∷ []))
+
+-- 5: what the rules of the network end and of a terminal bar, by their tables' numbers of the events
+unfoldable pub barsNetwork : ℕ → ℕ → Bool
+barsNetwork event state =
+    cond (eqb event AR) (network.bars table63.AR-ROW state) (cond (eqb event DR) (network.bars table63.DR-ROW state) false)
+
+unfoldable pub barsTerminal : ℕ → ℕ → Bool
+barsTerminal event state =
+    cond (eqb event ON) (terminal.bars table62.ON-ROW state)
+    (cond (eqb event OFF) (terminal.bars table62.OFF-ROW state) (cond (eqb event AR) (terminal.bars table62.AR-ROW state) false))
+
+unfoldable pub bars : Bus → ℕ → ℕ → Bool
+bars b unit event = cond (eqb unit 0) (barsNetwork event (b .network .state)) (barsTerminal event (stationOf b unit .terminal .state))
+
+-- 6 to 8 are for an event that gives a frame to a terminal
+abbrev pub givesFrame : ℕ → Bool
+givesFrame event = not (eqb (classOf event) 0)
+
+-- The reasons 2 to 8 in document 01's order. 2 is for the letters of a hit. 7 is for a body, whose values are octets: a value here is any
+-- list of numbers, and `isBody` asks that each is an octet.
+unfoldable pub reasons : Bus → ℕ → ℕ → List ℕ → List Bool
+reasons b unit event value =
+    (eqb event HIT && not (fits lineLength noneLetter value))
+    ∷ ltb terminals unit
+    ∷ not (eventFor unit event)
+    ∷ bars b unit event
+    ∷ (givesFrame event && not (eqb (stationOf b unit .terminal .state) F7))
+    ∷ (givesFrame event && not (isBody value))
+    ∷ (givesFrame event && not (eqb (stationOf b unit .terminal .access .held) 0))
+    ∷ []
+
+-- "The checks run in the order below, and the first that holds gives the number; where none holds, the call is not refused": 0
+unfoldable pub firstHolding : ℕ → List Bool → ℕ
+firstHolding k [] = 0
+firstHolding k (holds ∷ more) = cond holds k (firstHolding (suc k) more)
+
+unfoldable pub refusal : Bus → ℕ → ℕ → List ℕ → ℕ
+refusal b unit event value = firstHolding 2 (reasons b unit event value)
+
+-- ---- What an accepted event does.
+
+-- a request to the network end
+unfoldable pub networkDoes : ℕ → ℕ → Network → NetworkStep
+networkDoes event now n = network.requests (cond (eqb event AR) table63.AR-ROW table63.DR-ROW) now n
+
+unfoldable pub networkDone : ℕ → Bus → Bus
+networkDone event b =
+    let n = networkDoes event (b .periods) (b .network) .network in
+    record {
+      periods = b .periods;
+      opportunities = b .opportunities;
+      network = n;
+      reading = readingAfter (b .network .state) (n .state) (b .reading);
+      heardD = b .heardD;
+      hit = b .hit;
+      stations = b .stations;
+    }
+
+-- "a second replaces the first"
+unfoldable pub hitGiven : List ℕ → Bus → Bus
+hitGiven letters b =
+    record {
+      periods = b .periods;
+      opportunities = b .opportunities;
+      network = b .network;
+      reading = b .reading;
+      heardD = b .heardD;
+      hit = Hit.given letters;
+      stations = b .stations;
+    }
+
+-- power and requests of a terminal
+unfoldable pub terminalDoes : ℕ → ℕ → Terminal → TerminalStep
+terminalDoes event now t =
+    cond (eqb event ON) (terminal.switchesOn now t) (cond (eqb event OFF) (terminal.switchesOff now t) (terminal.requests now t))
+
+-- a frame is taken up
+unfoldable pub withFrame : ℕ → List ℕ → Station → Station
+withFrame class body s =
+    record {
+      terminal =
+          record {
+            t3 = s .terminal .t3;
+            access = takenUp class (length (image body)) (s .terminal .access);
+            state = s .terminal .state;
+            alignment = s .terminal .alignment;
+          };
+      image = image body;
+      body = body;
+    }
+
+unfoldable pub stationAfter : ℕ → List ℕ → ℕ → Station → Station
+stationAfter event value now s = cond (eqb (classOf event) 0) (stepped (terminalDoes event now) s) (withFrame (classOf event) value s)
+
+unfoldable pub stationDone : ℕ → ℕ → List ℕ → Bus → Bus
+stationDone unit event value b =
+    record {
+      periods = b .periods;
+      opportunities = b .opportunities;
+      network = b .network;
+      reading = b .reading;
+      heardD = b .heardD;
+      hit = b .hit;
+      stations = change (stationAfter event value (b .periods)) (unit - 1) (b .stations);
+    }
+
+unfoldable pub eventDone : ℕ → ℕ → List ℕ → Bus → Bus
+eventDone unit event value b =
+    cond (eqb unit 0) (cond (eqb event HIT) (hitGiven value b) (networkDone event b)) (stationDone unit event value b)
+
+unfoldable pub eventNotes : ℕ → ℕ → List ℕ → Bus → List Note
+eventNotes unit event value b =
+    cond (eqb unit 0)
+    (cond (eqb event HIT) [] (notesOf (b .periods) 0 (noted (networkDoes event (b .periods) (b .network) .notes))))
+    (cond (eqb (classOf event) 0) (notesOf (b .periods) unit (noted (terminalDoes event (b .periods) (stationOf b unit .terminal) .notes))) [])

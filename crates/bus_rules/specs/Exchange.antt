@@ -1,0 +1,178 @@
+-- The exchange of a period by lines (document 01, "The line" and "Order inside a period"). A line is written from the bits that are known
+-- so far, with 1 for the rest; the law `as-taken` says that nothing later changes what was taken from it.
+use mathlib.Core.Bool.{Bool, true, false, cond, _||_}
+use mathlib.Core.List.{List, [], _∷_, _++_, map}
+use Prim.Native.Nat.{ℕ}
+use lib.Dec.{eqb}
+use lib.ListN.{length, getD}
+use Rattle.symbols.specs.Symbols.{levels}
+use Rattle.frame.specs.Four.{pick, filledWithOnes}
+use Rattle.frame.specs.Bits.{dBits}
+use Rattle.frame.specs.Down.{eBits}
+use Rattle.frame.specs.declared.fields.Four.{Four}
+use Rattle.info.specs.Info.{info0, info2, info4}
+use Rattle.combining.specs.Combine.{combined}
+use Rattle.combining.specs.Sent.{Sent, silent, calling, frame, sentLine}
+use Rattle.combining.specs.Hit.{hit}
+use Rattle.notes_and_cells.specs.Cells.{infoIn}
+use Rattle.table_6_2.specs.Table62.{F7}
+use Rattle.table_6_2.specs.Table62 as table62
+use Rattle.table_6_3.specs.Table63.{G3}
+use Rattle.table_6_3.specs.Table63 as table63
+use Rattle.dchannel.specs.Access.{normal1, normal2, accessStep}
+use Rattle.dchannel.specs.declared.access.AccessStep.{AccessStep}
+use Rattle.hdlc.specs.Reading.{Reading, Said, said, next}
+use Rattle.hdlc.specs.Reading.Said.{nothing}
+use Rattle.bus_rules.specs.Bus.{Station, Hit, Bus}
+use Rattle.bus_rules.specs.Bus.Hit.{none, given}
+
+-- The line that a network end sends in a state, with four E bits: INFO 0, 2 or 4.
+unfoldable pub sentDown : ℕ → Four → List ℕ
+sentDown state es =
+    let info = infoIn table63.infoSent state in
+    cond (eqb info 4) (info4 es) (cond (eqb info 2) info2 info0)
+
+-- What a terminal sends in a state, with its D bits so far: INFO 0, 1 or 3.
+unfoldable pub sentUp : ℕ → List Bool → Sent
+sentUp state ds =
+    let info = infoIn table62.infoSent state in
+    cond (eqb info 3) (frame (filledWithOnes ds)) (cond (eqb info 1) calling silent)
+
+-- Who sends what: whether a terminal in any of some states sends the INFO of a number; whether any terminal sends INFO 1, and whether any
+-- sends INFO 3.
+unfoldable pub anySends : ℕ → List ℕ → Bool
+anySends info [] = false
+anySends info (state ∷ states) = eqb (infoIn table62.infoSent state) info || anySends info states
+
+abbrev pub anyInfo1 : List Station → Bool
+anyInfo1 ss = anySends 1 (map (λ (s : Station). s .terminal .state) ss)
+
+abbrev pub anyInfo3 : List Station → Bool
+anyInfo3 ss = anySends 3 (map (λ (s : Station). s .terminal .state) ss)
+
+-- "hit: .. for this period's downward line"
+abbrev pub struckBy : Hit → List ℕ → List ℕ
+struckBy none l = l
+struckBy (given letters) l = hit letters l
+
+-- A terminal in the exchange: its D bits so far, and the classes of the frames completed so far.
+pub record Sender : Type 0 where
+  pub station : Station
+  pub ds : List Bool
+  pub done : List ℕ
+
+abbrev pub stationsOf : List Sender → List Station
+stationsOf ss = map (λ (s : Sender). s .station) ss
+
+-- The exchange as an E comes: what does not change in it, and what has gone so far.
+pub record Opportunity : Type 0 where
+  -- the network end's state and the hit
+  pub network : ℕ
+  pub hit : Hit
+  pub senders : List Sender
+  -- the E bits sent
+  pub es : List Bool
+  -- the last combined D that the network end heard, and its reader
+  pub heardD : Bool
+  pub reading : Reading
+  -- what the reader has said
+  pub saids : List Said
+
+-- "A terminal in F7"
+abbrev pub inF7 : Station → Bool
+inF7 s = eqb (s .terminal .state) F7
+
+-- What an E gives in F7: one turn of the D access, with the next bit of the image.
+unfoldable pub accessStepOf : Bool → Station → AccessStep
+accessStepOf e s = accessStep normal1 normal2 e (getD (s .image) (s .terminal .access .sent) true) (s .terminal .access)
+
+unfoldable pub stationAfterE : Bool → Station → Station
+stationAfterE e s =
+    cond (inF7 s)
+    (record {
+      terminal = record { t3 = s .terminal .t3; access = accessStepOf e s .access; state = s .terminal .state; alignment = s .terminal .alignment };
+      image = s .image;
+      body = s .body;
+    })
+    s
+
+-- "D as D access says; in F6 D is 1"
+unfoldable pub dOf : Bool → Station → Bool
+dOf e s = cond (inF7 s) (accessStepOf e s .d) true
+
+-- the class of the frame that is completed, if any
+unfoldable pub doneOf : Bool → Station → List ℕ
+doneOf e s = cond (inF7 s) (cond (eqb (accessStepOf e s .done) 0) [] (accessStepOf e s .done ∷ [])) []
+
+unfoldable pub hearsE : Bool → Sender → Sender
+hearsE e s = record { station = stationAfterE e (s .station); ds = s .ds ++ (dOf e (s .station) ∷ []); done = s .done ++ doneOf e (s .station) }
+
+unfoldable pub sentOf : Sender → Sent
+sentOf s = sentUp (s .station .terminal .state) (s .ds)
+
+-- The line that all powered terminals hear, with the E bits so far, and the line that all terminals give together.
+unfoldable pub lineDown : ℕ → Hit → List Bool → List ℕ
+lineDown network h es = struckBy h (sentDown network (filledWithOnes es))
+
+unfoldable pub lineUp : List Sender → List ℕ
+lineUp ss = combined (map sentLine (map sentOf ss))
+
+-- "each E the last combined D that the network heard": the E that comes, at symbol level of the downward line after the hit
+unfoldable pub eComes : Opportunity → Bool
+eComes m = pick (length (m .es)) (eBits (levels (lineDown (m .network) (m .hit) (m .es ++ (m .heardD ∷ [])))))
+
+unfoldable pub sendersAfter : Opportunity → List Sender
+sendersAfter m = map (hearsE (eComes m)) (m .senders)
+
+-- the D after it, at symbol level of the combined line
+unfoldable pub dComes : Opportunity → Bool
+dComes m = pick (length (m .es)) (dBits (levels (lineUp (sendersAfter m))))
+
+-- "In G3 the network reads D"
+abbrev pub inG3 : Opportunity → Bool
+inG3 m = eqb (m .network) G3
+
+unfoldable pub saidTo : Opportunity → Said
+saidTo m = cond (inG3 m) (said (m .reading) (dComes m)) nothing
+
+unfoldable pub onward : Opportunity → Opportunity
+onward m =
+    record {
+      network = m .network;
+      hit = m .hit;
+      senders = sendersAfter m;
+      es = m .es ++ (m .heardD ∷ []);
+      heardD = dComes m;
+      reading = cond (inG3 m) (next (m .reading) (dComes m)) (m .reading);
+      saids = m .saids ++ (saidTo m ∷ []);
+    }
+
+-- "What is sent follows the states before hearing": the exchange as E11 comes.
+unfoldable pub asSender : Station → Sender
+asSender s = record { station = s; ds = []; done = [] }
+
+unfoldable pub begins : Bus → Opportunity
+begins b =
+    record {
+      network = b .network .state;
+      hit = b .hit;
+      senders = map asSender (b .stations);
+      es = [];
+      heardD = b .heardD;
+      reading = b .reading;
+      saids = [];
+    }
+
+-- "Echo and D go E11, D12, E24, D25, E35, D36, E46, D47": the four moments as E comes, and what the last one leaves.
+unfoldable pub opportunitiesOf : Bus → List Opportunity
+opportunitiesOf b = begins b ∷ onward (begins b) ∷ onward (onward (begins b)) ∷ onward (onward (onward (begins b))) ∷ []
+
+unfoldable pub exchanged : Bus → Opportunity
+exchanged b = onward (onward (onward (onward (begins b))))
+
+-- the two lines when all bits are known
+unfoldable pub wholeDown : Opportunity → List ℕ
+wholeDown m = lineDown (m .network) (m .hit) (m .es)
+
+unfoldable pub wholeUp : Opportunity → List ℕ
+wholeUp m = lineUp (m .senders)

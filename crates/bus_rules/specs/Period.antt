@@ -1,0 +1,118 @@
+-- A period (document 01, "Lists and stretches"): "exchange, hearing, then the timers due at the next one's start".
+use mathlib.Core.Bool.{cond}
+use mathlib.Core.List.{List, [], _∷_, _++_, map}
+use mathlib.Core.Path.{_≡_}
+use Prim.Native.Nat.{ℕ, _+_}
+use lib.Dec.{eqb}
+use Rattle.notes_and_cells.specs.Notes.{HEARD, TORN, DONE1, DONE2, noted}
+use Rattle.table_6_3.specs.Table63.{G3}
+use Rattle.hdlc.specs.Reading.{Reading, Said, cleared}
+use Rattle.hdlc.specs.Reading.Said.{nothing, torn, heard}
+use Rattle.heard_line.specs.Sensing.{shownUp, shownDown}
+use Rattle.network.specs.Network as network
+use Rattle.terminal.specs.Terminal as terminal
+use Rattle.network.specs.declared.Network.{Network}
+use Rattle.network.specs.declared.NetworkStep.{NetworkStep}
+use Rattle.terminal.specs.declared.Terminal.{Terminal}
+use Rattle.terminal.specs.declared.TerminalStep.{TerminalStep}
+use Rattle.bus_rules.specs.Bus.{Station, Hit, Bus, Note}
+use Rattle.bus_rules.specs.Order.{ByUnit, dFirst, partInOrder, periodInOrder}
+use Rattle.bus_rules.specs.Exchange.{Sender, Opportunity, stationsOf, exchanged, wholeDown, wholeUp}
+
+-- "Leaving G3 clears the reader silently."
+unfoldable pub readingAfter : ℕ → ℕ → Reading → Reading
+readingAfter from to r = cond (eqb from G3) (cond (eqb to G3) r cleared) r
+
+-- What the network end and a terminal hear of a line.
+unfoldable pub networkHears : List ℕ → ℕ → Network → NetworkStep
+networkHears up now n = network.hears (shownUp up) now n
+
+unfoldable pub terminalHears : List ℕ → ℕ → Terminal → TerminalStep
+terminalHears down now t = terminal.hears (shownDown down) now t
+
+-- One step of a terminal on its seat.
+unfoldable pub stepped : (Terminal → TerminalStep) → Station → Station
+stepped f s = record { terminal = f (s .terminal) .terminal; image = s .image; body = s .body }
+
+-- ---- What is noted; Order.antt has the order.
+
+-- what the reader has said
+unfoldable pub saidNotes : ℕ → List Said → List Note
+saidNotes now [] = []
+saidNotes now (nothing ∷ more) = saidNotes now more
+saidNotes now (torn ∷ more) = record { period = now; unit = 0; code = TORN; value = [] } ∷ saidNotes now more
+saidNotes now (heard body ∷ more) = record { period = now; unit = 0; code = HEARD; value = body } ∷ saidNotes now more
+
+-- the frames completed, by their classes
+unfoldable pub doneCodes : List ℕ → List ℕ
+doneCodes [] = []
+doneCodes (class ∷ more) = cond (eqb class 1) DONE1 DONE2 ∷ doneCodes more
+
+-- the codes of a terminal's hearing, and of its timer
+abbrev pub hearingCodes : List ℕ → ℕ → Sender → List ℕ
+hearingCodes down now s = dFirst (doneCodes (s .done)) (noted (terminalHears down now (s .station .terminal) .notes))
+
+abbrev pub timerCodes : ℕ → Station → List ℕ
+timerCodes now s = noted (terminal.timer now (s .terminal) .notes)
+
+-- ---- Hearing, unit 0 first, after the exchange m. "The record counts periods run and D opportunities run, four for each period whose
+-- lines leave the network end in G3": the book's lines, which come before the exchange.
+unfoldable pub heardBy : Opportunity → Bus → Bus
+heardBy m b =
+    let n = networkHears (wholeUp m) (b .periods) (b .network) .network in
+    record {
+      periods = b .periods + 1;
+      opportunities = b .opportunities + cond (eqb (b .network .state) G3) 4 0;
+      network = n;
+      reading = readingAfter (b .network .state) (n .state) (m .reading);
+      heardD = m .heardD;
+      hit = Hit.none;
+      stations = map (stepped (terminalHears (wholeDown m) (b .periods))) (stationsOf (m .senders));
+    }
+
+abbrev pub heardByUnit : Opportunity → Bus → ByUnit
+heardByUnit m b =
+    record {
+      reader = saidNotes (b .periods) (m .saids);
+      network = noted (networkHears (wholeUp m) (b .periods) (b .network) .notes);
+      terminals = map (hearingCodes (wholeDown m) (b .periods)) (m .senders);
+    }
+
+unfoldable pub notesHeard : Opportunity → Bus → List Note
+notesHeard m b = partInOrder (b .periods) (heardByUnit m b)
+
+-- ---- "Timers that are due (unit 0, then 1 to 8)", at the start of the period that comes.
+unfoldable pub timed : Bus → Bus
+timed b =
+    let n = network.timers (b .periods) (b .network) .network in
+    record {
+      periods = b .periods;
+      opportunities = b .opportunities;
+      network = n;
+      reading = readingAfter (b .network .state) (n .state) (b .reading);
+      heardD = b .heardD;
+      hit = b .hit;
+      stations = map (stepped (terminal.timer (b .periods))) (b .stations);
+    }
+
+abbrev pub timedByUnit : Bus → ByUnit
+timedByUnit b =
+    record {
+      reader = [];
+      network = noted (network.timers (b .periods) (b .network) .notes);
+      terminals = map (timerCodes (b .periods)) (b .stations);
+    }
+
+unfoldable pub notesTimed : Bus → List Note
+notesTimed b = partInOrder (b .periods) (timedByUnit b)
+
+-- ---- The whole.
+unfoldable pub periodRun : Bus → Bus
+periodRun b = timed (heardBy (exchanged b) b)
+
+unfoldable pub periodNotes : Bus → List Note
+periodNotes b = periodInOrder (b .periods) (heardByUnit (exchanged b) b) (timedByUnit (heardBy (exchanged b) b))
+
+-- its two parts (proofs/Telling.antt)
+abbrev pub TwoParts : Type 0
+TwoParts = (b : Bus) → periodNotes b ≡ notesHeard (exchanged b) b ++ notesTimed (heardBy (exchanged b) b)

@@ -1,0 +1,61 @@
+// What a lent line of 48 symbols shows: worked out once for a period, and then heard by the network end, or by every powered terminal.
+ghost use mathlib.Core.Path.{_≡_};
+ghost use Rattle.heard_line.specs.Sensing as spec;
+use super::heard::Downward;
+use super::heard::Upward;
+use frame_reader::read::a_bit;
+use framed::framed_down;
+use framed::framed_up;
+use framed::has_pulse;
+use info::info::is_info1;
+use symbols::TestAnswer;
+
+// What a downward line shows, or the number of the refusal.
+pub enum SensedDown {
+    Line(Downward),
+    Refused(u8),
+}
+
+// The same for an upward line.
+pub enum SensedUp {
+    Line(Upward),
+    Refused(u8),
+}
+
+pub fn sense_down(line: &[u8]) -> SensedDown
+    ensures { λ r. ⌜ r ≡ spec.sensedDown (now (line .entry)) ⌝ }
+{
+    let pulse = has_pulse(line);
+    if let TestAnswer::Refused(k) = pulse {
+        return SensedDown::Refused(k);
+    }
+    SensedDown::Line(Downward {
+        pulse: is_yes(pulse),
+        framed: is_yes(framed_down(line)),
+        a: is_yes(a_bit(line)),
+    })
+}
+
+pub fn sense_up(line: &[u8]) -> SensedUp
+    ensures { λ r. ⌜ r ≡ spec.sensedUp (now (line .entry)) ⌝ }
+{
+    let pulse = has_pulse(line);
+    if let TestAnswer::Refused(k) = pulse {
+        return SensedUp::Refused(k);
+    }
+    SensedUp::Line(Upward {
+        pulse: is_yes(pulse),
+        framed: is_yes(framed_up(line)),
+        info1: is_yes(is_info1(line)),
+    })
+}
+
+fn is_yes(answer: TestAnswer) -> bool
+    ensures { λ r. ⌜ r ≡ spec.isYes answer ⌝ }
+{
+    match answer {
+        TestAnswer::Yes => true,
+        TestAnswer::No => false,
+        TestAnswer::Refused(_) => false,
+    }
+}

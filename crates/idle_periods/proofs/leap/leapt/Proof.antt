@@ -1,0 +1,34 @@
+-- `idle_periods::leap::leapt` meets its contract.
+use borrow.Author.Tests.{le-leb, lt-leb}
+use Rattle.idle_periods.specs.Still.{leapt}
+use borrow.Author.Needs.{needs}
+use Rattle.idle_periods.proofs.leap.leapt.Statement.{statement}
+use Rattle.idle_periods.proofs.leap.leapt.Tie as tie
+
+cast-periods : tie.Need-cast-periods
+cast-periods c = search needs
+
+add-periods : tie.Need-add-periods
+add-periods c = search needs
+
+cast-if1 : tie.Need-cast-if1
+cast-if1 c = search needs
+
+returns : tie.Need-returns
+unfolding leapt
+returns c = simp (lt-leb _ _ (c .if1 .taken))
+
+cast-t9 : tie.Need-cast-t9
+cast-t9 c = search needs
+
+counted-over-requires : tie.Need-counted-over-requires
+counted-over-requires c κs = search needs
+
+returns-2 : tie.Need-returns-2
+unfolding leapt
+returns-2 c = rw (c .counted-over .ensures) (simp (le-leb _ _ (c .before .before .before .if1 .left)))
+
+pub leapt-spec : {M : Type 1} → statement M
+leapt-spec =
+    tie.close
+    (tie.spec cast-periods add-periods cast-if1 returns cast-t9 counted-over-requires returns-2)

@@ -1,0 +1,39 @@
+// The step over the periods of a still bus.
+ghost use mathlib.Core.Path.{_≡_};
+ghost use Rattle.idle_periods.specs.Still as spec;
+use bus_record::record::BusRecord;
+use table_6_3::G3;
+use timing::counts::MOST_PERIODS;
+use timing::counts::Opportunities;
+use timing::counts::Periods;
+
+// Four D opportunities for each of so many periods in G3.
+fn counted_over(state: u8, over: u32, opportunities: Opportunities) -> Opportunities
+    ensures { λ r. ⌜ r ≡ spec.countedOver state over opportunities ⌝ }
+{
+    if (state == G3) & (opportunities.0 <= 4 * MOST_PERIODS) & (over <= MOST_PERIODS) {
+        Opportunities(opportunities.0 + 4 * over)
+    } else {
+        opportunities
+    }
+}
+
+// So many periods more, in G3 four times as many D opportunities, and all else as it was.
+pub fn leapt(bus: BusRecord, over: u32) -> BusRecord
+    ensures { λ r. ⌜ r ≡ spec.leapt over bus ⌝ }
+{
+    let periods = bus.periods.0 as u64 + over as u64;
+    if (MOST_PERIODS as u64) < periods {
+        return bus;
+    }
+    let network = bus.network;
+    let reader = bus.reader;
+    BusRecord {
+        network,
+        periods: Periods(periods as u32),
+        opportunities: counted_over(network.state, over, bus.opportunities),
+        reader,
+        echo: bus.echo,
+        hit: bus.hit,
+    }
+}

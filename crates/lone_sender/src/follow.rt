@@ -1,0 +1,45 @@
+// The terminals after a run alone.
+ghost use mathlib.Core.Path.{_≡_};
+ghost use Rattle.slice_lemmas.specs.Over.{mapFrom};
+ghost use Rattle.lone_sender.specs.Lone.{followed};
+use super::lone::LoneSender;
+use dchannel::access::Access;
+use table_6_2::F7;
+use terminal::Terminal;
+
+// Terminal i: in F7 it has counted the same E as all, and the sender's bits have left.
+fn follow_one(lone: LoneSender, i: usize, t: Terminal) -> Terminal
+    ensures { λ r. ⌜ r ≡ followed lone i t ⌝ }
+{
+    if t.state != F7 {
+        return t;
+    }
+    let before = t.access;
+    let alignment = t.alignment;
+    Terminal {
+        t3: t.t3,
+        access: Access {
+            length: before.length,
+            sent: if i == lone.at { lone.sent } else { before.sent },
+            count: lone.count,
+            held: before.held,
+            low1: before.low1,
+            low2: before.low2,
+            last: if i == lone.at { lone.last } else { before.last },
+        },
+        state: t.state,
+        alignment,
+    }
+}
+
+// All terminals, from what they were at the run's start.
+pub fn follow(terminals: &mut [Terminal], lone: LoneSender)
+    ensures { λ _. ⌜ now (terminals .exit) ≡ mapFrom (followed lone) 0 (now (terminals .entry)) ⌝ }
+{
+    let mut i: usize = 0;
+    while i < terminals.len() {
+        let t = terminals[i];
+        terminals[i] = follow_one(lone, i, t);
+        i += 1;
+    }
+}

@@ -1,7 +1,0 @@
--- One opportunity and four of them, alone (SoloFour); the loop over such periods (AloneLoop); what a search that finds one has
--- shown (FoundAlone); a period alone (Period); the structs of the walks (Structs).
-pub mod SoloFour
-pub mod AloneLoop
-pub mod FoundAlone
-pub mod Period
-pub mod Structs

@@ -1,5 +1,0 @@
-// Periods in which one terminal alone sends on the D channel, without going through the terminals.
-pub mod alone;
-pub mod follow;
-pub mod search;
-pub mod solo;
