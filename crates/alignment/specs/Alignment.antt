@@ -1,5 +1,7 @@
--- Alignment of one end (document 01, "The line", last paragraph): `gain` framed periods running give it, `lose` unframed ones running,
--- each with a pulse, lose it.
+-- Rules: alignment of one end (document 01, "The line", last paragraph): `gain` framed periods
+-- running give it, `lose` unframed ones running, each with a pulse, lose it.
+-- Interface: `framedToGain`, `unframedToLose`, `unaligned`, `inAlignment`, `fresh`, `framedPeriod`,
+-- `unframedPeriod`, `followed`, `alignmentInRange`. Assumes nothing.
 use mathlib.Core.Bool.{Bool, true, false, cond}
 use Prim.Native.Nat.{ℕ, _+_}
 use lib.Dec.{ltb}

@@ -1,4 +1,6 @@
--- The call that goes on with a book (document 01, "Bench book and report"; "Reasons a call is turned down", 1 and 2).
+-- Calls: the call that goes on with a book (document 01, "Bench book and report"; "Reasons a call
+-- is turned down", 1 and 2).
+-- Interface: `GoesOn`. Assumes nothing.
 use mathlib.Core.Bool.{Bool}
 use mathlib.Core.List.{List}
 use mathlib.Core.Path.{_≡_}

@@ -1,4 +1,7 @@
--- How far a book has come, as the code holds it: with what is lent it is crate `report`'s `BookState` (specs/Ahead.antt there).
+-- How the code goes: how far a book has come, as the code holds it: with what is lent it is crate
+-- `report`'s `BookState` (specs/Ahead.antt there).
+-- Interface: `freshProgress`, `bookStateOf`, `reason`, `untaken`, `ended`, `turned`, `reached`,
+-- `Goes`. Assumes nothing.
 use mathlib.Core.Bool.{Bool, false}
 use mathlib.Core.List.{List}
 use Prim.Native.Nat.{ℕ, _≤_}

@@ -1,4 +1,6 @@
--- What running periods up to a line's, and giving a line's event, do to the record, to what is lent with it and to the room.
+-- How the code goes: what running periods up to a line's, and giving a line's event, do to the
+-- record, to what is lent with it and to the room.
+-- Interface: `RunsTo`, `Gives`. Assumes nothing.
 use mathlib.Core.List.{List}
 use mathlib.Core.Path.{_≡_}
 use Prim.Native.Nat.{ℕ, _+_, _-_, _≤_}

@@ -1,4 +1,6 @@
--- What steps do, from a place in the text and so many octets written to others: as `Advanced` of crate `report` (specs/Ahead.antt) says it of a call.
+-- How the code goes: what steps do, from a place in the text and so many octets written to others:
+-- as `Advanced` of crate `report` (specs/Ahead.antt) says it of a call.
+-- Interface: `IsRead`, `StepsBy`. Assumes nothing.
 use mathlib.Core.Bool.{Bool, true, false, cond}
 use mathlib.Core.List.{List, [], _++_}
 use mathlib.Core.Path.{_≡_}

@@ -1,4 +1,5 @@
 -- Calls: what the judging of a number and of a line answers.
+-- Interface: every name. Assumes nothing.
 use mathlib.Core.Bool.{cond, not, _&&_}
 use mathlib.Core.List.{List}
 use Prim.Native.Nat.{ℕ}

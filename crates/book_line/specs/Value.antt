@@ -1,5 +1,8 @@
--- What the value of a line says in octets (document 01, "Bench book and report": "value the body in lower-case hexadecimal, `-` an empty
--- one", "48 letters, k keep, p plus, m minus, n none").
+-- Rules: what the value of a line says in octets (document 01, "Bench book and report": "value the
+-- body in lower-case hexadecimal, `-` an empty one", "48 letters, k keep, p plus, m minus, n
+-- none").
+-- Interface: `hexDigit`, `pairs`, `letterCode`, `valueOctets`, `valueRoom`, `Laid`. Assumes
+-- nothing.
 use mathlib.Core.Path.{_≡_}
 use mathlib.Core.Bool.{cond, _||_}
 use mathlib.Core.List.{List, [], _∷_, _++_, map}

@@ -1,4 +1,6 @@
--- A book that is handed over in parts: what a caller keeps, what it is answered, and what is still to come.
+-- Laws: a book that is handed over in parts: what a caller keeps, what it is answered, and what is
+-- still to come.
+-- Interface: `toCome`, `joined`. Assumes nothing.
 use mathlib.Core.Path.{_≡_}
 use mathlib.Core.Bool.{Bool, true, false, cond}
 use mathlib.Core.List.{List, [], _∷_, _++_}

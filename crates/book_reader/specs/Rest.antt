@@ -1,4 +1,5 @@
--- The text not yet taken goes to the front of the buffer.
+-- Calls: the text not yet taken goes to the front of the buffer.
+-- Interface: every name. Assumes nothing.
 use mathlib.Core.List.{List, _++_}
 use Prim.Native.Nat.{ℕ}
 use lib.ListN.{length, take, drop}

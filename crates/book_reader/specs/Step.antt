@@ -1,5 +1,8 @@
--- One call on lent text, "what lies in" the program's buffer: what it answers, from the octets not yet taken.
--- An answer says how many of them it takes, not where they stand. `whole` says that the text reaches to the book's end.
+-- Calls: one call on lent text, "what lies in" the program's buffer: what it answers, from the
+-- octets not yet taken. An answer says how many of them it takes, not where they stand. `whole`
+-- says that the text reaches to the book's end.
+-- Interface: `BEFORE-FIRST-LINE`, `headStep`, `ruled`, `unended`, `lineStep`, `tailStep`, `stepAt`,
+-- `takenBy`, `valueFrom`, `valueTo`, `valueAt`, `movedOn`. Assumes nothing.
 use mathlib.Core.Bool.{Bool, cond}
 use mathlib.Core.List.{List}
 use Prim.Native.Nat.{ℕ, _+_, _-_, min}

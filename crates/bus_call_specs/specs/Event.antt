@@ -1,4 +1,6 @@
--- An event on the record and what is lent with it (document 01, "Bench book and report" and "Reasons a call is turned down").
+-- Calls: an event on the record and what is lent with it (document 01, "Bench book and report" and
+-- "Reasons a call is turned down").
+-- Interface: `eventTold`, `terminalsAfter`, `imagesAfter`, `lettersAfter`. Assumes nothing.
 use mathlib.Core.Bool.{cond}
 use mathlib.Core.List.{List, []}
 use Prim.Native.Nat.{ℕ, _-_}

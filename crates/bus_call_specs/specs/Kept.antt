@@ -1,4 +1,5 @@
--- What a call on a bus finds: the record, the eight terminals, and what is lent with them.
+-- Calls: what a call on a bus finds: the record, the eight terminals, and what is lent with them.
+-- Interface: `Kept`, `kept`, `found`, `settled`. Assumes nothing.
 use mathlib.Core.List.{List}
 use Prim.Native.Nat.{ℕ}
 use lib.ListN.{replicate}

@@ -1,5 +1,9 @@
--- Lists of calls on the record and what is lent with it. Each list hands back the replies and the notes that crate `bus_rules` has for the same
--- calls (specs/Calls.antt there), so that demand 3 (specs/Claims.antt there) speaks of these calls: Demand3.antt.
+-- Laws: lists of calls on the record and what is lent with it. Each list hands back the replies and
+-- the notes that crate `bus_rules` has for the same calls (specs/Calls.antt there), so that demand
+-- 3 (specs/Claims.antt there) speaks of these calls: Demand3.antt.
+-- Interface: `told`, `called`, `replied`, `readerTold`, `doneNotes`, `periodTold`, `terminalsTold`,
+-- `timersTold`, `notesTold`, `Carries`, `LentCall`, `OctetValue`, `freshFound`, `made`, `lend`,
+-- `OctetValues`, `callsIn`, `runTold`. Assumes nothing.
 use mathlib.Core.Bool.{Bool, true, false, cond, _&&_}
 use mathlib.Core.List.{List, [], _∷_, _++_, map}
 use mathlib.Core.Path.{_≡_, refl}

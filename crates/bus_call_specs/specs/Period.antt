@@ -1,4 +1,6 @@
--- A period as document 01 has it (crate `bus_rules`, specs/Period.antt), on the record and what is lent with it.
+-- Calls: a period as document 01 has it (crate `bus_rules`, specs/Period.antt), on the record and
+-- what is lent with it.
+-- Interface: `periodAnswer`, `keptRun`. Assumes nothing.
 use mathlib.Core.Bool.{Bool, false, cond, not, _||_}
 use mathlib.Core.List.{List, [], _∷_, map}
 use Prim.Native.Nat.{ℕ, _+_}

@@ -1,4 +1,6 @@
--- Refusals 1, 2 and 9 of a call that runs periods (document 01, "Reasons a call is turned down").
+-- Calls: refusals 1, 2 and 9 of a call that runs periods (document 01, "Reasons a call is turned
+-- down").
+-- Interface: `eightInRange`, `runReason`, `runReply`, `goesOn`. Assumes nothing.
 use mathlib.Core.Bool.{Bool, cond, not, _&&_}
 use mathlib.Core.List.{List}
 use Prim.Native.Nat.{ℕ}

@@ -1,6 +1,7 @@
--- A run: periods until so many are run or one hands back notes. It is as many single calls of
--- `period`: the law `run-single`. That it is the run that the rules have (crate `bus_rules`,
+-- Calls: a run: periods until so many are run or one hands back notes. It is as many single calls
+-- of `period`: the law `run-single`. That it is the run that the rules have (crate `bus_rules`,
 -- specs/Calls.antt) is the law `RunCarried` (Lists.antt).
+-- Interface: `answerOn`, `keptOn`, `runAnswer`, `keptAfter`. Assumes nothing.
 use mathlib.Core.Bool.{false, cond, _&&_}
 use mathlib.Core.Path.{_≡_}
 use Prim.Native.Nat.{ℕ, zero, suc}

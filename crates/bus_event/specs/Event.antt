@@ -1,5 +1,8 @@
--- An event of the book on the bus record, on the network end and on one terminal with the images lent (document 01, "Bench book and
--- report" and "Reasons a call is turned down").
+-- Calls: an event of the book on the bus record, on the network end and on one terminal with the
+-- images lent (document 01, "Bench book and report" and "Reasons a call is turned down").
+-- Interface: `imagesRoom`, `told`, `areLetters`, `firstReason`, `takenOver`, `withHit`,
+-- `networkAsked`, `networkTold`, `lettersAfter`, `imagePut`, `frameReason`, `turnedDown`,
+-- `frameGiven`, `imagesWith`, `terminalTold`, `imagesAfter`. Assumes nothing.
 use mathlib.Core.Bool.{Bool, true, cond, not, _&&_, _||_}
 use mathlib.Core.List.{List, [], _++_}
 use Prim.Native.Nat.{ℕ, _*_}

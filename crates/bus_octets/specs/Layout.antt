@@ -1,10 +1,13 @@
--- A bus as octets: its layout, version 1. Numbers stand with the low-order octet first (`half` two octets, `word` four), a yes is 1 and a no is 0.
+-- Calls: a bus as octets: its layout, version 1. Numbers stand with the low-order octet first (`half` two octets, `word` four), a yes is 1 and a no is 0.
 --   0   the record, 32 octets
 --   32  the eight terminals, 16 octets each, terminal 1 first
 --   160 the letters of the hit, 48
 --   208 the octets of the network end's reader, 266
 --   474 the rooms of the eight images, 322 octets each, terminal 1 first
 -- 3,050 octets in all.
+-- Interface: `flag`, `recordOctets`, `terminalOctets`, `terminalsOctets`, `busOctets`, `flagAt`,
+-- `recordIn`, `terminalAt`, `busLength`, `terminalsIn`, `lettersRead`, `octetsOf`, `shown`,
+-- `headOctets`, `isHead`, `isBus`. Assumes nothing.
 use mathlib.Core.Bool.{Bool, true, false, cond, _&&_}
 use mathlib.Core.List.{List, [], _∷_, _++_}
 use Prim.Native.Nat.{ℕ, zero, suc, _+_, _*_}

@@ -1,4 +1,5 @@
--- Numbers among octets, the low-order octet first.
+-- Calls: numbers among octets, the low-order octet first.
+-- Interface: every name. Assumes nothing.
 use Prim.Native.Nat.{ℕ, _+_, _*_}
 use mathlib.Core.List.{List}
 use lib.ListN.{getD}

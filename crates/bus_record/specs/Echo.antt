@@ -1,5 +1,8 @@
--- What of the downward line the exchange and the terminals' hearing need. A line is built under a hit alone (crate `bus_rules`, specs/Quick.antt).
--- This is how the code goes; crate `bus_call_specs`' law `step-shown` holds it to document 01's period.
+-- How the code goes: what of the downward line the exchange and the terminals' hearing need. A line
+-- is built under a hit alone (crate `bus_rules`, specs/Quick.antt). Crate `bus_call_specs`' law
+-- `step-shown` holds it to document 01's period.
+-- Interface: `letterAt`, `hitIn`, `firstTally`, `builtDown`, `heardDown`, `stepTally`,
+-- `stepExchanged`, `stepLine`. Assumes nothing.
 use mathlib.Core.Bool.{Bool, cond}
 use mathlib.Core.List.{List}
 use Prim.Native.Nat.{ℕ}

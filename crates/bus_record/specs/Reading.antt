@@ -1,5 +1,7 @@
--- The network end reads the four D of a period in G3 (document 01, "D access (6.1)"), bit by bit.
--- This is how the code goes; crate `bus_call_specs`' law `step-shown` holds it to document 01's period.
+-- How the code goes: the network end reads the four D of a period in G3 (document 01, "D access
+-- (6.1)"), bit by bit. Crate `bus_call_specs`' law `step-shown` holds it to document 01's period.
+-- Interface: `quietReading`, `spokenTo`, `octetsTo`, `spokenToFour`, `octetsToFour`, `readerWaits`,
+-- `readIn`, `octetsIn`. Assumes nothing.
 use mathlib.Core.Bool.{Bool, cond, not, _&&_}
 use mathlib.Core.List.{List}
 use Prim.Native.Nat.{ℕ}

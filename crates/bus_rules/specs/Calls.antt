@@ -1,4 +1,6 @@
--- Lists of calls on a bus (document 01, "Lists and stretches").
+-- Rules: lists of calls on a bus (document 01, "Lists and stretches").
+-- Interface: `Call`, `reply`, `after`, `notes`, `afterAll`, `notesOfAll`, `runReply`, `runNotes`,
+-- `runLeaves`. Assumes nothing.
 use mathlib.Core.Bool.{Bool, cond, _&&_}
 use mathlib.Core.List.{List, [], _∷_, _++_}
 use Prim.Native.Nat.{ℕ, zero, suc}

@@ -1,5 +1,6 @@
--- An event of the book on the bus (document 01, "Bench book and report" and "Reasons a call is turned down"): any unit number, any event
--- number, any value.
+-- Rules: an event of the book on the bus (document 01, "Bench book and report" and "Reasons a call
+-- is turned down"): any unit number, any event number, any value.
+-- Interface: `among`, `eventFor`. Assumes nothing.
 use mathlib.Core.Bool.{Bool, false, cond, not, _&&_, _||_}
 use mathlib.Core.List.{List, [], _∷_}
 use Prim.Native.Nat.{ℕ, suc, _-_}

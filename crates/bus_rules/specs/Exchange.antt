@@ -1,5 +1,9 @@
--- The exchange of a period by lines (document 01, "The line" and "Order inside a period"). A line is written from the bits that are known
--- so far, with 1 for the rest; the law `as-taken` says that nothing later changes what was taken from it.
+-- Rules: the exchange of a period by lines (document 01, "The line" and "Order inside a period"). A
+-- line is written from the bits that are known so far, with 1 for the rest; the law `as-taken` says
+-- that nothing later changes what was taken from it.
+-- Interface: `sentDown`, `anySends`, `anyInfo1`, `anyInfo3`, `Sender`, `stationsOf`, `inF7`,
+-- `accessStepOf`, `stationAfterE`, `dOf`, `dComes`, `opportunitiesOf`, `exchanged`, `wholeDown`,
+-- `wholeUp`. Assumes nothing.
 use mathlib.Core.Bool.{Bool, true, false, cond, _||_}
 use mathlib.Core.List.{List, [], _∷_, _++_, map}
 use Prim.Native.Nat.{ℕ}

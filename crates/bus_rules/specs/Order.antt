@@ -1,7 +1,8 @@
--- In which order the notes of a period stand (document 01, "Bench book and report"): "They stand as
--- they arise; within one unit's hearing or line, D notes .. come before the table's, which keep its
--- order." Nothing else says so: `periodNotes` (Period.antt) is this order of what the rules give,
--- and `periodTold` of crate `bus_call_specs` the same order of what a call hands back.
+-- Rules: in which order the notes of a period stand (document 01, "Bench book and report"): "They
+-- stand as they arise; within one unit's hearing or line, D notes .. come before the table's, which
+-- keep its order." Nothing else says so: `periodNotes` (Period.antt) is this order of what the
+-- rules give, and `periodTold` of crate `bus_call_specs` the same order of what a call hands back.
+-- Interface: `ByUnit`, `dFirst`, `unitByUnit`, `periodInOrder`. Assumes nothing.
 use mathlib.Core.List.{List, [], _∷_, _++_}
 use Prim.Native.Nat.{ℕ, suc, _+_}
 use Rattle.bus_rules.specs.Bus.{Note, notesOf}

@@ -1,4 +1,6 @@
--- A period (document 01, "Lists and stretches"): "exchange, hearing, then the timers due at the next one's start".
+-- Rules: a period (document 01, "Lists and stretches"): "exchange, hearing, then the timers due at
+-- the next one's start".
+-- Interface: `networkHears`, `stepped`, `heardBy`, `periodRun`. Assumes nothing.
 use mathlib.Core.Bool.{cond}
 use mathlib.Core.List.{List, [], _∷_, _++_, map}
 use mathlib.Core.Path.{_≡_}

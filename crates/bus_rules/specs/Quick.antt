@@ -1,5 +1,7 @@
--- What is on the line without building it: E, D and what is heard, from the states and the D bits alone, in every period. The statements
--- are types; `proofs/Quick.antt` proves each under the same name in small letters.
+-- How the code goes: what is on the line without building it: E, D and what is heard, from the
+-- states and the D bits alone, in every period. The statements are types; `proofs/Quick.antt`
+-- proves each under the same name in small letters.
+-- Interface: `sentE`, `shownFrom`, `shownBy`. Assumes nothing.
 use mathlib.Core.Path.{_≡_}
 use mathlib.Core.Bool.{Bool, true, false, not, cond, _&&_}
 use mathlib.Core.List.{List, [], _∷_}

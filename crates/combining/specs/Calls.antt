@@ -1,4 +1,6 @@
 -- Calls: what the call that combines the eight terminals' lines is lent, and what it replies.
+-- Interface: `terminals`, `linesLength`, `rows`, `combineFits`, `combinedReply`, `eight`. Assumes
+-- nothing.
 use mathlib.Core.Bool.{Bool, cond, _&&_}
 use mathlib.Core.List.{List, [], _∷_, _++_}
 use Prim.Native.Nat.{ℕ, zero, suc, _*_}

@@ -1,5 +1,6 @@
--- Several terminals on one line (document 01, "The line": together, several terminals give plus where only plus is sent, minus where
--- only minus, none otherwise).
+-- Rules: several terminals on one line (document 01, "The line": together, several terminals give
+-- plus where only plus is sent, minus where only minus, none otherwise).
+-- Interface: `isSent`, `column`, `combined`. Assumes nothing.
 use mathlib.Core.Bool.{Bool, true, false, _||_}
 use mathlib.Core.List.{List, [], _∷_, map}
 use Prim.Native.Nat.{ℕ}

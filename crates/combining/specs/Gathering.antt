@@ -1,4 +1,6 @@
--- How the code goes: what is sent at a position is gathered bit by bit, and plus and minus together are 3.
+-- How the code goes: what is sent at a position is gathered bit by bit, and plus and minus together
+-- are 3.
+-- Interface: `gathered`, `gatheredSymbol`. Assumes nothing.
 use mathlib.Core.Bool.{cond}
 use mathlib.Core.List.{List, [], _∷_}
 use Prim.Native.Nat.{ℕ}

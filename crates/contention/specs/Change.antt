@@ -1,4 +1,5 @@
 -- Rules: one of a list changed, as a bus has one of its terminals changed.
+-- Interface: every name. Assumes nothing.
 use mathlib.Core.List.{List, [], _∷_}
 use Prim.Native.Nat.{ℕ, zero, suc}
 

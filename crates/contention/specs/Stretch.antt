@@ -1,4 +1,5 @@
--- Stretches and what document 01, "Lists and stretches", says of the D opportunities in them.
+-- Laws: stretches and what document 01, "Lists and stretches", says of the D opportunities in them.
+-- Interface: the statements, for the proofs of this crate. Assumes nothing.
 use mathlib.Core.Bool.{Bool, true, false, cond}
 use mathlib.Core.List.{List, [], _∷_, _++_}
 use mathlib.Core.Path.{_≡_}

@@ -1,4 +1,6 @@
--- Calls of the reader one after the other, a bit each, all with the same lent buffer.
+-- How the code goes: calls of the reader one after the other, a bit each, all with the same lent
+-- buffer.
+-- Interface: `readerAfter`, `octetsAfter`, `answersAfter`. Assumes nothing.
 use mathlib.Core.Bool.{Bool}
 use mathlib.Core.List.{List, [], _∷_}
 use Prim.Native.Nat.{ℕ, _+_}

@@ -1,5 +1,6 @@
--- Every field of the reader's record in its range (document 01, refusal 1): the bits go up to mostBits, the 1s to 7. An octet is any
--- octet, and a bool has no range.
+-- Calls: every field of the reader's record in its range (document 01, refusal 1): the bits go up
+-- to mostBits, the 1s to 7. An octet is any octet, and a bool has no range.
+-- Interface: every name. Assumes nothing.
 use mathlib.Core.Bool.{Bool, false, cond}
 use lib.Dec.{ltb, leb}
 use Rattle.d_reader.specs.Counters.{mostBits}

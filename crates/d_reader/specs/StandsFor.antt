@@ -1,5 +1,7 @@
--- Which reading of raw bits (document 01, "D access (6.1)", second paragraph, as hdlc's specs/Reading.antt has it) the reader's record and
--- the lent octets stand for, and what its answers mean.
+-- Laws: which reading of raw bits (document 01, "D access (6.1)", second paragraph, as hdlc's
+-- specs/Reading.antt has it) the reader's record and the lent octets stand for, and what its
+-- answers mean.
+-- Interface: `StandsFor`, `ReadsOn`. Assumes nothing.
 use mathlib.Core.Bool.{Bool, true, false, cond, not}
 use mathlib.Core.List.{List, [], _∷_, _++_}
 use mathlib.Core.Path.{_≡_}

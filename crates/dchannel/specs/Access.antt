@@ -1,5 +1,8 @@
--- One terminal's access to the D channel (document 01, "D access (6.1)"), for normal levels x1 of class 1 and x2 of class 2;
--- each low level is one more.
+-- Rules: one terminal's access to the D channel (document 01, "D access (6.1)"), for normal levels
+-- x1 of class 1 and x2 of class 2; each low level is one more.
+-- Interface: `normal1`, `normal2`, `fresh`, `entered`, `countAfter`, `lowAfter`, `afterE`, `lowOf`,
+-- `threshold`, `mayStart`, `sendsNext`, `stops`, `completes`, `idles`, `accessStep`. Assumes
+-- nothing.
 use mathlib.Core.Bool.{Bool, true, false, cond}
 use Prim.Native.Nat.{ℕ, _+_}
 use lib.Dec.{ltb, leb, eqb}

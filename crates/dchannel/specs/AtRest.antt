@@ -1,4 +1,6 @@
--- How the code goes: a terminal that is at rest is passed over in a D opportunity with an E of 1 (crate `exchange`, specs/Rest.antt).
+-- How the code goes: a terminal that is at rest is passed over in a D opportunity with an E of 1
+-- (crate `exchange`, specs/Rest.antt).
+-- Interface: every name. Assumes nothing.
 use mathlib.Core.Bool.{Bool, not, _&&_}
 use Prim.Native.Nat.{ℕ, _+_}
 use lib.Dec.{eqb}

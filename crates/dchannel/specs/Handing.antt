@@ -1,4 +1,6 @@
--- A frame is handed over, and F7 is left (document 01, "D access (6.1)" and "Reasons a call is turned down").
+-- Rules: a frame is handed over, and F7 is left (document 01, "D access (6.1)" and "Reasons a call
+-- is turned down").
+-- Interface: `takenUp`, `handed`, `left`. Assumes nothing.
 use mathlib.Core.Bool.{Bool, true, cond, _&&_}
 use Prim.Native.Nat.{ℕ}
 use lib.Dec.{leb, eqb}

@@ -1,5 +1,7 @@
--- "A field of the bus record lies outside its range" (document 01, reason 1), for a terminal's access record with normal level x2 of
--- class 2. Each field has its own range; a bool has none.
+-- Calls: "A field of the bus record lies outside its range" (document 01, reason 1), for a
+-- terminal's access record with normal level x2 of class 2. Each field has its own range; a bool
+-- has none.
+-- Interface: every name. Assumes nothing.
 use mathlib.Core.Bool.{Bool, _&&_}
 use Prim.Native.Nat.{ℕ, _+_}
 use lib.Dec.{leb}

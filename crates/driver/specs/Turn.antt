@@ -1,4 +1,6 @@
--- A driver between two calls, and its turn: a step of `Driven` (crate `report`, specs/Ahead.antt) where the part of the book is what was read.
+-- Calls: a driver between two calls, and its turn: a step of `Driven` (crate `report`,
+-- specs/Ahead.antt) where the part of the book is what was read.
+-- Interface: `Fills`, `Turned`, `Going`, `Drives`, `Runs`. Assumes nothing.
 use mathlib.Core.Bool.{Bool, true, false, cond}
 use mathlib.Core.List.{List, [], _∷_, _++_}
 use mathlib.Core.Path.{_≡_}

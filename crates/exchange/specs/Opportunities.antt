@@ -1,5 +1,6 @@
--- All terminals at a D opportunity, and the four opportunities of a period. This is how the code goes; the law
--- `exchange-shown` (Shown.antt) holds it to crate `bus_rules`.
+-- How the code goes: all terminals at a D opportunity, and the four opportunities of a period. The
+-- law `exchange-shown` (Shown.antt) holds it to crate `bus_rules`.
+-- Interface: every name. Assumes nothing.
 use mathlib.Core.List.{List}
 use Prim.Native.Nat.{ℕ}
 use Rattle.slice_lemmas.specs.Over.{mapFrom, foldFrom}

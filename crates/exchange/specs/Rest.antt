@@ -1,6 +1,9 @@
--- An exchange in which no terminal takes part: each in F7 has a D access that the E leaves as it is. Then the terminals are as before, and D
--- is 1 at every opportunity, but for the second where one sends INFO 1. The law `rest-four` holds this to Opportunities.antt.
--- The code goes this way where none sends INFO 1.
+-- How the code goes: an exchange in which no terminal takes part: each in F7 has a D access that
+-- the E leaves as it is. Then the terminals are as before, and D is 1 at every opportunity, but for
+-- the second where one sends INFO 1. The law `rest-four` holds this to Opportunities.antt. The code
+-- goes this way where none sends INFO 1.
+-- Interface: `partRests`, `noneGone`, `alsoRests`, `restOf`, `mayRest`, `restTally`. Assumes
+-- nothing.
 use mathlib.Core.Path.{_≡_}
 use mathlib.Core.Bool.{Bool, true, false, cond, not, _&&_, _||_}
 use mathlib.Core.List.{List, [], _∷_, map}

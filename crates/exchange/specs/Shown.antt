@@ -1,5 +1,7 @@
--- The exchange in a few values and the lent terminal records show the exchange of the bus by lines (crate `bus_rules`, specs/Exchange.antt). The
--- fact is a type; `proofs/Shown.antt` proves it.
+-- Laws: the exchange in a few values and the lent terminal records show the exchange of the bus by
+-- lines (crate `bus_rules`, specs/Exchange.antt). The fact is a type; `proofs/Shown.antt` proves
+-- it.
+-- Interface: `lettersAtE`, `doneOctet`. Assumes nothing.
 use mathlib.Core.Path.{_≡_}
 use mathlib.Core.List.{List, map}
 use Prim.Native.Nat.{ℕ}

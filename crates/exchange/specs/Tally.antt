@@ -1,6 +1,7 @@
--- The exchange of a period as an E comes, in the few values that it takes. Crate `bus_rules` has it by lines (specs/Exchange.antt), and the laws
--- (specs/Quick.antt) by which no line need be built.
--- This is how the code goes; the law `exchange-shown` (Shown.antt) holds it to crate `bus_rules`.
+-- How the code goes: the exchange of a period as an E comes, in the few values that it takes. Crate
+-- `bus_rules` has it by lines (specs/Exchange.antt), and the laws (specs/Quick.antt) by which no
+-- line need be built. The law `exchange-shown` (Shown.antt) holds it to crate `bus_rules`.
+-- Interface: `noLetters`, `firstTally`, `begun`, `also`, `dHeard`, `ended`. Assumes nothing.
 use mathlib.Core.Bool.{Bool, true, false, cond, not, _&&_, _||_}
 use Prim.Native.Nat.{ℕ, _+_, _%_}
 use lib.Dec.{eqb, ltb}

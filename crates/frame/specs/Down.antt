@@ -1,4 +1,7 @@
--- The frame from the network to the terminals (document 01, "Network to terminals"; table 5-2).
+-- Rules: the frame from the network to the terminals (document 01, "Network to terminals"; table
+-- 5-2).
+-- Interface: `downBody`, `downBits`, `downLine`, `eBits`, `aBit`, `eIndex`, `aIndex`,
+-- `downFieldsOf`. Assumes nothing.
 use mathlib.Core.Bool.{Bool, false, not}
 use mathlib.Core.List.{List, [], _∷_, _++_}
 use Prim.Native.Nat.{ℕ}

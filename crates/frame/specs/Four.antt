@@ -1,4 +1,6 @@
--- Four bits, as a frame has four D bits and four echo bits: by their place, from 0, and their ANDs.
+-- Rules: four bits, as a frame has four D bits and four echo bits: by their place, from 0, and
+-- their ANDs.
+-- Interface: `pick`, `filledWithOnes`, `allFour`, `andAll`. Assumes nothing.
 use mathlib.Core.Bool.{Bool, true, _&&_}
 use mathlib.Core.List.{List, [], _∷_}
 use Prim.Native.Nat.{ℕ}

@@ -1,5 +1,6 @@
--- The line code (document 01, "The line"): F is plus, position 2 minus; the first 0 after it is minus, then pulses alternate. It is
--- the same in both directions.
+-- Rules: the line code (document 01, "The line"): F is plus, position 2 minus; the first 0 after it
+-- is minus, then pulses alternate. It is the same in both directions.
+-- Interface: `opposite`, `alternate`, `symbols`. Assumes nothing.
 use mathlib.Core.Bool.{Bool, cond}
 use mathlib.Core.List.{List, [], _∷_}
 use Prim.Native.Nat.{ℕ, _-_}

@@ -1,4 +1,6 @@
--- The frame from a terminal to the network (document 01, "Terminals to network"; table 5-1).
+-- Rules: the frame from a terminal to the network (document 01, "Terminals to network"; table 5-1).
+-- Interface: `single`, `upBits`, `upLine`, `upFieldsOf`, `groupSymbols`, `upGroups`. Assumes
+-- nothing.
 use mathlib.Core.Bool.{Bool, false}
 use mathlib.Core.List.{List, [], _∷_, _++_}
 use Prim.Native.Nat.{ℕ}

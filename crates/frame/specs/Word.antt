@@ -1,4 +1,6 @@
--- How the code carries bits 3 to 48 of a frame: as a number of 46 bits, of which the highest is taken off first.
+-- How the code goes: how the code carries bits 3 to 48 of a frame: as a number of 46 bits, of which
+-- the highest is taken off first.
+-- Interface: `topBits`. Assumes nothing.
 use mathlib.Core.Bool.{Bool}
 use mathlib.Core.List.{List, [], _∷_}
 use Prim.Native.Nat.{ℕ, zero, suc, _*_, _/_, _%_}

@@ -1,5 +1,6 @@
--- The frame reader (document 01, "The line": it accepts a line exactly when some field values are written as it; refusals 2 and 10),
--- and what is taken from a line at symbol level.
+-- Rules: the frame reader (document 01, "The line": it accepts a line exactly when some field
+-- values are written as it; refusals 2 and 10), and what is taken from a line at symbol level.
+-- Interface: `downRead`, `upRead`, `fourRead`, `aLevel`. Assumes nothing.
 use mathlib.Core.Bool.{Bool, cond}
 use mathlib.Core.List.{List}
 use Prim.Native.Nat.{ℕ}

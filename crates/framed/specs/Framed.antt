@@ -1,5 +1,6 @@
--- Framed periods and pulses (document 01, "The line": a period is framed when symbol 1 is plus, 2 is minus, and the first pulse in
--- 3-15, upward 3-14, is minus).
+-- Rules: framed periods and pulses (document 01, "The line": a period is framed when symbol 1 is
+-- plus, 2 is minus, and the first pulse in 3-15, upward 3-14, is minus).
+-- Interface: every name. Assumes nothing.
 use mathlib.Core.Bool.{Bool, false, not, cond}
 use mathlib.Core.List.{List, [], _∷_}
 use Prim.Native.Nat.{ℕ}

@@ -1,4 +1,6 @@
--- What holds of framed periods and pulses: the statements, each a type. `proofs/Laws.antt` proves each under the same name in small letters.
+-- Laws: what holds of framed periods and pulses: the statements, each a type. `proofs/Laws.antt`
+-- proves each under the same name in small letters.
+-- Interface: the statements, for the proofs of this crate. Assumes nothing.
 use mathlib.Core.Path.{_≡_}
 use mathlib.Core.Bool.{true}
 use Rattle.frame.specs.Down.{downLine}

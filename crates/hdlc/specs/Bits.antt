@@ -1,4 +1,6 @@
--- Bits and octets. A bit is a Bool, true for 1. Octets go low-order bit first (document 01, "D access (6.1)").
+-- Rules: bits and octets. A bit is a Bool, true for 1. Octets go low-order bit first (document 01,
+-- "D access (6.1)").
+-- Interface: every name. Assumes nothing.
 use mathlib.Core.Bool.{Bool, true, false, cond, not}
 use mathlib.Core.List.{List, [], _∷_, _++_}
 use Prim.Native.Nat.{ℕ, zero, suc, _+_, _*_, _/_, _%_, _^_}

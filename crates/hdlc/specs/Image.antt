@@ -1,4 +1,6 @@
--- The image of a body: what a terminal sends on D for it (document 01, "D access (6.1)").
+-- Rules: the image of a body: what a terminal sends on D for it (document 01, "D access (6.1)").
+-- Interface: `flag`, `stuff`, `image`, `longestBody`, `shortestImage`, `longestImage`, `IsBody`,
+-- `allOctets`, `isBody`. Assumes nothing.
 use mathlib.Core.Bool.{Bool, true, false, cond}
 use mathlib.Core.List.{List, [], _∷_, _++_}
 use Prim.Native.Nat.{ℕ, suc, _+_, _*_, _/_, _≤_, _<_}

@@ -1,4 +1,5 @@
--- Runs of 1s in a list of bits.
+-- Laws: runs of 1s in a list of bits.
+-- Interface: `endingOnes`, `leading`. Assumes nothing.
 use mathlib.Core.Bool.{Bool, true, false}
 use mathlib.Core.List.{List, [], _∷_}
 use Prim.Native.Nat.{ℕ, suc}

@@ -1,4 +1,6 @@
--- What a heard line is (document 01, "The line", last paragraph): a number of an event of table 6-2 or 6-3.
+-- Rules: what a heard line is (document 01, "The line", last paragraph): a number of an event of
+-- table 6-2 or 6-3.
+-- Interface: every name. Assumes nothing.
 use mathlib.Core.Bool.{cond}
 use Prim.Native.Nat.{ℕ}
 use Rattle.table_6_2.specs.Table62 as terminals

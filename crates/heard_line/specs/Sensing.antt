@@ -1,4 +1,6 @@
--- What a lent line of 48 symbols shows (document 01, "The line", last paragraph), or refusal 2.
+-- Rules: what a lent line of 48 symbols shows (document 01, "The line", last paragraph), or refusal
+-- 2.
+-- Interface: every name. Assumes nothing.
 use mathlib.Core.Bool.{Bool, true, false, cond}
 use mathlib.Core.List.{List}
 use Prim.Native.Nat.{ℕ}

@@ -1,5 +1,6 @@
--- Going on with a book that is lent as octets: crate `book_go_on`'s call on what the octets stand for (document 01, "Bench book and report"; "Reasons a call
--- is turned down", 1 and 2).
+-- Calls: going on with a book that is lent as octets: crate `book_go_on`'s call on what the octets
+-- stand for (document 01, "Bench book and report"; "Reasons a call is turned down", 1 and 2).
+-- Interface: `freshBook`, `goneOnOctets`, `goingReason`, `Goes`, `HostGoesOn`. Assumes nothing.
 use mathlib.Core.Bool.{Bool, true, false, cond}
 use mathlib.Core.List.{List, [], _∷_, _++_}
 use mathlib.Core.Path.{_≡_}

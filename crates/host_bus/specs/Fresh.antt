@@ -1,4 +1,5 @@
--- A fresh bus as octets.
+-- Calls: a fresh bus as octets.
+-- Interface: `freshOctets`. Assumes nothing.
 use mathlib.Core.List.{List}
 use Prim.Native.Nat.{ℕ}
 use lib.ListN.{replicate}

@@ -1,5 +1,7 @@
--- What every call on a bus that is lent as octets looks at first (document 01, "Reasons a call is turned down", 1 and 2): whether the octets are a
--- bus, and whether the room lent for what the call hands back is as large as it may need.
+-- Calls: what every call on a bus that is lent as octets looks at first (document 01, "Reasons a
+-- call is turned down", 1 and 2): whether the octets are a bus, and whether the room lent for what
+-- the call hands back is as large as it may need.
+-- Interface: every name. Assumes nothing.
 use mathlib.Core.Bool.{cond}
 use mathlib.Core.List.{List}
 use Prim.Native.Nat.{ℕ}

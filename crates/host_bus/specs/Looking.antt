@@ -1,4 +1,6 @@
--- What a person asks of a bus that is lent as octets.
+-- Calls: what a person asks of a bus that is lent as octets.
+-- Interface: `countsReply`, `countsAfter`, `networkSeen`, `terminalSeen`, `unitSeen`, `unitReply`,
+-- `unitAfter`. Assumes nothing.
 use mathlib.Core.Bool.{cond}
 use mathlib.Core.List.{List, _∷_, _++_}
 use Prim.Native.Nat.{ℕ, _-_}

@@ -1,5 +1,7 @@
--- The two calls of a host that passes only numbers and octets (document 01, "The line"; refusals 2 and 10). A frame is downward where
--- the number up is 0, else upward.
+-- Calls: the two calls of a host that passes only numbers and octets (document 01, "The line";
+-- refusals 2 and 10). A frame is downward where the number up is 0, else upward.
+-- Interface: `replyOf`, `leftOf`, `readAs`, `frameRead`, `accepts`, `frameWritten`. Assumes
+-- nothing.
 use mathlib.Core.Bool.{Bool, cond, _&&_}
 use mathlib.Core.List.{List}
 use Prim.Native.Nat.{ℕ}

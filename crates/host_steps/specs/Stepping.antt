@@ -1,4 +1,7 @@
--- Stepping a bus that is lent as octets: each call is the call of crate `bus_calls` on what the octets stand for, and its notes come back as octets.
+-- Calls: stepping a bus that is lent as octets: each call is the call of crate `bus_calls` on what
+-- the octets stand for, and its notes come back as octets.
+-- Interface: `notesOctets`, `notesRoom`, `hostReply`, `hostBus`, `hostNotes`, `eventNumber`,
+-- `mostTo`, `hostRunReply`, `hostRunBus`, `hostRunNotes`. Assumes nothing.
 use mathlib.Core.Bool.{cond}
 use mathlib.Core.List.{List, [], _∷_, _++_}
 use Prim.Native.Nat.{ℕ, _+_, _-_}

@@ -1,4 +1,6 @@
--- Scenes of still buses, each computed: how far they are still, and what a leap makes of their counts.
+-- Laws: scenes of still buses, each computed: how far they are still, and what a leap makes of
+-- their counts.
+-- Interface: the statements, for the proofs of this crate. Assumes nothing.
 use mathlib.Core.Bool.{Bool, true, false, _&&_}
 use mathlib.Core.List.{List, [], _∷_}
 use mathlib.Core.Path.{_≡_, refl}

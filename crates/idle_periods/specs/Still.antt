@@ -1,6 +1,8 @@
--- A bus is still when a period hands back no notes and changes nothing but the counts: periods run and, in G3, D opportunities run. From
--- there as many periods as lie before the next timer, the number asked for and 4,000,000 are one step.
--- This is how the code goes, by a test that holds of still buses alone; the law `leap` (Leap.antt) holds it to single periods.
+-- How the code goes: a bus is still when a period hands back no notes and changes nothing but the
+-- counts: periods run and, in G3, D opportunities run. From there as many periods as lie before the
+-- next timer, the number asked for and 4,000,000 are one step. By a test that holds of still buses
+-- alone; the law `leap` (Leap.antt) holds it to single periods.
+-- Interface: every name. Assumes nothing.
 use mathlib.Core.Bool.{Bool, true, false, cond, not, _&&_, _||_}
 use mathlib.Core.List.{List}
 use Prim.Native.Nat.{ℕ, _+_, _-_, _*_}

@@ -1,4 +1,6 @@
--- A turn of a run's loop: the run goes on from what it leaves, with fewer periods left, to the same end as after its first period.
+-- How the code goes: a turn of a run's loop: the run goes on from what it leaves, with fewer
+-- periods left, to the same end as after its first period.
+-- Interface: `Turns`. Assumes nothing.
 use mathlib.Core.Path.{_≡_}
 use Prim.Native.Nat.{ℕ, _+_, _-_, _≤_, _<_}
 use Rattle.bus_record.specs.declared.side.RunAnswer.{RunAnswer}

@@ -1,4 +1,5 @@
--- The INFO signals as lines (document 01, "The line": INFO 0 to INFO 4).
+-- Rules: the INFO signals as lines (document 01, "The line": INFO 0 to INFO 4).
+-- Interface: `info0`, `repeated`, `info1`, `info2`, `info3`, `info4`, `isInfo1`. Assumes nothing.
 use mathlib.Core.Bool.{Bool, true, false}
 use mathlib.Core.List.{List, [], _∷_, _++_}
 use Prim.Native.Nat.{ℕ, zero, suc}

@@ -1,4 +1,6 @@
--- A run of periods in which one terminal sends alone, over the bus record, the sender and the reader's octets. This is how the code goes.
+-- How the code goes: a run of periods in which one terminal sends alone, over the bus record, the
+-- sender and the reader's octets.
+-- Interface: `staysAlone`, `aloneRun`, `aloneRunOctets`. Assumes nothing.
 use mathlib.Core.Bool.{Bool, false, cond, not, _&&_}
 use mathlib.Core.List.{List}
 use Prim.Native.Nat.{ℕ, zero, suc, _+_}

@@ -1,5 +1,8 @@
--- One terminal sends on the D channel, and no other starts: four bits a period, in the few values that the sending takes. This is how the
--- code goes; the law `lone-four` holds it to the exchange over all terminals (crate `exchange`, specs/Opportunities.antt).
+-- How the code goes: one terminal sends on the D channel, and no other starts: four bits a period,
+-- in the few values that the sending takes. The law `lone-four` holds it to the exchange over all
+-- terminals (crate `exchange`, specs/Opportunities.antt).
+-- Interface: `countedAt`, `loneAfterE`, `loneSends`, `loneStep`, `tallyOf`, `followed`. Assumes
+-- nothing.
 use mathlib.Core.Bool.{Bool, true, false, cond, not, _&&_}
 use mathlib.Core.List.{List, [], _∷_}
 use mathlib.Core.Path.{_≡_}

@@ -1,4 +1,6 @@
--- Scenes, each computed: a terminal that is found to send alone, and its next period; terminals among which none is.
+-- Laws: scenes, each computed: a terminal that is found to send alone, and its next period;
+-- terminals among which none is.
+-- Interface: the statements, for the proofs of this crate. Assumes nothing.
 use mathlib.Core.Bool.{true, false}
 use mathlib.Core.List.{List, [], _∷_}
 use mathlib.Core.Path.{_≡_, refl}

@@ -1,5 +1,7 @@
--- Whether one terminal sends alone, and which: the terminals gone through one by one. This is how the code goes; the law `found-alone` says
--- what a search that finds one has shown.
+-- How the code goes: whether one terminal sends alone, and which: the terminals gone through one by
+-- one. The law `found-alone` says what a search that finds one has shown.
+-- Interface: `senderAfter`, `searchedOne`, `noSearch`, `searched`, `aloneFor`, `inVain`. Assumes
+-- nothing.
 use mathlib.Core.Bool.{Bool, true, false, cond, not, _&&_, _||_}
 use mathlib.Core.List.{List, [], _∷_}
 use mathlib.Core.Path.{_≡_}

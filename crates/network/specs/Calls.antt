@@ -1,5 +1,6 @@
 -- Calls: the network end's, with refusal 1 before the rules (document 01, "Reasons a call is turned
 -- down"). The rules are in specs/Network.antt.
+-- Interface: every name. Assumes nothing.
 use mathlib.Core.Bool.{Bool, false, cond}
 use Prim.Native.Nat.{ℕ, _+_}
 use lib.Dec.{ltb}

@@ -1,5 +1,7 @@
--- Rules: the network end (document 01, "Activation" and "Order inside a period"). An event finds its
--- cell in table 6-3, and the cell says what becomes of the record.
+-- Rules: the network end (document 01, "Activation" and "Order inside a period"). An event finds
+-- its cell in table 6-3, and the cell says what becomes of the record.
+-- Interface: `fresh`, `unchanged`, `moved`, `acts`, `happens`, `andThen`, `aligned`, `bars`,
+-- `requests`, `t1Due`, `t2Due`, `timers`, `heardAs`, `hears`. Assumes nothing.
 use mathlib.Core.Bool.{Bool, true, false, cond, _||_}
 use mathlib.Core.List.{[], _++_}
 use Prim.Native.Nat.{ℕ}

@@ -1,5 +1,6 @@
--- Notes as octets determine the notes, and where they end. The statements are types; proofs/Determined.antt proves each under the same name
--- in small letters.
+-- Laws: notes as octets determine the notes, and where they end. The statements are types;
+-- proofs/Determined.antt proves each under the same name in small letters.
+-- Interface: `AllFitOctets`. Assumes nothing.
 use mathlib.Core.List.{List, [], _∷_, _++_}
 use mathlib.Core.Path.{_≡_}
 use Prim.Native.Nat.{ℕ, _^_, _≤_, _<_}

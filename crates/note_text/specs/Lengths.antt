@@ -1,4 +1,5 @@
--- How long notes are, as lines and as octets, so that room can be lent that is large enough.
+-- Laws: how long notes are, as lines and as octets, so that room can be lent that is large enough.
+-- Interface: `numbers`, `lineRoom`, `heardRoom`, `octetsRoom`. Assumes nothing.
 use mathlib.Core.List.{List, [], _∷_}
 use mathlib.Core.Path.{_≡_}
 use Prim.Native.Nat.{ℕ, _+_, _*_, _^_, _≤_, _<_}

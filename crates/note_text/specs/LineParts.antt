@@ -1,4 +1,6 @@
--- How the code goes: a note's line is put in parts, behind the unit what the code decides, then the rest of the value, then LF.
+-- How the code goes: a note's line is put in parts, behind the unit what the code decides, then the
+-- rest of the value, then LF.
+-- Interface: `named`, `openValue`. Assumes nothing.
 use mathlib.Core.List.{List, [], _∷_, _++_}
 use Prim.Native.Nat.{ℕ}
 use lib.ListN.{getD}

@@ -1,4 +1,5 @@
--- Numbers as octets, the low-order octet first. What a number has above them is left out.
+-- Rules: numbers as octets, the low-order octet first. What a number has above them is left out.
+-- Interface: every name. Assumes nothing.
 use mathlib.Core.List.{List, [], _∷_, _++_}
 use Prim.Native.Nat.{ℕ, _/_, _%_}
 

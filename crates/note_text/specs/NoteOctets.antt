@@ -1,4 +1,5 @@
--- Notes as octets, for a host.
+-- Rules: notes as octets, for a host.
+-- Interface: `noteOctets`. Assumes nothing.
 use mathlib.Core.List.{List, [], _∷_, _++_}
 use mathlib.Core.Path.{_≡_, refl}
 use Prim.Native.Nat.{ℕ, _%_}

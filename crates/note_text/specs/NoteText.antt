@@ -1,4 +1,7 @@
--- The text of notes (document 01, "Bench book and report"), in ASCII codes, and notes in either form.
+-- Rules: the text of notes (document 01, "Bench book and report"), in ASCII codes, and notes in
+-- either form.
+-- Interface: `decimalIn`, `decimal`, `hexCode`, `hexOf`, `note`, `noteLine`, `heading`,
+-- `stoppedLine`, `noteIn`, `notesIn`, `notesText`. Assumes nothing.
 use mathlib.Core.Bool.{cond}
 use mathlib.Core.List.{List, [], _∷_, _++_, map}
 use mathlib.Core.Path.{_≡_, refl}

@@ -1,4 +1,6 @@
--- Text in lent room: it goes behind what has been written, as much of it as there is room for.
+-- Calls: text in lent room: it goes behind what has been written, as much of it as there is room
+-- for.
+-- Interface: `laid`, `Put`. Assumes nothing.
 use mathlib.Core.List.{List, [], _∷_}
 use mathlib.Core.Path.{_≡_}
 use Prim.Native.Nat.{ℕ, zero, suc, _+_, min}

@@ -1,4 +1,7 @@
--- The cells of tables 6-2 and 6-3, in the tables' signs.
+-- Rules: the cells of tables 6-2 and 6-3, in the tables' signs.
+-- Interface: `START`, `STOP`, `START-T2`, `to`, `starts-to`, `stops-to`, `starts-T2-to`, `stay`,
+-- `stay-with`, `impossible`, `absent`, `cellIn`, `cellOf`, `infoIn`, `stateAfter`, `isVoid`.
+-- Assumes nothing.
 use mathlib.Core.Bool.{Bool, true, false}
 use mathlib.Core.List.{List, [], _∷_}
 use Prim.Native.Nat.{ℕ}

@@ -1,4 +1,5 @@
 -- Rules: the events of a book by number (document 01, "Bench book and report").
+-- Interface: every name. Assumes nothing.
 use Prim.Native.Nat.{ℕ}
 
 -- in the order in which document 01 names them; 0 is none

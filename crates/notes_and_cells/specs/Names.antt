@@ -1,4 +1,6 @@
--- How each note is printed (document 01, "Bench book and report"): its name and what its value is.
+-- Rules: how each note is printed (document 01, "Bench book and report"): its name and what its
+-- value is.
+-- Interface: `ascii`, `Value`, `printed`, `printedAs`. Assumes nothing.
 use mathlib.Core.Path.{_≡_, refl}
 use mathlib.Core.List.{List, [] as []ᴸ, _∷_ as _∷ᴸ_, map}
 use Prim.Native.Nat.{ℕ}

@@ -1,4 +1,5 @@
--- The notes of document 01, "Bench book and report", each with a code.
+-- Rules: the notes of document 01, "Bench book and report", each with a code.
+-- Interface: every name. Assumes nothing.
 use mathlib.Core.List.{List, [], _∷_}
 use Prim.Native.Nat.{ℕ}
 use lib.ListN.{length, getD, take}

@@ -1,4 +1,6 @@
--- Bits that come one by one, in an octet for the last eight and a lent buffer for whole octets.
+-- How the code goes: bits that come one by one, in an octet for the last eight and a lent buffer
+-- for whole octets.
+-- Interface: `shifted`, `BitsKept`. Assumes nothing.
 use mathlib.Core.Bool.{Bool, false, cond}
 use mathlib.Core.List.{List, _++_}
 use mathlib.Core.Path.{_≡_}

@@ -1,4 +1,5 @@
--- Bits put into a buffer one by one.
+-- How the code goes: bits put into a buffer one by one.
+-- Interface: `putBit`, `putBitOctets`, `putBits`, `putBitsOctets`. Assumes nothing.
 use mathlib.Core.Bool.{Bool, cond}
 use mathlib.Core.List.{List, [], _∷_}
 use Prim.Native.Nat.{ℕ, _+_, _/_, _%_}

@@ -1,4 +1,6 @@
--- A body's image in a lent buffer, bits packed low first.
+-- Calls: a body's image in a lent buffer, bits packed low first.
+-- Interface: `imageRoom`, `filledOctets`, `onto`, `packedBit`, `isBodyLength`, `imaged`,
+-- `imagedOctets`, `imageMeaning`, `imageOr`. Assumes nothing.
 use mathlib.Core.Bool.{Bool, false, cond}
 use mathlib.Core.List.{List, _++_}
 use Prim.Native.Nat.{ℕ, _+_, _/_, _%_}

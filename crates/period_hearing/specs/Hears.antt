@@ -1,4 +1,7 @@
--- One terminal's hearing of a period, and then its timer at the next one's start (document 01, "Order inside a period"); and that of all terminals.
+-- How the code goes: one terminal's hearing of a period, and then its timer at the next one's start
+-- (document 01, "Order inside a period"); and that of all terminals.
+-- Interface: `rests`, `hasNote`, `heardOne`, `terminalAfter`, `notesAfter`, `toldAfter`,
+-- `listenReply`, `listenTerminals`, `listenNotes`, `noNotes`, `silenced`. Assumes nothing.
 use mathlib.Core.Bool.{Bool, false, cond, not, _&&_, _||_}
 use mathlib.Core.List.{List, []}
 use Prim.Native.Nat.{ℕ}

@@ -1,5 +1,7 @@
--- What the terminals' hearing is on the bus of crate `bus_rules` (specs/Period.antt): for records in range and a period after which another may
--- be run. The statements are types; `proofs/Shown.antt` proves each under the same name in small letters.
+-- Laws: what the terminals' hearing is on the bus of crate `bus_rules` (specs/Period.antt): for
+-- records in range and a period after which another may be run. The statements are types;
+-- `proofs/Shown.antt` proves each under the same name in small letters.
+-- Interface: `allInRange`, `terminalNotes`. Assumes nothing.
 use mathlib.Core.Path.{_≡_}
 use mathlib.Core.Bool.{Bool, true, false, _&&_}
 use mathlib.Core.List.{List, [], _∷_, map}

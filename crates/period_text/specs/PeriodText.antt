@@ -1,4 +1,6 @@
--- The notes of a call on the bus as text (document 01, "Bench book and report"), and the most octets that they take, as text and as octets.
+-- Calls: the notes of a call on the bus as text (document 01, "Bench book and report"), and the
+-- most octets that they take, as text and as octets.
+-- Interface: `eventNoted`, `periodRoom`, `periodOctetsRoom`. Assumes nothing.
 use mathlib.Core.Bool.{cond}
 use mathlib.Core.List.{List, [], _∷_}
 use mathlib.Core.Path.{_≡_}

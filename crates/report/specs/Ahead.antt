@@ -1,4 +1,7 @@
--- A book that comes in parts, with lent room for its report: how far it has come, what is still ahead, and what one call may do.
+-- Calls: a book that comes in parts, with lent room for its report: how far it has come, what is
+-- still ahead, and what one call may do.
+-- Interface: `BookState`, `fresh`, `callsAhead`, `textAhead`, `TEXT`, `ROOM`, `OVER`, `Stopped`,
+-- `Driven`, `DrivenRight`, `Sound`. Assumes nothing.
 use mathlib.Core.Bool.{Bool, true, false, cond}
 use mathlib.Core.List.{List, [], _∷_, _++_}
 use mathlib.Core.Path.{_≡_}

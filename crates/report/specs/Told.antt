@@ -1,6 +1,8 @@
--- The same on the record and what is lent with it, as the program goes through a book: lists of calls of crate `bus_call_specs`
--- (specs/Lists.antt) that are all lent what they must be (`lend` there). The notes of a period are taken at once: no call finds any of the
--- one before.
+-- How the code goes: the same on the record and what is lent with it, as the program goes through a
+-- book: lists of calls of crate `bus_call_specs` (specs/Lists.antt) that are all lent what they
+-- must be (`lend` there). The notes of a period are taken at once: no call finds any of the one
+-- before.
+-- Interface: `Ready`, `done`, `doneAll`, `bookTold`, `allBookTold`. Assumes nothing.
 use mathlib.Core.Bool.{true, cond}
 use mathlib.Core.List.{List, [], _∷_, _++_}
 use mathlib.Core.Path.{_≡_}

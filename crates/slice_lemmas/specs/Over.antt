@@ -1,4 +1,6 @@
--- Lists walked with an index: what becomes of each element, and what is gathered from all of them, first to last.
+-- How the code goes: lists walked with an index: what becomes of each element, and what is gathered
+-- from all of them, first to last.
+-- Interface: every name. Assumes nothing.
 use mathlib.Core.List.{List, [], _∷_}
 use Prim.Native.Nat.{ℕ, suc}
 

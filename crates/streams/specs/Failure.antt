@@ -1,4 +1,6 @@
--- Calls of the system that fail: errno, which are tried again, and the line on standard error.
+-- Calls: calls of the system that fail: errno, which are tried again, and the line on standard
+-- error.
+-- Interface: `errnoOf`, `isTriedAgain`, `failureLine`. Assumes nothing.
 use mathlib.Core.Bool.{Bool, _||_}
 use mathlib.Core.List.{List, [], _∷_, _++_}
 use mathlib.Core.Path.{_≡_, refl}

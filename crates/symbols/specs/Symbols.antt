@@ -1,4 +1,6 @@
--- Symbols, lines and refusal 2 (document 01, "The line", first paragraph; "Reasons a call is turned down", 2).
+-- Rules: symbols, lines and refusal 2 (document 01, "The line", first paragraph; "Reasons a call is
+-- turned down", 2).
+-- Interface: every name. Assumes nothing.
 use mathlib.Core.Bool.{Bool, true, false, cond}
 use mathlib.Core.List.{List, [], _∷_, map}
 use Prim.Native.Nat.{ℕ, zero, suc}

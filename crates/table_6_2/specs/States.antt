@@ -1,4 +1,6 @@
--- What table 6-2 does to the states alone, for the laws about terminals that hear the same line.
+-- Laws: what table 6-2 does to the states alone, for the laws about terminals that hear the same
+-- line.
+-- Interface: `inF6OrF7`. Assumes nothing.
 use mathlib.Core.Bool.{Bool, true, false, cond, not}
 use Prim.Native.Nat.{ℕ}
 use lib.Dec.{eqb}

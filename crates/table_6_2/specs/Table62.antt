@@ -1,5 +1,7 @@
--- Table 6-2 of JT-I430, activation and deactivation at a terminal: a row for each event and a cell for each of the states F1 to F8, as
--- printed. PH-AI is PH-ACT, PH-DI is PH-DEACT, MPH-AI is MPH-ACT, MPH-DI is MPH-DEACT. "ST,T3" starts T3, "S/R T3" stops it.
+-- Rules: table 6-2 of JT-I430, activation and deactivation at a terminal: a row for each event and
+-- a cell for each of the states F1 to F8, as printed. PH-AI is PH-ACT, PH-DI is PH-DEACT, MPH-AI is
+-- MPH-ACT, MPH-DI is MPH-DEACT. "ST,T3" starts T3, "S/R T3" stops it.
+-- Interface: every name. Assumes nothing.
 use mathlib.Core.List.{List, [], _∷_}
 use Prim.Native.Nat.{ℕ}
 use Rattle.notes_and_cells.specs.Notes.{PH-ACT, PH-DEACT, MPH-ACT, MPH-DEACT, MPH-EI1, MPH-EI2, MPH-II-CONNECTED, MPH-II-DISCONNECTED}

@@ -1,5 +1,8 @@
--- Table 6-3 of JT-I430, activation and deactivation at the network end: a row for each event and a cell for each of the states G1 to
--- G4, as printed; the loss row as annex IV's tests 16 and 23 have it (docs/DECISIONS.md, reading 10: the scan lost a cell). The optional notes of its note 3 are given.
+-- Rules: table 6-3 of JT-I430, activation and deactivation at the network end: a row for each event
+-- and a cell for each of the states G1 to G4, as printed; the loss row as annex IV's tests 16 and
+-- 23 have it (docs/DECISIONS.md, reading 10: the scan lost a cell). The optional notes of its note
+-- 3 are given.
+-- Interface: every name. Assumes nothing.
 use mathlib.Core.List.{List, [], _∷_}
 use Prim.Native.Nat.{ℕ}
 use Rattle.notes_and_cells.specs.Notes.{PH-ACT, PH-DEACT, MPH-ACT, MPH-DEACT, MPH-EI}

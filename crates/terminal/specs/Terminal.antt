@@ -1,5 +1,8 @@
--- Rules: a terminal (document 01, "Activation", "Order inside a period" and "D access (6.1)"). An event
--- finds its cell in table 6-2, and the cell says what becomes of the record.
+-- Rules: a terminal (document 01, "Activation", "Order inside a period" and "D access (6.1)"). An
+-- event finds its cell in table 6-2, and the cell says what becomes of the record.
+-- Interface: `fresh`, `unchanged`, `accessAfter`, `droppedNote`, `moved`, `acts`, `happens`,
+-- `aligned`, `noTimer`, `bars`, `switchesOn`, `switchesOff`, `requests`, `timer`, `heardAs`,
+-- `hears`. Assumes nothing.
 use mathlib.Core.Bool.{Bool, false, cond, not, _||_}
 use mathlib.Core.List.{List, [], _∷_, _++_}
 use Prim.Native.Nat.{ℕ}

@@ -1,4 +1,6 @@
--- Where the fields of a line lie (document 01, "Each field is handed back as the part of the line that it is").
+-- Calls: where the fields of a line lie (document 01, "Each field is handed back as the part of the
+-- line that it is").
+-- Interface: `endsOf`, `fieldFrom`, `fieldTo`. Assumes nothing.
 use mathlib.Core.Bool.{cond}
 use mathlib.Core.List.{List}
 use Prim.Native.Nat.{ℕ, zero, suc, _+_}

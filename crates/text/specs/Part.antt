@@ -1,5 +1,7 @@
--- Parts of a text. A part is told by where it lies in the caller's slice, and not only by what it holds: another place with the same
--- octets, or octets of somebody else's, are no such part.
+-- Calls: parts of a text. A part is told by where it lies in the caller's slice, and not only by
+-- what it holds: another place with the same octets, or octets of somebody else's, are no such
+-- part.
+-- Interface: `IsPart`. Assumes nothing.
 use mathlib.Core.Path.{_≡_}
 use mathlib.Core.List.{List}
 use Prim.Native.Nat.{ℕ, _+_, _-_, _≤_, min}

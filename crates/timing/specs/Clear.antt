@@ -1,4 +1,6 @@
--- How the code goes: several periods are run at once up to the next at whose start a timer is due (crates `lone_sender` and `idle_periods`).
+-- How the code goes: several periods are run at once up to the next at whose start a timer is due
+-- (crates `lone_sender` and `idle_periods`).
+-- Interface: every name. Assumes nothing.
 use mathlib.Core.Bool.{cond}
 use mathlib.Core.Logic.{_⊎_}
 use Prim.Native.Nat.{ℕ, _+_, _-_, _≤_, _<_}

@@ -1,4 +1,6 @@
--- Periods run and D opportunities run (document 01, "D access (6.1)", last paragraph, and refusals 1 and 9).
+-- Rules: periods run and D opportunities run (document 01, "D access (6.1)", last paragraph, and
+-- refusals 1 and 9).
+-- Interface: every name. Assumes nothing.
 use mathlib.Core.Bool.{Bool, cond}
 use Prim.Native.Nat.{ℕ, _+_, _*_}
 use lib.Dec.{leb}

@@ -1,4 +1,6 @@
--- Timers (document 01, "Order inside a period"): the period at whose start one is due, 0 for none.
+-- Rules: timers (document 01, "Order inside a period"): the period at whose start one is due, 0 for
+-- none.
+-- Interface: every name. Assumes nothing.
 use mathlib.Core.Bool.{Bool, false, cond}
 use Prim.Native.Nat.{ℕ, _+_}
 use lib.Dec.{eqb}
