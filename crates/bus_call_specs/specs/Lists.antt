@@ -342,7 +342,8 @@ pub record RunOfRules (most : ℕ) (k : Kept) (b : Bus) : Type 0 where
 
 abbrev pub RunCarried : Type 0
 RunCarried =
-    (calls : List Call) (k : Kept) (n : ℕ) → Carries k (rules.afterAll freshBus calls) → RunOfRules (suc n) k (rules.afterAll freshBus calls)
+    (calls : List Call) (k : Kept) (n : ℕ) → Carries k (rules.afterAll freshBus calls)
+    → RunOfRules (suc n) k (rules.afterAll freshBus calls)
 
 -- A run of no periods runs nothing, whatever it finds: what is kept stays, and no note is told of.
 -- It can be refused, with 1 or 2, but not where what it finds stands for such a bus.
@@ -359,7 +360,8 @@ NoPeriodsRun = (k : Kept) → NothingRun k
 
 abbrev pub NoPeriodsCarried : Type 0
 NoPeriodsCarried =
-    (calls : List Call) (k : Kept) → Carries k (rules.afterAll freshBus calls) → runAnswer 0 k .reply ≡ rules.runReply 0 (rules.afterAll freshBus calls)
+    (calls : List Call) (k : Kept) → Carries k (rules.afterAll freshBus calls)
+    → runAnswer 0 k .reply ≡ rules.runReply 0 (rules.afterAll freshBus calls)
 
 -- The codes that notes have stand in an octet and are not 0, which as an octet ends the notes of a call (proofs/Codes.antt).
 abbrev pub isCode : ℕ → Bool

@@ -80,7 +80,8 @@ networkNotes b =
 
 -- the terminals: what each says of hearing the line, and of the timers
 unfoldable pub terminalsNotes : Bus → List UnitNotes
-terminalsNotes b = map (λ (s : Sender). terminalNotes (shownDown (wholeDown (exchanged b))) (b .periods) (s .station .terminal)) (exchanged b .senders)
+terminalsNotes b =
+    map (λ (s : Sender). terminalNotes (shownDown (wholeDown (exchanged b))) (b .periods) (s .station .terminal)) (exchanged b .senders)
 
 unfoldable pub anyUnitNote : List UnitNotes → Bool
 anyUnitNote [] = false
@@ -90,7 +91,8 @@ anyUnitNote (n ∷ ns) = (hasNote (n .hearing) || hasNote (n .timers)) || anyUni
 unfoldable pub hasNotes : Kept → Bool
 hasNotes k =
     let b = busIn k in
-    ((anyUnitNote (networkNotes b ∷ terminalsNotes b) || not (eqb (noteOf (answersIn k)) 0)) || not (eqb (doneMask 1 b) 0)) || not (eqb (doneMask 2 b) 0)
+    ((anyUnitNote (networkNotes b ∷ terminalsNotes b) || not (eqb (noteOf (answersIn k)) 0)) || not (eqb (doneMask 1 b) 0))
+    || not (eqb (doneMask 2 b) 0)
 
 -- ---- The whole.
 unfoldable pub periodAnswer : Kept → RunAnswer
@@ -117,4 +119,5 @@ periodAnswer k =
 unfoldable pub keptRun : Kept → Kept
 keptRun k =
     let b = busIn k in
-    kept (periodAnswer k .bus) (map (λ (s : Station). s .terminal) (periodRun b .stations)) (k .images) (octetsRun k) (k .letters) (terminalsNotes b)
+    kept (periodAnswer k .bus) (map (λ (s : Station). s .terminal) (periodRun b .stations)) (k .images) (octetsRun k) (k .letters)
+    (terminalsNotes b)

@@ -90,7 +90,13 @@ recordIn s =
     record {
       periods = atPeriod (wordAt s 5);
       opportunities = record { 0 = wordAt s 9 };
-      network = record { t1 = wordAt s 13; t2 = wordAt s 17; state = getD s 21 0; alignment = record { aligned = flagAt s 22; run = getD s 23 0 } };
+      network =
+          record {
+            t1 = wordAt s 13;
+            t2 = wordAt s 17;
+            state = getD s 21 0;
+            alignment = record { aligned = flagAt s 22; run = getD s 23 0 };
+          };
       reader = record { bits = halfAt s 24; ones = getD s 26 0; octet = getD s 27 0; opened = flagAt s 28; zero = flagAt s 29 };
       echo = flagAt s 30;
       hit = flagAt s 31;

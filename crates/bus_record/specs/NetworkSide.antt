@@ -47,7 +47,9 @@ networkListens line period n =
     record {
       network = timerStep line period n .network;
       notes = record { hearing = hearingStep line period n .notes; timers = timerStep line period n .notes };
-      left = leavesG3 (n .state) (hearingStep line period n .network .state) || leavesG3 (hearingStep line period n .network .state) (timerStep line period n .network .state);
+      left =
+          leavesG3 (n .state) (hearingStep line period n .network .state)
+          || leavesG3 (hearingStep line period n .network .state) (timerStep line period n .network .state);
     }
 
 -- whether it hears what it has heard before, so that nothing happens: in G1 and G2 unaligned no pulse, in G3 aligned INFO 3, in G4 unaligned
@@ -70,7 +72,8 @@ countedAfter state o = cond (eqb state G3) (fourMore o) o
 -- whether there is a note: of the terminals, of the reader, of a frame completed, of the network end
 unfoldable pub periodHasNote : Bool → Tally → Spoken → UnitNotes → Bool
 periodHasNote told m spoken notes =
-    ((((told || not (eqb (spoken .note) 0)) || not (eqb (m .done1) 0)) || not (eqb (m .done2) 0)) || ltb 0 (notes .hearing .0)) || ltb 0 (notes .timers .0)
+    ((((told || not (eqb (spoken .note) 0)) || not (eqb (m .done1) 0)) || not (eqb (m .done2) 0)) || ltb 0 (notes .hearing .0))
+    || ltb 0 (notes .timers .0)
 
 unfoldable pub answerWith : BusRecord → Tally → Spoken → NetworkHeard → Bool → RunAnswer
 answerWith r m spoken side told =
@@ -95,7 +98,8 @@ answerWith r m spoken side told =
 -- the network end's side of a period, after the exchange m and the terminals' hearing; and the reader's octets then
 unfoldable pub answerAfter : BusRecord → Tally → List ℕ → Bool → RunAnswer
 answerAfter r m buf told =
-    answerWith r m (readIn (r .network .state) (m .ds) buf (r .reader)) (networkListens (shownFrom (m .info1) (m .info3)) (r .periods) (r .network)) told
+    answerWith r m (readIn (r .network .state) (m .ds) buf (r .reader))
+    (networkListens (shownFrom (m .info1) (m .info3)) (r .periods) (r .network)) told
 
 unfoldable pub octetsAfter : BusRecord → Tally → List ℕ → List ℕ
 octetsAfter r m buf = octetsIn (r .network .state) (m .ds) (r .reader) buf

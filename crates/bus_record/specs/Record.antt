@@ -23,4 +23,5 @@ freshRecord =
 -- Refusal 1: "A field of the bus record lies outside its range".
 unfoldable pub recordInRange : BusRecord → Bool
 recordInRange r =
-    ((networkInRange (r .network) && periodsInRange (r .periods)) && opportunitiesInRange (r .periods) (r .opportunities)) && readerInRange (r .reader)
+    ((networkInRange (r .network) && periodsInRange (r .periods)) && opportunitiesInRange (r .periods) (r .opportunities))
+    && readerInRange (r .reader)

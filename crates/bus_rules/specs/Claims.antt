@@ -15,7 +15,8 @@ use Rattle.hdlc.specs.Reading.Said.{torn, heard}
 use Rattle.bus_rules.specs.Bus.{Hit, Bus, freshBus}
 use Rattle.bus_rules.specs.Exchange.{Opportunity, saidTo}
 use Rattle.bus_rules.specs.Calls.{Call, afterAll, notesOfAll}
-use Rattle.bus_rules.specs.Stretch.{Stretch, opportunitiesIn, stationThen, Waits, Completes, Begins, bodyHeard, bodyCompleted, buses, poweredIn, longestIn}
+use Rattle.bus_rules.specs.Stretch.{Stretch, opportunitiesIn, stationThen, Waits, Completes, Begins, bodyHeard, bodyCompleted}
+use Rattle.bus_rules.specs.Stretch.{buses, poweredIn, longestIn}
 use Rattle.bus_rules.specs.Telling.{AllTell}
 
 -- a moment of no list
@@ -123,9 +124,11 @@ module _ (before during : List Call) where
 -- "A stretch is any unbroken part of the list": its D opportunities and its notes are a part of the whole list's
 pub record PartOfList (before during after : List Call) : Type 0 where
   pub in-opportunities : opportunitiesIn freshBus (before ++ (during ++ after))
-      ≡ opportunitiesIn freshBus before ++ (opportunitiesIn (afterAll freshBus before) during ++ opportunitiesIn (afterAll (afterAll freshBus before) during) after)
+      ≡ opportunitiesIn freshBus before
+      ++ (opportunitiesIn (afterAll freshBus before) during ++ opportunitiesIn (afterAll (afterAll freshBus before) during) after)
   pub in-notes : notesOfAll freshBus (before ++ (during ++ after))
-      ≡ notesOfAll freshBus before ++ (notesOfAll (afterAll freshBus before) during ++ notesOfAll (afterAll (afterAll freshBus before) during) after)
+      ≡ notesOfAll freshBus before
+      ++ (notesOfAll (afterAll freshBus before) during ++ notesOfAll (afterAll (afterAll freshBus before) during) after)
 
 -- What is claimed of a stretch `during` of the list `before`, `during`, `after`.
 pub record Claimed (before during after : List Call) : Type 0 where

@@ -155,4 +155,6 @@ unfoldable pub eventNotes : ℕ → ℕ → List ℕ → Bus → List Note
 eventNotes unit event value b =
     cond (eqb unit 0)
     (cond (eqb event HIT) [] (notesOf (b .periods) 0 (noted (networkDoes event (b .periods) (b .network) .notes))))
-    (cond (eqb (classOf event) 0) (notesOf (b .periods) unit (noted (terminalDoes event (b .periods) (stationOf b unit .terminal) .notes))) [])
+    (cond (eqb (classOf event) 0)
+    (notesOf (b .periods) unit (noted (terminalDoes event (b .periods) (stationOf b unit .terminal) .notes)))
+    [])

@@ -94,7 +94,13 @@ unfoldable pub stationAfterE : Bool → Station → Station
 stationAfterE e s =
     cond (inF7 s)
     (record {
-      terminal = record { t3 = s .terminal .t3; access = accessStepOf e s .access; state = s .terminal .state; alignment = s .terminal .alignment };
+      terminal =
+          record {
+            t3 = s .terminal .t3;
+            access = accessStepOf e s .access;
+            state = s .terminal .state;
+            alignment = s .terminal .alignment;
+          };
       image = s .image;
       body = s .body;
     })
@@ -109,7 +115,12 @@ unfoldable pub doneOf : Bool → Station → List ℕ
 doneOf e s = cond (inF7 s) (cond (eqb (accessStepOf e s .done) 0) [] (accessStepOf e s .done ∷ [])) []
 
 unfoldable pub hearsE : Bool → Sender → Sender
-hearsE e s = record { station = stationAfterE e (s .station); ds = s .ds ++ (dOf e (s .station) ∷ []); done = s .done ++ doneOf e (s .station) }
+hearsE e s =
+    record {
+      station = stationAfterE e (s .station);
+      ds = s .ds ++ (dOf e (s .station) ∷ []);
+      done = s .done ++ doneOf e (s .station);
+    }
 
 unfoldable pub sentOf : Sender → Sent
 sentOf s = sentUp (s .station .terminal .state) (s .ds)

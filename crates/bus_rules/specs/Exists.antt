@@ -67,7 +67,8 @@ WaitsWhen =
 
 abbrev pub CompletesWhen : Type 0
 CompletesWhen =
-    (k i : ℕ) (m : Opportunity) → stationThen i m .terminal .state ≡ F7 → accessStepOf (eComes m) (stationThen i m) .done ≡ k → Completes k i m
+    (k i : ℕ) (m : Opportunity) → stationThen i m .terminal .state ≡ F7 → accessStepOf (eComes m) (stationThen i m) .done ≡ k
+    → Completes k i m
 
 abbrev pub BeginsWhen : Type 0
 BeginsWhen =

@@ -18,7 +18,8 @@ use Rattle.heard_line.specs.declared.heard.Downward.{Downward}
 use Rattle.heard_line.specs.declared.heard.Upward.{Upward}
 use Rattle.bus_rules.specs.Bus.{Station, Hit, Bus}
 use Rattle.bus_rules.specs.Bus.Hit.{none, given}
-use Rattle.bus_rules.specs.Exchange.{Sender, Opportunity, stationsOf, anyInfo1, anyInfo3, sentDown, dOf, lineUp, eComes, dComes, onward, begins}
+use Rattle.bus_rules.specs.Exchange.{Sender, Opportunity, stationsOf, anyInfo1, anyInfo3, sentDown, dOf, lineUp, eComes}
+use Rattle.bus_rules.specs.Exchange.{dComes, onward, begins}
 
 -- ---- E: INFO 4 has the last D heard, INFO 2 has 0, INFO 0 has no pulse.
 unfoldable pub sentE : ℕ → Bool → Bool

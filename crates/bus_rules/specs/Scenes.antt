@@ -25,7 +25,8 @@ use Rattle.dchannel.specs.Access as access
 use Rattle.dchannel.specs.Handing as handing
 use Rattle.dchannel.specs.declared.access.Access.{Access}
 use Rattle.contention.specs.Change.{change}
-use Rattle.notes_and_cells.specs.Notes.{PH-ACT, PH-DEACT, MPH-ACT, MPH-DEACT, MPH-EI, MPH-EI2, MPH-II-CONNECTED, HEARD, DONE1, DROPPED1, REFUSED, noted}
+use Rattle.notes_and_cells.specs.Notes.{PH-ACT, PH-DEACT, MPH-ACT, MPH-DEACT, MPH-EI, MPH-EI2, MPH-II-CONNECTED, HEARD, DONE1}
+use Rattle.notes_and_cells.specs.Notes.{DROPPED1, REFUSED, noted}
 use Rattle.notes_and_cells.specs.Cells.{cellIn, infoIn}
 use Rattle.table_6_2.specs.Table62.{F2, F4, F6, F7}
 use Rattle.table_6_3.specs.Table63.{G1, G2, G3, G4}
@@ -40,13 +41,20 @@ use Rattle.network.specs.declared.Network.{Network}
 use Rattle.terminal.specs.Terminal as terminal
 use Rattle.bus_rules.specs.Bus.{Station, Hit, Bus, Note, freshStation, freshBus, notesOf, stationAt}
 use Rattle.bus_rules.specs.Order.{unitByUnit}
-use Rattle.bus_rules.specs.Exchange.{Opportunity, sentDown, sentUp, accessStepOf, stationAfterE, dOf, doneOf, hearsE, sentOf, lineDown, lineUp, eComes, sendersAfter, dComes, saidTo, onward, asSender, begins, opportunitiesOf, exchanged, wholeDown, wholeUp}
-use Rattle.bus_rules.specs.Period.{readingAfter, networkHears, terminalHears, stepped, saidNotes, doneCodes, heardBy, notesHeard, timed, notesTimed, periodRun, periodNotes}
-use Rattle.bus_rules.specs.Event.{classOf, eventFor, barsNetwork, barsTerminal, bars, reasons, firstHolding, refusal, networkDoes, networkDone, hitGiven, terminalDoes, withFrame, stationAfter, stationDone, eventDone, eventNotes}
-use Rattle.bus_rules.specs.Calls.{Call, reply, does, tells, after, notes, afterAll, notesOfAll, goesOn, runCalls, runReply, runNotes, runLeaves}
+use Rattle.bus_rules.specs.Exchange.{Opportunity, sentDown, sentUp, accessStepOf, stationAfterE, dOf, doneOf, hearsE, sentOf}
+use Rattle.bus_rules.specs.Exchange.{lineDown, lineUp, eComes, sendersAfter, dComes, saidTo, onward, asSender, begins}
+use Rattle.bus_rules.specs.Exchange.{opportunitiesOf, exchanged, wholeDown, wholeUp}
+use Rattle.bus_rules.specs.Period.{readingAfter, networkHears, terminalHears, stepped, saidNotes, doneCodes, heardBy}
+use Rattle.bus_rules.specs.Period.{notesHeard, timed, notesTimed, periodRun, periodNotes}
+use Rattle.bus_rules.specs.Event.{classOf, eventFor, barsNetwork, barsTerminal, bars, reasons, firstHolding, refusal}
+use Rattle.bus_rules.specs.Event.{networkDoes, networkDone, hitGiven, terminalDoes, withFrame, stationAfter, stationDone}
+use Rattle.bus_rules.specs.Event.{eventDone, eventNotes}
+use Rattle.bus_rules.specs.Calls.{Call, reply, does, tells, after, notes, afterAll, notesOfAll, goesOn, runCalls, runReply}
+use Rattle.bus_rules.specs.Calls.{runNotes, runLeaves}
 use Rattle.notes_and_cells.specs.Events.{ON, OFF, AR, DR, D1, D2, HIT}
 use Rattle.bus_rules.specs.Calls.Call.{event, period}
-use Rattle.bus_rules.specs.Stretch.{opportunitiesOfCall, opportunitiesIn, stationThen, buses, powered, poweredFrom, poweredIn, longestOf, longestIn}
+use Rattle.bus_rules.specs.Stretch.{opportunitiesOfCall, opportunitiesIn, stationThen, buses, powered, poweredFrom, poweredIn}
+use Rattle.bus_rules.specs.Stretch.{longestOf, longestIn}
 use Rattle.bus_rules.specs.Claims.{waitBound}
 
 -- so many periods, then more calls
@@ -71,7 +79,24 @@ reportFrom b (c ∷ more) = reported b c ++ reportFrom (after b c) more
 
 -- what a list of calls hands back; whatever says `unfolding handedBack` computes a bus
 unfoldable pub handedBack : Bus → List Call → List Note
-unfolding within fits tabulate sameSymbols bits.octetBits bits.zeros polarity.alternate polarity.symbols down.downBody down.downBits down.downLine up.upBits up.upLine four.pick four.filledWithOnes framing.firstPulse framing.framedIn framing.hasPulse combine.isSent combine.combined hits.hit octets.lowBits octets.bodyBits octets.numberLowFirst octets.octets images.stuff images.image images.allOctets images.isBody reader.startsWith reader.unstuff reader.reversed reader.rest reader.contents reader.between reader.aborted reader.says reader.said reader.next access.entered access.countAfter access.lowAfter access.afterE access.lowOf access.threshold access.mayStart access.sendsNext access.stops access.completes access.idles access.accessStep handing.takenUp handing.left change noted cellIn infoIn timers.due timers.startedBy timers.timerAfter alignment.framedPeriod alignment.unframedPeriod alignment.followed heard.downwardEvent heard.upwardEvent heard.lossUp sensing.shownDown sensing.shownUp network.moved network.acts network.happens network.andThen network.aligned network.requests network.t1Due network.t2Due network.timers network.heardAs network.hears terminal.accessAfter terminal.droppedNote terminal.moved terminal.acts terminal.happens terminal.aligned terminal.noTimer terminal.switchesOn terminal.switchesOff terminal.requests terminal.timer terminal.heardAs terminal.hears notesOf sentDown sentUp accessStepOf stationAfterE dOf doneOf hearsE sentOf lineDown lineUp eComes sendersAfter dComes saidTo onward asSender begins opportunitiesOf exchanged wholeDown wholeUp readingAfter networkHears terminalHears stepped saidNotes doneCodes heardBy notesHeard timed notesTimed periodRun periodNotes classOf eventFor barsNetwork barsTerminal bars reasons firstHolding refusal networkDoes networkDone hitGiven terminalDoes withFrame stationAfter stationDone eventDone eventNotes reply does tells after notes afterAll opportunitiesOfCall opportunitiesIn stationThen buses powered poweredFrom poweredIn longestOf longestIn network.bars terminal.bars unitByUnit notesOfAll goesOn runCalls runReply runNotes runLeaves
+unfolding within fits tabulate sameSymbols bits.octetBits bits.zeros polarity.alternate polarity.symbols down.downBody down.downBits
+    down.downLine up.upBits up.upLine four.pick four.filledWithOnes framing.firstPulse framing.framedIn framing.hasPulse
+    combine.isSent combine.combined hits.hit octets.lowBits octets.bodyBits octets.numberLowFirst octets.octets images.stuff
+    images.image images.allOctets images.isBody reader.startsWith reader.unstuff reader.reversed reader.rest reader.contents
+    reader.between reader.aborted reader.says reader.said reader.next access.entered access.countAfter access.lowAfter access.afterE
+    access.lowOf access.threshold access.mayStart access.sendsNext access.stops access.completes access.idles access.accessStep
+    handing.takenUp handing.left change noted cellIn infoIn timers.due timers.startedBy timers.timerAfter alignment.framedPeriod
+    alignment.unframedPeriod alignment.followed heard.downwardEvent heard.upwardEvent heard.lossUp sensing.shownDown sensing.shownUp
+    network.moved network.acts network.happens network.andThen network.aligned network.requests network.t1Due network.t2Due
+    network.timers network.heardAs network.hears terminal.accessAfter terminal.droppedNote terminal.moved terminal.acts
+    terminal.happens terminal.aligned terminal.noTimer terminal.switchesOn terminal.switchesOff terminal.requests terminal.timer
+    terminal.heardAs terminal.hears notesOf sentDown sentUp accessStepOf stationAfterE dOf doneOf hearsE sentOf lineDown lineUp
+    eComes sendersAfter dComes saidTo onward asSender begins opportunitiesOf exchanged wholeDown wholeUp readingAfter networkHears
+    terminalHears stepped saidNotes doneCodes heardBy notesHeard timed notesTimed periodRun periodNotes classOf eventFor barsNetwork
+    barsTerminal bars reasons firstHolding refusal networkDoes networkDone hitGiven terminalDoes withFrame stationAfter stationDone
+    eventDone eventNotes reply does tells after notes afterAll opportunitiesOfCall opportunitiesIn stationThen buses powered
+    poweredFrom poweredIn longestOf longestIn network.bars terminal.bars unitByUnit notesOfAll goesOn runCalls runReply runNotes
+    runLeaves
 handedBack b calls = reportFrom b calls
 
 -- ---- Lists of calls from the fresh bus.
@@ -97,7 +122,8 @@ the-book = refl
 
 -- "four for each period whose lines leave the network end in G3": the lines of periods 8 to 19, and not those of period 20 after a `dr`
 pub four-each :
-    (afterAll freshBus exampleCalls .opportunities ≡ 48) × (afterAll freshBus (exampleCalls ++ (event 0 DR [] ∷ period ∷ [])) .opportunities ≡ 48)
+    (afterAll freshBus exampleCalls .opportunities ≡ 48)
+    × (afterAll freshBus (exampleCalls ++ (event 0 DR [] ∷ period ∷ [])) .opportunities ≡ 48)
 unfolding handedBack
 four-each = (refl, refl)
 
@@ -202,7 +228,8 @@ abbrev completedAt : ℕ → ℕ → List Opportunity → List ℕ
 completedAt i t [] = []
 completedAt i t (m ∷ ms) = map (λ (class : ℕ). t) (doneOf (eComes m) (stationThen i m)) ++ completedAt i (suc t) ms
 
-pub worst-wait : (waitBound beforeWait duringWait ≡ 128) × (completedAt 0 0 (opportunitiesIn (afterAll freshBus beforeWait) duringWait) ≡ 127 ∷ [])
+pub worst-wait : (waitBound beforeWait duringWait ≡ 128)
+    × (completedAt 0 0 (opportunitiesIn (afterAll freshBus beforeWait) duringWait) ≡ 127 ∷ [])
 unfolding handedBack
 worst-wait = (refl, refl)
 
@@ -303,7 +330,8 @@ unit-0-first = refl
 abbrev bothDue : Bus
 bothDue = timed (busWith 500 (networkIn G2 500 500) [])
 
-pub t1-first : (notesTimed (busWith 500 (networkIn G2 500 500) []) ≡ note 500 0 PH-DEACT [] ∷ []) × (bothDue .network .state ≡ G4) × (bothDue .network .t2 ≡ 700)
+pub t1-first : (notesTimed (busWith 500 (networkIn G2 500 500) []) ≡ note 500 0 PH-DEACT [] ∷ []) × (bothDue .network .state ≡ G4)
+    × (bothDue .network .t2 ≡ 700)
 unfolding handedBack
 t1-first = (refl, refl, refl)
 

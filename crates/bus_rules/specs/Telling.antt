@@ -25,7 +25,9 @@ heardIn (n ∷ ns) =
 unfoldable pub doneNotesOf : ℕ → List Note → List ℕ
 doneNotesOf unit [] = []
 doneNotesOf unit (n ∷ ns) =
-    cond (eqb (n .unit) unit) (cond (eqb (n .code) DONE1) (DONE1 ∷ doneNotesOf unit ns) (cond (eqb (n .code) DONE2) (DONE2 ∷ doneNotesOf unit ns) (doneNotesOf unit ns)))
+    cond (eqb (n .unit) unit)
+    (cond (eqb (n .code) DONE1) (DONE1 ∷ doneNotesOf unit ns)
+    (cond (eqb (n .code) DONE2) (DONE2 ∷ doneNotesOf unit ns) (doneNotesOf unit ns)))
     (doneNotesOf unit ns)
 
 -- what the reader says at some D opportunities, where it says something

@@ -47,10 +47,13 @@ CombinedFrames = (X : Type 0) (fields : X → UpFields) (xs : List X) (l : List 
 -- A group of one bit gives the group of the ANDs; one that all send alike gives itself; one that all but one leave at 1s, that is at
 -- none, gives that one's.
 abbrev pub GroupBit : Type 1
-GroupBit = (X : Type 0) (b : X → Bool) (xs : List X) → combinedOver 2 (map (λ x. groupSymbols (b x ∷ [])) xs) ≡ groupSymbols (allOf b xs ∷ [])
+GroupBit =
+    (X : Type 0) (b : X → Bool) (xs : List X) → combinedOver 2 (map (λ x. groupSymbols (b x ∷ [])) xs) ≡ groupSymbols (allOf b xs ∷ [])
 
 abbrev pub GroupAlike : Type 1
-GroupAlike = (X : Type 0) (n : ℕ) (l : List ℕ) (x : X) (xs : List X) → length l ≡ n → within minus l ≡ true → combinedOver n (map (λ y. l) (x ∷ xs)) ≡ l
+GroupAlike =
+    (X : Type 0) (n : ℕ) (l : List ℕ) (x : X) (xs : List X) → length l ≡ n → within minus l ≡ true
+    → combinedOver n (map (λ y. l) (x ∷ xs)) ≡ l
 
 abbrev pub GroupOfOne : Type 1
 GroupOfOne = (X : Type 0) (n : ℕ) (g : X → List ℕ) (x : X) (before after : List X)
@@ -85,18 +88,23 @@ abbrev pub PickAll : Type 0
 PickAll = (k : ℕ) (ds : List Four) → pick k (andAll ds) ≡ allOf (pick k) ds
 
 abbrev pub PickHeard : Type 0
-PickHeard = (k : ℕ) (info1 : Bool) (d : Four) → k < 4 → pick k (heardWithInfo1 info1 d) ≡ cond (eqb k 1 && info1) (not (pick k d)) (pick k d)
+PickHeard =
+    (k : ℕ) (info1 : Bool) (d : Four) → k < 4 → pick k (heardWithInfo1 info1 d) ≡ cond (eqb k 1 && info1) (not (pick k d)) (pick k d)
 
 -- ---- The lines as they are lent: laid one after the other, they are the rows, and the call combines them.
 abbrev pub RowsLaid : Type 0
 RowsLaid = (ls : List (List ℕ)) → ((i : ℕ) → i < length ls → length (getD ls i []) ≡ lineLength) → rows (length ls) (laid ls) ≡ ls
 
 abbrev pub EightLaid : Type 0
-EightLaid = (ls : List (List ℕ)) → length ls ≡ terminals → ((i : ℕ) → i < length ls → length (getD ls i []) ≡ lineLength) → eight (laid ls) ≡ combined ls
+EightLaid =
+    (ls : List (List ℕ)) → length ls ≡ terminals → ((i : ℕ) → i < length ls → length (getD ls i []) ≡ lineLength)
+    → eight (laid ls) ≡ combined ls
 
 -- Eight lines so laid fit the call.
 abbrev pub FitsLaid : Type 0
-FitsLaid = (ls : List (List ℕ)) → length ls ≡ terminals → ((i : ℕ) → i < length ls → isLine (getD ls i []) ≡ true) → fits linesLength minus (laid ls) ≡ true
+FitsLaid =
+    (ls : List (List ℕ)) → length ls ≡ terminals → ((i : ℕ) → i < length ls → isLine (getD ls i []) ≡ true)
+    → fits linesLength minus (laid ls) ≡ true
 
 -- The same for what eight terminals send.
 abbrev pub LineSent : Type 0
@@ -113,7 +121,8 @@ abbrev pub HitAt : Type 0
 HitAt = (letters l : List ℕ) (i : ℕ) → i < lineLength → getD (hit letters l) i none ≡ struck (getD letters i keepLetter) (getD l i none)
 
 abbrev pub HitKeeps : Type 0
-HitKeeps = (letters l : List ℕ) (i : ℕ) → i < lineLength → getD letters i keepLetter ≡ keepLetter → getD (hit letters l) i none ≡ getD l i none
+HitKeeps =
+    (letters l : List ℕ) (i : ℕ) → i < lineLength → getD letters i keepLetter ≡ keepLetter → getD (hit letters l) i none ≡ getD l i none
 
 abbrev pub HitPlus : Type 0
 HitPlus = (letters l : List ℕ) (i : ℕ) → i < lineLength → getD letters i keepLetter ≡ plusLetter → getD (hit letters l) i none ≡ plus
@@ -126,7 +135,9 @@ HitNone = (letters l : List ℕ) (i : ℕ) → i < lineLength → getD letters i
 
 -- At symbol level each bit comes from its own letter and itself alone: E and A of any line, and of a frame.
 abbrev pub LevelHit : Type 0
-LevelHit = (letters l : List ℕ) (i : ℕ) → i < lineLength → level (getD (hit letters l) i none) ≡ struckBit (getD letters i keepLetter) (level (getD l i none))
+LevelHit =
+    (letters l : List ℕ) (i : ℕ) → i < lineLength
+    → level (getD (hit letters l) i none) ≡ struckBit (getD letters i keepLetter) (level (getD l i none))
 
 abbrev pub EHit : Type 0
 EHit = (letters l : List ℕ) → eBits (levels (hit letters l)) ≡ struckE letters (eBits (levels l))
@@ -135,7 +146,8 @@ abbrev pub EHitDown : Type 0
 EHitDown = (letters : List ℕ) (f : DownFields) → eBits (levels (hit letters (downLine f))) ≡ struckE letters (f .e)
 
 abbrev pub PickStruckE : Type 0
-PickStruckE = (k : ℕ) (letters : List ℕ) (e : Four) → k < 4 → pick k (struckE letters e) ≡ struckBit (getD letters (eIndex k) keepLetter) (pick k e)
+PickStruckE =
+    (k : ℕ) (letters : List ℕ) (e : Four) → k < 4 → pick k (struckE letters e) ≡ struckBit (getD letters (eIndex k) keepLetter) (pick k e)
 
 abbrev pub AHit : Type 0
 AHit = (letters l : List ℕ) → aBit (levels (hit letters l)) ≡ struckA letters (aBit (levels l))

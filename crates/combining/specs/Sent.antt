@@ -49,4 +49,10 @@ framesLine (d ∷ ds) = info3 (andAll (d ∷ ds))
 -- The D bits at symbol level of the combined line, where the ANDs are d. INFO 1 has a plus at position 25, where a D of 0 is a minus:
 -- together they give none, and the plus alone is a pulse.
 abbrev pub heardWithInfo1 : Bool → Four → Four
-heardWithInfo1 info1 d = record { first = d .first; second = cond info1 (not (d .second)) (d .second); third = d .third; fourth = d .fourth }
+heardWithInfo1 info1 d =
+    record {
+      first = d .first;
+      second = cond info1 (not (d .second)) (d .second);
+      third = d .third;
+      fourth = d .fourth;
+    }

@@ -8,11 +8,13 @@ use Prim.Native.Nat.{ℕ, zero, suc, _+_, _-_}
 use lib.Dec.{eqb}
 use Rattle.hdlc.specs.Bits.{lowBits, bodyBits, numberLowFirst, octets}
 use Rattle.hdlc.specs.Image.{stuff, image, allOctets, isBody}
-use Rattle.dchannel.specs.Access.{entered, countAfter, lowAfter, afterE, lowOf, threshold, mayStart, sendsNext, stops, completes, idles, accessStep}
+use Rattle.dchannel.specs.Access.{entered, countAfter, lowAfter, afterE, lowOf, threshold, mayStart, sendsNext, stops, completes}
+use Rattle.dchannel.specs.Access.{idles, accessStep}
 use Rattle.hdlc.specs.Reading.{Said, startsWith, unstuff, reversed, rest, contents, between, aborted, says, said, next}
 use Rattle.hdlc.specs.Reading.Said.{nothing, torn, heard}
 use Rattle.dchannel.specs.Handing.{takenUp, left}
-use Rattle.contention.specs.Channel.{Contender, Channel, Action, mayHold, holding, entering, leaving, nextBit, accessStepAt, contenderAfterE, sendsD, togetherD, step, freshChannel}
+use Rattle.contention.specs.Channel.{Contender, Channel, Action, mayHold, holding, entering, leaving, nextBit, accessStepAt}
+use Rattle.contention.specs.Channel.{contenderAfterE, sendsD, togetherD, step, freshChannel}
 use Rattle.contention.specs.Change.{change}
 use Rattle.contention.specs.Channel.Action.{hand, enter}
 use Rattle.contention.specs.Stretch.{saidAt, onward}
@@ -59,7 +61,10 @@ notes t c (calm k ∷ more) = through k t c ++ notes (t + k) (past k c) more
 
 -- the notes of a scene with n fresh terminals
 pub scene : ℕ → List Cue → List Note
-unfolding lowBits bodyBits numberLowFirst octets stuff image entered countAfter lowAfter afterE lowOf threshold mayStart sendsNext stops completes idles accessStep startsWith unstuff reversed rest contents between aborted says said next allOctets isBody change mayHold holding entering leaving nextBit accessStepAt contenderAfterE sendsD togetherD step freshChannel saidAt onward takenUp left
+unfolding lowBits bodyBits numberLowFirst octets stuff image entered countAfter lowAfter afterE lowOf threshold mayStart sendsNext
+    stops completes idles accessStep startsWith unstuff reversed rest contents between aborted says said next allOctets isBody
+    change mayHold holding entering leaving nextBit accessStepAt contenderAfterE sendsD togetherD step freshChannel saidAt onward
+    takenUp left
 scene n cues = notes 0 (freshChannel n) cues
 
 -- One terminal: C is 8 after eight Es of 1, at opportunity 7, where the first bit leaves. The last of 24 bits leaves at opportunity 30,
@@ -110,16 +115,20 @@ low-waits = refl
 -- opportunity 2 on; its C reaches 8 where the rival's reaches 10. The rival's class 2 frame wins, then its class 1 frame, and terminal
 -- 0's is completed at the very last of the (2 + 1) times (24 + 8) opportunities.
 pub worst-of-two : scene 2
-    (act (enter 1) ∷ act (hand 1 2 (0 ∷ [])) ∷ calm 2 ∷ act (enter 0) ∷ act (hand 0 1 (1 ∷ [])) ∷ calm 32 ∷ act (hand 1 1 (0 ∷ [])) ∷ calm 70 ∷ [])
-    ≡ body-heard 32 (0 ∷ []) ∷ done 33 1 2 ∷ body-heard 64 (0 ∷ []) ∷ done 65 1 1 ∷ body-heard 96 (1 ∷ []) ∷ done (2 + waitBound 2 24 8 - 1) 0 1 ∷ []
+    (act (enter 1) ∷ act (hand 1 2 (0 ∷ [])) ∷ calm 2 ∷ act (enter 0) ∷ act (hand 0 1 (1 ∷ [])) ∷ calm 32 ∷ act (hand 1 1 (0 ∷ []))
+    ∷ calm 70 ∷ [])
+    ≡ body-heard 32 (0 ∷ []) ∷ done 33 1 2 ∷ body-heard 64 (0 ∷ []) ∷ done 65 1 1 ∷ body-heard 96 (1 ∷ [])
+    ∷ done (2 + waitBound 2 24 8 - 1) 0 1 ∷ []
 unfolding scene
 worst-of-two = refl
 
 -- the same with three terminals: the last of the (3 + 1) times (24 + 8) opportunities
 pub worst-of-three : scene 3
-    (act (enter 1) ∷ act (enter 2) ∷ act (hand 1 2 (0 ∷ [])) ∷ calm 2 ∷ act (enter 0) ∷ act (hand 0 1 (1 ∷ [])) ∷ calm 20 ∷ act (hand 2 1 (128 ∷ [])) ∷ calm 12 ∷
+    (act (enter 1) ∷ act (enter 2) ∷ act (hand 1 2 (0 ∷ [])) ∷ calm 2 ∷ act (enter 0) ∷ act (hand 0 1 (1 ∷ [])) ∷ calm 20
+    ∷ act (hand 2 1 (128 ∷ [])) ∷ calm 12 ∷
     act (hand 1 1 (0 ∷ [])) ∷ calm 100 ∷ [])
-    ≡ body-heard 32 (0 ∷ []) ∷ done 33 1 2 ∷ body-heard 64 (0 ∷ []) ∷ done 65 1 1 ∷ body-heard 96 (128 ∷ []) ∷ done 97 2 1 ∷ body-heard 128 (1 ∷ []) ∷
+    ≡ body-heard 32 (0 ∷ []) ∷ done 33 1 2 ∷ body-heard 64 (0 ∷ []) ∷ done 65 1 1 ∷ body-heard 96 (128 ∷ []) ∷ done 97 2 1
+    ∷ body-heard 128 (1 ∷ []) ∷
     done (2 + waitBound 3 24 8 - 1) 0 1 ∷ []
 unfolding scene
 worst-of-three = refl

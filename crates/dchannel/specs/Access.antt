@@ -67,7 +67,16 @@ mayStart x1 x2 a = cond (eqb (a .held) 0) false (leb (threshold x1 x2 (a .held) 
 unfoldable pub sendsNext : Bool → Access → AccessStep
 sendsNext next a =
     record {
-      access = record { length = a .length; sent = a .sent + 1; count = a .count; held = a .held; low1 = a .low1; low2 = a .low2; last = next };
+      access =
+          record {
+            length = a .length;
+            sent = a .sent + 1;
+            count = a .count;
+            held = a .held;
+            low1 = a .low1;
+            low2 = a .low2;
+            last = next;
+          };
       d = next;
       done = 0;
     }

@@ -31,7 +31,8 @@ abbrev pub heldState : Held → List ℕ → List ℕ → List ℕ → BookState
 heldState h images octets letters = bookStateOf (h .progress) images octets letters
 
 -- One call on what is in hand and the part behind it; what it has not taken is in hand then.
-pub record Turned (most : ℕ) (h : Held) (text room images octets letters : List ℕ) (r : Held) (text′ room′ images′ octets′ letters′ : List ℕ)
+pub record Turned (most : ℕ) (h : Held) (text room images octets letters : List ℕ) (r : Held)
+    (text′ room′ images′ octets′ letters′ : List ℕ)
     : Type 0 where
   pub part : List ℕ
   pub few : length part ≤ most

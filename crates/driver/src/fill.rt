@@ -14,10 +14,13 @@ pub(crate) struct Filled {
     pub(crate) whole: bool,
 }
 
-// Where the last call has stopped for text, reads at most `most` octets behind those in hand. A read that gives nothing ends the book there,
-// and so does one that fails, once that is said: a read is offered one octet at least.
+// Where the last call has stopped for text, reads at most `most` octets behind those in hand. A
+// read that gives nothing ends the book there, and so does one that fails, once that is said: a
+// read is offered one octet at least.
 pub(crate) fn fill(text: &mut [u8], have: usize, why: u8, whole: bool, most: usize) -> Filled
-    requires { ⌜ (have ≤ length (now text)) × (why ≡ TEXT → have < length (now text)) × (0 < most) ⌝ }
+    requires { ⌜ have ≤ length (now text) ⌝ }
+    requires { ⌜ (why ≡ TEXT → have < length (now text)) ⌝ }
+    requires { ⌜ 0 < most ⌝ }
     ensures { λ r. ⌜ Fills most (now (text .entry)) have why whole (now (text .exit)) (r .have) (r .whole) ⌝ }
 {
     if why != TEXT {

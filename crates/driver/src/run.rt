@@ -17,8 +17,9 @@ use bus_event::event::IMAGES_ROOM;
 use packing::image::LONGEST_BODY;
 use symbols::LINE_LENGTH;
 
-// Nothing says that the input ends, so the turns are counted down, from a number that no run uses up (`RunEnds`). The first turn stands before
-// the loop: where the compiler sees a fresh book go into the loop, it copies the book's fields one by one, at every turn.
+// Nothing says that the input ends, so the turns are counted down, from a number that no run uses
+// up (`RunEnds`). The first turn stands before the loop: where the compiler sees a fresh book go
+// into the loop, it copies the book's fields one by one, at every turn.
 fn drive(
     text: &mut [u8],
     room: &mut [u8],
@@ -27,8 +28,11 @@ fn drive(
     letters: &mut [u8],
     most: usize,
 )
-    requires { ⌜ (longestLine ≤ length (now text)) × (0 < most) ⌝ }
-    requires { ⌜ (length (now images) ≡ imagesRoom) × (longestBody ≤ length (now octets)) × (areLetters (now letters) ≡ true) ⌝ }
+    requires { ⌜ longestLine ≤ length (now text) ⌝ }
+    requires { ⌜ 0 < most ⌝ }
+    requires { ⌜ length (now images) ≡ imagesRoom ⌝ }
+    requires { ⌜ longestBody ≤ length (now octets) ⌝ }
+    requires { ⌜ areLetters (now letters) ≡ true ⌝ }
     ensures { λ r. ⌜ Drives most (now (text .entry)) (now (room .entry)) (now (images .entry)) (now (octets .entry)) (now (letters .entry))
         (now (text .exit)) (now (room .exit)) (now (images .exit)) (now (octets .exit)) (now (letters .exit)) ⌝ }
 {

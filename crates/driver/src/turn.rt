@@ -30,8 +30,11 @@ pub(crate) fn turn(
     letters: &mut [u8],
     most: usize,
 ) -> Held
-    requires { ⌜ Going h (now text) (now images) (now octets) (now letters) × (longestLine ≤ length (now text)) × (0 < most) ⌝ }
-    ensures { λ r. ⌜ Turned most h (now (text .entry)) (now (room .entry)) (now (images .entry)) (now (octets .entry)) (now (letters .entry))
+    requires { ⌜ Going h (now text) (now images) (now octets) (now letters) ⌝ }
+    requires { ⌜ longestLine ≤ length (now text) ⌝ }
+    requires { ⌜ 0 < most ⌝ }
+    ensures { λ r. ⌜ Turned most h
+        (now (text .entry)) (now (room .entry)) (now (images .entry)) (now (octets .entry)) (now (letters .entry))
         r (now (text .exit)) (now (room .exit)) (now (images .exit)) (now (octets .exit)) (now (letters .exit)) ⌝ }
 {
     let f = fill(text, h.have, h.why, h.whole, most);

@@ -12,7 +12,8 @@ use Rattle.framed.specs.Framed.{firstPulse, framedIn, framedUp, hasPulse}
 use Rattle.info.specs.Info.{info0, info1}
 use Rattle.hdlc.specs.Bits.{lowBits, bodyBits}
 use Rattle.hdlc.specs.Image.{flag, stuff, image}
-use Rattle.dchannel.specs.Access.{normal1, normal2, countAfter, lowAfter, afterE, lowOf, threshold, mayStart, sendsNext, stops, completes, idles, accessStep}
+use Rattle.dchannel.specs.Access.{normal1, normal2, countAfter, lowAfter, afterE, lowOf, threshold, mayStart, sendsNext, stops}
+use Rattle.dchannel.specs.Access.{completes, idles, accessStep}
 use Rattle.dchannel.specs.Ranges.{accessInRange}
 use Rattle.dchannel.specs.Access as access
 use Rattle.dchannel.specs.declared.access.Access.{Access}
@@ -65,10 +66,14 @@ first00 = completed 25 (image (0 ∷ [])) (image (1 ∷ [])) (holding 1 false 24
 
 -- the state of the network end in G4 after it has heard a line, and of a terminal in F6 after its T3 is due
 abbrev g4Hears : List ℕ → ℕ
-g4Hears line = networkCalls.hearCall (shownUp line) (record { 0 = 9 }) (record { t1 = 0; t2 = 0; state = G4; alignment = unaligned 0 }) .network .state
+g4Hears line =
+    networkCalls.hearCall (shownUp line) (record { 0 = 9 }) (record { t1 = 0; t2 = 0; state = G4; alignment = unaligned 0 })
+    .network .state
 
 abbrev f6Due : ℕ
-f6Due = terminalCalls.timerCall (record { 0 = 9 }) (record { t3 = 9; access = access.fresh; state = F6; alignment = inAlignment 0 }) .terminal .state
+f6Due =
+    terminalCalls.timerCall (record { 0 = 9 }) (record { t3 = 9; access = access.fresh; state = F6; alignment = inAlignment 0 })
+    .terminal .state
 
 -- an upward line whose first pulse after symbol 2 is minus and stands at a position
 abbrev pulseAt : ℕ → ℕ → List ℕ
@@ -107,5 +112,9 @@ all [] = true
 all (b ∷ bs) = cond b (all bs) false
 
 pub edges-hold : all edges ≡ true
-unfolding edges image stuff bodyBits lowBits mayStart threshold lowOf accessStep afterE countAfter lowAfter sendsNext stops completes idles sameSymbols framedIn firstPulse hasPulse shownUp networkCalls.checked networkCalls.ready networkCalls.networkInRange network.hears network.heardAs network.andThen network.happens network.acts network.moved network.aligned lossUp upwardEvent followed noted cellIn timerAfter startedBy due terminalCalls.checked terminal.timer terminalCalls.ready terminalCalls.terminalInRange terminal.happens terminal.acts terminal.noTimer accessInRange
+unfolding edges image stuff bodyBits lowBits mayStart threshold lowOf accessStep afterE countAfter lowAfter sendsNext stops
+    completes idles sameSymbols framedIn firstPulse hasPulse shownUp networkCalls.checked networkCalls.ready
+    networkCalls.networkInRange network.hears network.heardAs network.andThen network.happens network.acts network.moved
+    network.aligned lossUp upwardEvent followed noted cellIn timerAfter startedBy due terminalCalls.checked terminal.timer
+    terminalCalls.ready terminalCalls.terminalInRange terminal.happens terminal.acts terminal.noTimer accessInRange
 edges-hold = refl

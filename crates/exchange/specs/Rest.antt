@@ -42,7 +42,11 @@ abbrev pub noneGone : Rest
 noneGone = record { still = true; info3 = false }
 
 abbrev pub alsoRests : ℕ → Rest → Terminal → Rest
-alsoRests i r t = record { still = (r .still && partRests true t) && not (eqb (infoIn infoSent (t .state)) 1); info3 = r .info3 || eqb (infoIn infoSent (t .state)) 3 }
+alsoRests i r t =
+    record {
+      still = (r .still && partRests true t) && not (eqb (infoIn infoSent (t .state)) 1);
+      info3 = r .info3 || eqb (infoIn infoSent (t .state)) 3;
+    }
 
 unfoldable pub restOf : List Terminal → Rest
 restOf ts = foldFrom alsoRests 0 noneGone ts
@@ -61,7 +65,8 @@ onesSent m =
 -- whether this is an exchange as its first E comes
 unfoldable pub isFirst : Tally → Bool
 isFirst m =
-    (((((((((m .ds .first && m .ds .second) && m .ds .third) && m .ds .fourth) && eqb (m .place) 0) && eqb (m .done1) 0) && eqb (m .done2) 0)
+    (((((((((m .ds .first && m .ds .second) && m .ds .third) && m .ds .fourth) && eqb (m .place) 0) && eqb (m .done1) 0)
+    && eqb (m .done2) 0)
     && m .e) && m .d) && not (m .info1)) && not (m .info3)
 
 -- whether it is enough to look at the terminals
@@ -95,5 +100,6 @@ pub record RestsThrough (state : ℕ) (letters : Letters) (heardD : Bool) (ts : 
 abbrev pub RestFour : Type 0
 RestFour =
     (images : List ℕ) (state : ℕ) (letters : Letters) (heardD : Bool) (ts : List Terminal) → RestsThrough state letters heardD ts
-    → (tallyAfterFour images (firstTally state letters heardD) ts ≡ restTally state letters (anySends 1 (statesOf ts)) (anySends 3 (statesOf ts)))
+    → (tallyAfterFour images (firstTally state letters heardD) ts
+    ≡ restTally state letters (anySends 1 (statesOf ts)) (anySends 3 (statesOf ts)))
     × (terminalsAfterFour images (firstTally state letters heardD) ts ≡ ts)

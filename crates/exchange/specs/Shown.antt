@@ -56,4 +56,6 @@ pub record Exchanges (images : List ℕ) (b : Bus) (ts : List Terminal) : Type 0
 
 -- "one network end, terminals 1 to 8"
 abbrev pub ExchangeShown : Type 0
-ExchangeShown = (images : List ℕ) (b : Bus) (ts : List Terminal) → length ts ≡ terminals → b .stations ≡ mapFrom (stationIn images) 0 ts → Exchanges images b ts
+ExchangeShown =
+    (images : List ℕ) (b : Bus) (ts : List Terminal) → length ts ≡ terminals → b .stations ≡ mapFrom (stationIn images) 0 ts
+    → Exchanges images b ts

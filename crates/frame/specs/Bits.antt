@@ -53,7 +53,13 @@ octetAt n bits = numberHighFirst (take 8 (drop (n - 1) bits))
 
 -- Four bits at four positions.
 abbrev pub fourAt : ℕ → ℕ → ℕ → ℕ → List Bool → Four
-fourAt i j k l bits = record { first = bitAtPosition i bits; second = bitAtPosition j bits; third = bitAtPosition k bits; fourth = bitAtPosition l bits }
+fourAt i j k l bits =
+    record {
+      first = bitAtPosition i bits;
+      second = bitAtPosition j bits;
+      third = bitAtPosition k bits;
+      fourth = bitAtPosition l bits;
+    }
 
 -- The four D bits stand at the same positions in both directions (tables 5-1 and 5-2).
 abbrev pub dBits : List Bool → Four

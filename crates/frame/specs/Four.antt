@@ -21,7 +21,13 @@ allFour b = record { first = b; second = b; third = b; fourth = b }
 
 -- The ANDs of four bits, over a list.
 abbrev pub andFour : Four → Four → Four
-andFour a b = record { first = a .first && b .first; second = a .second && b .second; third = a .third && b .third; fourth = a .fourth && b .fourth }
+andFour a b =
+    record {
+      first = a .first && b .first;
+      second = a .second && b .second;
+      third = a .third && b .third;
+      fourth = a .fourth && b .fourth;
+    }
 
 unfoldable pub andAll : List Four → Four
 andAll [] = allFour true

@@ -24,7 +24,9 @@ downwardEvent line f =
 -- The network end's INFO: INFO 0, INFO 1, INFO 3. "Any other period with a pulse is a signal", for which table 6-3 has no row: 0.
 unfoldable pub upwardEvent : Upward → Followed → ℕ
 upwardEvent line f =
-    cond (line .pulse) (cond (line .info1) network.INFO-1-ROW (cond (line .framed) (cond (f .alignment .aligned) network.INFO-3-ROW 0) 0)) network.INFO-0-ROW
+    cond (line .pulse)
+    (cond (line .info1) network.INFO-1-ROW (cond (line .framed) (cond (f .alignment .aligned) network.INFO-3-ROW 0) 0))
+    network.INFO-0-ROW
 
 -- Its event of loss, which may fall together with INFO 1, or 0.
 unfoldable pub lossUp : Followed → ℕ

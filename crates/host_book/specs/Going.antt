@@ -55,7 +55,8 @@ pub record HostGoesOn (b text report went : List ℕ) (whole : Bool) (r : ℕ) (
 -- proofs/Laws.antt.
 abbrev pub HostWritesRight : Type 0
 HostWritesRight =
-    (parts : List (List ℕ)) (w : List ℕ) (calls : List Call) → Driven (bookStateIn freshBook) [] false parts w calls → DrivenRight parts w calls
+    (parts : List (List ℕ)) (w : List ℕ) (calls : List Call) → Driven (bookStateIn freshBook) [] false parts w calls
+    → DrivenRight parts w calls
 
 -- A fresh book is a book, so that the first call is not refused by 1; what a call leaves is one too (`Goes`).
 abbrev pub FreshIsBook : Type 0

@@ -37,7 +37,13 @@ isBook b =
 -- ---- How the code goes: the record of how far a book has come is read from all of its octets, and goes over all but the images.
 unfoldable pub progressIn : List ℕ → Progress
 progressIn b =
-    record { bus = recordIn b; terminals = terminalsIn b; stage = getD b busLength 0; begun = flagAt b (busLength + 1); over = flagAt b (busLength + 2) }
+    record {
+      bus = recordIn b;
+      terminals = terminalsIn b;
+      stage = getD b busLength 0;
+      begun = flagAt b (busLength + 1);
+      over = flagAt b (busLength + 2);
+    }
 
 unfoldable pub progressLaid : Progress → List ℕ → List ℕ → List ℕ → List ℕ
 progressLaid p letters octets b =

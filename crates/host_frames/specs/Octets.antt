@@ -40,7 +40,13 @@ downOctets f =
 
 -- The fields that octets stand for, by place.
 abbrev pub fourFrom : ℕ → List ℕ → Four
-fourFrom at fs = record { first = eqb (getD fs at 0) 1; second = eqb (getD fs (at + 1) 0) 1; third = eqb (getD fs (at + 2) 0) 1; fourth = eqb (getD fs (at + 3) 0) 1 }
+fourFrom at fs =
+    record {
+      first = eqb (getD fs at 0) 1;
+      second = eqb (getD fs (at + 1) 0) 1;
+      third = eqb (getD fs (at + 2) 0) 1;
+      fourth = eqb (getD fs (at + 3) 0) 1;
+    }
 
 abbrev pub downFrom : List ℕ → DownFields
 downFrom fs = record {

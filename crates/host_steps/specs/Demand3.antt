@@ -43,7 +43,8 @@ pub record PartHandsBack (before during after : List HostCall) : Type 0 where
 -- begins or ends inside a run; and its parts hand back their notes.
 pub record ClaimedOnHostCalls (calls : List HostCall) : Type 0 where
   pub stepped : SteppedAll freshBus freshOctets calls
-  pub claims : (before during after : List Call) → madeBy freshOctets calls ≡ before ++ (during ++ after) → Stretch (afterAll freshBus before) during
+  pub claims : (before during after : List Call) → madeBy freshOctets calls ≡ before ++ (during ++ after)
+      → Stretch (afterAll freshBus before) during
       → Claimed before during after
   pub parts : (before during after : List HostCall) → calls ≡ before ++ (during ++ after) → PartHandsBack before during after
 

@@ -14,7 +14,8 @@ use Rattle.bus_call_specs.specs.Lists.{Carries, LentCall, OctetValue, made, len
 use Rattle.note_text.specs.Determined.{AllFitOctets}
 use Rattle.bus_octets.specs.Layout.{shown, isBus}
 use Rattle.host_bus.specs.Fresh.{freshOctets}
-use Rattle.host_steps.specs.Stepping.{notesOctets, notesRoom, hostReply, hostBus, hostNotes, mostTo, hostRunReply, hostRunBus, hostRunNotes}
+use Rattle.host_steps.specs.Stepping.{notesOctets, notesRoom, hostReply, hostBus, hostNotes, mostTo, hostRunReply, hostRunBus}
+use Rattle.host_steps.specs.Stepping.{hostRunNotes}
 
 -- "The number comes back alone; record and lent buffers keep their contents": of whatever octets and whatever room are lent.
 pub record Untouched (s room s′ room′ : List ℕ) : Type 0 where
@@ -25,7 +26,8 @@ abbrev pub RefusedKeeps : Type 0
 RefusedKeeps = (s room : List ℕ) (c : Call) → (hostReply s room c ≡ 0 → ⊥) → Untouched s room (hostBus s room c) (hostNotes s room c)
 
 abbrev pub RefusedRunKeeps : Type 0
-RefusedRunKeeps = (s room : List ℕ) (most : ℕ) → (hostRunReply s room most ≡ 0 → ⊥) → Untouched s room (hostRunBus s room most) (hostRunNotes s room most)
+RefusedRunKeeps =
+    (s room : List ℕ) (most : ℕ) → (hostRunReply s room most ≡ 0 → ⊥) → Untouched s room (hostRunBus s room most) (hostRunNotes s room most)
 
 -- ---- The notes of any call, with their end, fit into the room that is asked for: nothing of them is left out.
 abbrev pub NotesFit : Type 0

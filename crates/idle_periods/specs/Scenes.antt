@@ -144,7 +144,8 @@ each [] = true
 each (row ∷ rows) = eqb (row .0) (row .1) && each rows
 
 pub how-far : (each still ≡ true) × (each not-still ≡ true)
-unfolding reach reached firstAhead alsoAhead overWith farthest quiet readerWaits networkRests shownFrom clear rests partRests shownBy infoIn foldFrom atRest
+unfolding reach reached firstAhead alsoAhead overWith farthest quiet readerWaits networkRests shownFrom clear rests partRests
+    shownBy infoIn foldFrom atRest
 how-far = (refl, refl)
 
 -- ---- What a leap makes of the counts: four opportunities a period in G3, none elsewhere.
@@ -152,6 +153,7 @@ pub leap-in-G3 : (leapt 30 in-G3 .periods .0 ≡ 1030) × (leapt 30 in-G3 .oppor
 unfolding leapt countedOver
 leap-in-G3 = (refl, refl)
 
-pub leap-outside-G3 : (leapt 30 (bus G1 false 0 0 freshReader) .periods .0 ≡ 1030) × (leapt 30 (bus G1 false 0 0 freshReader) .opportunities .0 ≡ 400)
+pub leap-outside-G3 : (leapt 30 (bus G1 false 0 0 freshReader) .periods .0 ≡ 1030)
+    × (leapt 30 (bus G1 false 0 0 freshReader) .opportunities .0 ≡ 400)
 unfolding leapt countedOver
 leap-outside-G3 = (refl, refl)

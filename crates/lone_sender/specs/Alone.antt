@@ -33,7 +33,11 @@ tallyThen images a = loneTally images (a .answer .bus .network .state) (a .lone)
 
 unfoldable pub aloneAfter : List ℕ → Alone → List ℕ → Alone
 aloneAfter images a octets =
-    record { answer = answerAfter (a .answer .bus) (tallyThen images a) octets false; lone = loneAfterFour images (a .lone); over = a .over + 1 }
+    record {
+      answer = answerAfter (a .answer .bus) (tallyThen images a) octets false;
+      lone = loneAfterFour images (a .lone);
+      over = a .over + 1;
+    }
 
 unfoldable pub octetsThen : List ℕ → Alone → List ℕ → List ℕ
 octetsThen images a octets = octetsAfter (a .answer .bus) (tallyThen images a) octets
@@ -45,7 +49,8 @@ aloneOn images (suc n) a octets = cond (goesAlone images a) (aloneOn images n (a
 
 unfoldable pub octetsOn : List ℕ → ℕ → Alone → List ℕ → List ℕ
 octetsOn images zero a octets = octets
-octetsOn images (suc n) a octets = cond (goesAlone images a) (octetsOn images n (aloneAfter images a octets) (octetsThen images a octets)) octets
+octetsOn images (suc n) a octets =
+    cond (goesAlone images a) (octetsOn images n (aloneAfter images a octets) (octetsThen images a octets)) octets
 
 -- the call: nothing has been run yet
 abbrev pub notYet : BusRecord → LoneSender → Alone

@@ -54,7 +54,12 @@ unfoldable pub loneBits : List ℕ → LoneSender → Four
 loneBits images s =
     let s2 = loneAfterE images s in
     let s3 = loneAfterE images s2 in
-    record { first = loneBit images s; second = loneBit images s2; third = loneBit images s3; fourth = loneBit images (loneAfterE images s3) }
+    record {
+      first = loneBit images s;
+      second = loneBit images s2;
+      third = loneBit images s3;
+      fourth = loneBit images (loneAfterE images s3);
+    }
 
 unfoldable pub loneGoes : List ℕ → LoneSender → Bool
 loneGoes images s =
@@ -110,7 +115,8 @@ followed s i t =
 -- length, or does not send
 unfoldable pub loneStation : ℕ → ℕ → ℕ → Terminal → Bool
 loneStation at length i t =
-    not (eqb (infoIn infoSent (t .state)) 1) && cond (eqb (t .state) F7) (cond (eqb i at) (eqb (t .access .length) length) (eqb (t .access .sent) 0)) true
+    not (eqb (infoIn infoSent (t .state)) 1)
+    && cond (eqb (t .state) F7) (cond (eqb i at) (eqb (t .access .length) length) (eqb (t .access .sent) 0)) true
 
 -- all of them, the first being terminal i
 unfoldable pub loneStations : ℕ → ℕ → ℕ → List Terminal → Bool
@@ -125,7 +131,8 @@ senderIn at i (t ∷ ts) = cond (eqb i at) (eqb (t .state) F7) (senderIn at (suc
 -- ---- While INFO 4 is sent, the four opportunities over all terminals are those of the sender (proofs/SoloFour.antt).
 pub record FourAlone (images : List ℕ) (state : ℕ) (s : LoneSender) (ts : List Terminal) : Type 0 where
   pub tally-is : tallyAfterFour images (firstTally state noLetters (s .last)) (mapFrom (followed s) 0 ts) ≡ loneTally images state s
-  pub terminals-are : terminalsAfterFour images (firstTally state noLetters (s .last)) (mapFrom (followed s) 0 ts) ≡ mapFrom (followed (loneAfterFour images s)) 0 ts
+  pub terminals-are : terminalsAfterFour images (firstTally state noLetters (s .last)) (mapFrom (followed s) 0 ts)
+      ≡ mapFrom (followed (loneAfterFour images s)) 0 ts
 
 abbrev pub LoneFour : Type 0
 LoneFour =

@@ -29,10 +29,14 @@ abbrev pub lineHere : List ℕ → List ℕ → Alone → List Terminal → Down
 lineHere images letters a ts = stepLine (a .answer .bus) (terminalsHere a ts) images letters
 
 pub record IsPeriod (images letters : List ℕ) (a : Alone) (ts : List Terminal) : Type 0 where
-  pub tally-is : stepTally (a .answer .bus) (terminalsHere a ts) images letters ≡ loneTally images (a .answer .bus .network .state) (a .lone)
-  pub terminals-are : mapFrom (terminalAfter (lineHere images letters a ts) (a .answer .bus .periods)) 0 (exchangedHere images letters a ts) ≡ mapFrom (followed (loneAfterFour images (a .lone))) 0 ts
-  pub notes-are : mapFrom (notesAfter (lineHere images letters a ts) (a .answer .bus .periods)) 0 (exchangedHere images letters a ts) ≡ replicate (length ts) noNotes
-  pub told-is : foldFrom (toldAfter (lineHere images letters a ts) (a .answer .bus .periods)) 0 false (exchangedHere images letters a ts) ≡ false
+  pub tally-is : stepTally (a .answer .bus) (terminalsHere a ts) images letters
+      ≡ loneTally images (a .answer .bus .network .state) (a .lone)
+  pub terminals-are : mapFrom (terminalAfter (lineHere images letters a ts) (a .answer .bus .periods)) 0
+      (exchangedHere images letters a ts) ≡ mapFrom (followed (loneAfterFour images (a .lone))) 0 ts
+  pub notes-are : mapFrom (notesAfter (lineHere images letters a ts) (a .answer .bus .periods)) 0 (exchangedHere images letters a ts)
+      ≡ replicate (length ts) noNotes
+  pub told-is : foldFrom (toldAfter (lineHere images letters a ts) (a .answer .bus .periods)) 0 false (exchangedHere images letters a ts)
+      ≡ false
 
 abbrev pub PeriodAlone : Type 0
 PeriodAlone =

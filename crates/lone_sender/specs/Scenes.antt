@@ -19,7 +19,8 @@ use Rattle.terminal.specs.declared.Terminal.{Terminal}
 use Rattle.bus_rules.specs.Quick.{shownBy}
 use Rattle.exchange.specs.Part.{imageBit}
 use Rattle.period_hearing.specs.Hears.{rests}
-use Rattle.lone_sender.specs.Lone.{countedAt, loneBit, loneAfterE, loneSends, loneAfterFour, loneGoes, loneStation, loneStations, senderIn}
+use Rattle.lone_sender.specs.Lone.{countedAt, loneBit, loneAfterE, loneSends, loneAfterFour, loneGoes, loneStation}
+use Rattle.lone_sender.specs.Lone.{loneStations, senderIn}
 use Rattle.lone_sender.specs.Search.{senderAfter, fitsIn, searchedOne, searched, aloneFor}
 use Rattle.lone_sender.specs.declared.search.Search.{Search}
 
@@ -42,7 +43,8 @@ abbrev one-sends : List Terminal
 one-sends = terminal.fresh ∷ holding 9 3 0 ∷ holding 0 3 1020 ∷ []
 
 -- it is found, until T3 of the third, and is the one that `lone-four` asks for
-pub found : (aloneFor (search one-sends) ≡ 19) × (search one-sends .lone .at ≡ 1) × (loneStations 1 200 0 one-sends ≡ true) × (senderIn 1 0 one-sends ≡ true)
+pub found : (aloneFor (search one-sends) ≡ 19) × (search one-sends .lone .at ≡ 1) × (loneStations 1 200 0 one-sends ≡ true)
+    × (senderIn 1 0 one-sends ≡ true)
 unfolding aloneFor searched searchedOne senderAfter fitsIn clear rests shownBy infoIn foldFrom loneStations loneStation senderIn
 found = (refl, refl, refl, refl)
 
@@ -50,16 +52,20 @@ found = (refl, refl, refl, refl)
 abbrev images : List ℕ
 images = replicate 400 85
 
-pub period : (loneGoes images (search one-sends .lone) ≡ true) × (loneAfterFour images (search one-sends .lone) .sent ≡ 13) × (loneAfterFour images (search one-sends .lone) .count ≡ 0)
-unfolding searched searchedOne senderAfter fitsIn clear rests shownBy infoIn foldFrom loneGoes loneSends loneAfterE loneAfterFour countedAt countAfter loneBit imageBit packedBit bitOf
+pub period : (loneGoes images (search one-sends .lone) ≡ true) × (loneAfterFour images (search one-sends .lone) .sent ≡ 13)
+    × (loneAfterFour images (search one-sends .lone) .count ≡ 0)
+unfolding searched searchedOne senderAfter fitsIn clear rests shownBy infoIn foldFrom loneGoes loneSends loneAfterE loneAfterFour
+    countedAt countAfter loneBit imageBit packedBit bitOf
 period = (refl, refl, refl)
 
 -- at a C of 7 the one that waits would start
 pub not-at-7 : loneGoes images (search (holding 9 7 0 ∷ holding 0 7 0 ∷ []) .lone) ≡ false
-unfolding searched searchedOne senderAfter fitsIn clear rests shownBy infoIn foldFrom loneGoes loneSends loneAfterE countedAt countAfter loneBit imageBit packedBit bitOf
+unfolding searched searchedOne senderAfter fitsIn clear rests shownBy infoIn foldFrom loneGoes loneSends loneAfterE countedAt
+    countAfter loneBit imageBit packedBit bitOf
 not-at-7 = refl
 
 -- not found: two that send, another C, nobody that sends
-pub not-found : aloneFor (search (holding 9 3 0 ∷ holding 9 3 0 ∷ [])) ∷ aloneFor (search (holding 9 3 0 ∷ holding 0 4 0 ∷ [])) ∷ aloneFor (search (holding 0 3 0 ∷ [])) ∷ [] ≡ replicate 3 0
+pub not-found : aloneFor (search (holding 9 3 0 ∷ holding 9 3 0 ∷ [])) ∷ aloneFor (search (holding 9 3 0 ∷ holding 0 4 0 ∷ []))
+    ∷ aloneFor (search (holding 0 3 0 ∷ [])) ∷ [] ≡ replicate 3 0
 unfolding aloneFor searched searchedOne senderAfter fitsIn clear rests shownBy infoIn foldFrom
 not-found = refl

@@ -38,7 +38,8 @@ senderAfter i s t =
 -- whether a terminal rests while the network end in G3 is heard, counts as those before it and is no second one that sends
 unfoldable pub fitsIn : Search → Terminal → Bool
 fitsIn a t =
-    (rests (shownBy G3) t && ((not (counting t) || not (a .counts)) || eqb (t .access .count) (a .lone .count))) && not (a .sends && sendingNow t)
+    (rests (shownBy G3) t && ((not (counting t) || not (a .counts)) || eqb (t .access .count) (a .lone .count)))
+    && not (a .sends && sendingNow t)
 
 unfoldable pub searchedOne : Periods → ℕ → Search → Terminal → Search
 searchedOne period i a t =
@@ -52,7 +53,13 @@ searchedOne period i a t =
 
 abbrev pub noSearch : ℕ → Search
 noSearch most =
-    record { lone = record { at = 0; length = 0; sent = 0; count = 0; last = true }; over = most; counts = false; sends = false; fits = true }
+    record {
+      lone = record { at = 0; length = 0; sent = 0; count = 0; last = true };
+      over = most;
+      counts = false;
+      sends = false;
+      fits = true;
+    }
 
 unfoldable pub searched : Periods → ℕ → List Terminal → Search
 searched period most ts = foldFrom (searchedOne period) 0 (noSearch most) ts

@@ -7,7 +7,8 @@ use Prim.Native.Nat.{ℕ}
 use Prim.Native.Char.{code}
 use Prim.Native.String.{String, [], _∷_}
 use lib.ListN.{getD}
-use Rattle.notes_and_cells.specs.Notes.{PH-ACT, PH-DEACT, MPH-ACT, MPH-DEACT, MPH-EI, MPH-EI1, MPH-EI2, MPH-II-CONNECTED, MPH-II-DISCONNECTED, HEARD, TORN, DONE1, DONE2, DROPPED1, DROPPED2, REFUSED}
+use Rattle.notes_and_cells.specs.Notes.{PH-ACT, PH-DEACT, MPH-ACT, MPH-DEACT, MPH-EI, MPH-EI1, MPH-EI2, MPH-II-CONNECTED}
+use Rattle.notes_and_cells.specs.Notes.{MPH-II-DISCONNECTED, HEARD, TORN, DONE1, DONE2, DROPPED1, DROPPED2, REFUSED}
 
 -- The ASCII codes of a text.
 abbrev pub ascii : String → List ℕ

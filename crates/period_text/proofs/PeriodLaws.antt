@@ -101,7 +101,7 @@ module _ {form : Form} {room₀ : List ℕ} {wrote now : ℕ} {ns : List UnitNot
     (l : Hearing form room₀ wrote now ns done1 done2 room first second at i) where
   pub hearing-next : (d : UnitNotes) {room′ : List ℕ} {at′ : ℕ} → i < terminals
       → Put room at
-      (notesIn form (notesOf now (i + 1) (doneNotes (eqb (first % 2) 1) (eqb (second % 2) 1) ++ noted (getD ns i d .heard)))) at′ room′
+      (notesIn form (notesOf now (i + 1) (doneNotes (eqb (first % 2) 1) (eqb (second % 2) 1) ++ noted (getD ns i d .hearing)))) at′ room′
       → Hearing form room₀ wrote now ns done1 done2 room′ (first / 2) (second / 2) at′ (i + 1)
   unfolding bitOf
   hearing-next d {room′} {at′} h q =

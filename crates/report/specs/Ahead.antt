@@ -48,7 +48,8 @@ unfoldable pub textAhead : BookState → List ℕ → List ℕ
 textAhead s left =
     cond (s .over) []
     (cond (s .begun) [] heading
-    ++ (notesText (allBookTold (s .kept) (callsOfAnswers (s .kept .bus .periods .0) (answersAhead s left))) ++ stopOf (answersAhead s left)))
+    ++ (notesText (allBookTold (s .kept) (callsOfAnswers (s .kept .bus .periods .0) (answersAhead s left)))
+    ++ stopOf (answersAhead s left)))
 
 -- ---- One call with lent text and room. Why it stopped: 0 where it goes on.
 abbrev pub TEXT : ℕ
@@ -61,7 +62,8 @@ abbrev pub OVER : ℕ
 OVER = 3
 
 -- It has taken so many octets of the text and written so many into the room. `whole` says that no octets come later.
-pub record Advanced (s : BookState) (text room : List ℕ) (whole : Bool) (s′ : BookState) (taken wrote why : ℕ) (room′ : List ℕ) : Type 0 where
+pub record Advanced (s : BookState) (text room : List ℕ) (whole : Bool) (s′ : BookState) (taken wrote why : ℕ)
+    (room′ : List ℕ) : Type 0 where
   -- the calls that it has made on the bus are the next ones, and it has left what they left
   pub made : List Call
   pub left : s′ .kept ≡ doneAll (s .kept) made
@@ -86,7 +88,8 @@ pub record Advanced (s : BookState) (text room : List ℕ) (whole : Bool) (s′ 
   pub over-said : s′ .over ≡ true → why ≡ OVER
 
 -- so that it has stopped for one of these
-pub record Stopped (s : BookState) (text room : List ℕ) (whole : Bool) (s′ : BookState) (taken wrote why : ℕ) (room′ : List ℕ) : Type 0 where
+pub record Stopped (s : BookState) (text room : List ℕ) (whole : Bool) (s′ : BookState) (taken wrote why : ℕ)
+    (room′ : List ℕ) : Type 0 where
   pub went : Advanced s text room whole s′ taken wrote why room′
   pub goes-not-on : why ≡ 0 → ⊥
   pub listed : why ≤ OVER

@@ -84,4 +84,5 @@ OneRun = (k : Kept) (n : ℕ) → Ready k → 1 ≤ n → k .bus .periods .0 + n
 abbrev pub RunFits : Type 0
 RunFits =
     (k : Kept) (n : ℕ) → Ready k → 1 ≤ n → k .bus .periods .0 + n ≤ mostPeriods
-    → length (notesText (periodTold (runAnswer n k .bus .periods .0 - 1) (runAnswer n k) (keptAfter n k .notes) (keptAfter n k .octets))) ≤ periodRoom
+    → length (notesText (periodTold (runAnswer n k .bus .periods .0 - 1) (runAnswer n k) (keptAfter n k .notes)
+    (keptAfter n k .octets))) ≤ periodRoom

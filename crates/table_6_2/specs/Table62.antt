@@ -90,7 +90,8 @@ signalReceived = impossible ∷ stay ∷ stay ∷ to F5 [] ∷ stay ∷ impossib
 
 -- INFO 2 is received.
 abbrev pub info2Received : List Cell
-info2Received = impossible ∷ to F6 (MPH-II-CONNECTED ∷ []) ∷ to F6 [] ∷ to F6 [] ∷ to F6 [] ∷ stay ∷ to F6 (MPH-EI1 ∷ []) ∷ to F6 (MPH-EI2 ∷ []) ∷ []
+info2Received =
+    impossible ∷ to F6 (MPH-II-CONNECTED ∷ []) ∷ to F6 [] ∷ to F6 [] ∷ to F6 [] ∷ stay ∷ to F6 (MPH-EI1 ∷ []) ∷ to F6 (MPH-EI2 ∷ []) ∷ []
 
 -- INFO 4 is received.
 abbrev pub info4Received : List Cell
@@ -111,7 +112,8 @@ alignmentLost = impossible ∷ impossible ∷ impossible ∷ impossible ∷ impo
 
 -- The whole table. The events are numbered from 1 in the order of its rows.
 abbrev pub table62 : List (List Cell)
-table62 = powerOn ∷ powerOff ∷ activationRequest ∷ t3Expiry ∷ info0Received ∷ signalReceived ∷ info2Received ∷ info4Received ∷ alignmentLost ∷ []
+table62 =
+    powerOn ∷ powerOff ∷ activationRequest ∷ t3Expiry ∷ info0Received ∷ signalReceived ∷ info2Received ∷ info4Received ∷ alignmentLost ∷ []
 
 -- The numbers of the events.
 abbrev pub ON-ROW : ℕ

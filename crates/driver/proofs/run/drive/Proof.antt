@@ -35,7 +35,7 @@ fresh-requires c κs = search needs
 turn-requires : tie.Need-turn-requires Inv-loop μ-loop
 turn-requires c κs =
     let fresh = c .before .before .before .before .before in
-    let p = fresh .before .before .before .before .before .before .pre in (starts _ _ _ _ _ (fresh .fresh .ensures) (p .1 .0) (p .1 .1) (p .1 .2), p .0 .0, p .0 .1)
+    let p = fresh .before .before .before .before .before .before .pre in (starts _ _ _ _ _ (fresh .fresh .ensures) (p .1 .1 .0) (p .1 .1 .1 .0) (p .1 .1 .1 .1), (p .0, p .1 .0))
 
 sub-turns : tie.Need-sub-turns Inv-loop μ-loop
 sub-turns c = search needs
@@ -46,10 +46,10 @@ loop-holds c =
     let fresh = t .before .before .before .before .before .before in
     let p = fresh .before .before .before .before .before .before .pre in (
       λ ts rs is os ls s. s,
-      goes-on _ _ _ _ _ _ _ _ _ _ _ _ _ (starts _ _ _ _ _ (fresh .fresh .ensures) (p .1 .0) (p .1 .1) (p .1 .2)) (t .turn .ensures),
-      omega (arith, t .turn .kept .1 .0, p .0 .0),
+      goes-on _ _ _ _ _ _ _ _ _ _ _ _ _ (starts _ _ _ _ _ (fresh .fresh .ensures) (p .1 .1 .0) (p .1 .1 .1 .0) (p .1 .1 .1 .1)) (t .turn .ensures),
+      omega (arith, t .turn .kept .1 .0, p .0),
       refl,
-      p .0 .1,
+      p .1 .0,
       refl,
       refl,
       refl,
@@ -58,7 +58,7 @@ loop-holds c =
 
 turn-requires-2 : tie.Need-turn-requires-2 Inv-loop μ-loop
 turn-requires-2 c κs =
-    let i = c .before .before .before .before .before .before .before .before .loop .inv in (i .1, omega (arith, i .2, i .3), i .4)
+    let i = c .before .before .before .before .before .before .before .before .loop .inv in (i .1, (omega (arith, i .2, i .3), i .4))
 
 sub-turns-2 : tie.Need-sub-turns-2 Inv-loop μ-loop
 sub-turns-2 c =

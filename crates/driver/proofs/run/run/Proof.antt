@@ -26,8 +26,8 @@ slice-aggregate-drive-4 c = search needs
 drive-requires : tie.Need-drive-requires
 drive-requires c κs =
     let p = c .before .before .before .before .before in (
-      (omega (arith, p .before .large-buffer .ensures), ⊎-elim (λ w. omega (arith, w .1)) (λ w. omega (arith, w .0 .left, w .1)) (p .if2 .came)),
-      (refl, omega arith, any-letters),
+      omega (arith, p .before .large-buffer .ensures),
+      (⊎-elim (λ w. omega (arith, w .1)) (λ w. omega (arith, w .0 .left, w .1)) (p .if2 .came), (refl, (omega arith, any-letters))),
     )
 
 same-length : tie.Need-same-length

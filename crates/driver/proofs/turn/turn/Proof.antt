@@ -10,7 +10,7 @@ use Rattle.driver.proofs.turn.turn.Tie as tie
 fill-requires : tie.Need-fill-requires
 fill-requires c κs =
     let p = c .before .before .before .before .before .before .pre in
-    (p .0 .within, λ y. omega (arith, p .0 .few y, p .1), p .2)
+    (p .0 .within, (λ y. omega (arith, p .0 .few y, p .1 .0), p .1 .1))
 
 slice-reshare-prefix-go-on : tie.Need-slice-reshare-prefix-go-on
 slice-reshare-prefix-go-on c = search needs
