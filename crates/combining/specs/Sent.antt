@@ -1,5 +1,5 @@
 -- Rules: what the terminals send upward (document 01, "The line": INFO 0, INFO 1, INFO 3).
--- Interface: `Sent`, `sentLine`. Assumes nothing.
+-- Interface: `Sent`, `silent`, `calling`, `frame`, `sentLine`. Assumes nothing.
 use mathlib.Core.Bool.{Bool, true, false, not, cond, _||_}
 use mathlib.Core.List.{List, [], _∷_}
 use Prim.Native.Nat.{ℕ}

@@ -168,7 +168,8 @@ impl Network {
 
     // An event of table 6-3; the reply at a cell that is impossible or empty is barred.
     fn happens(self, barred: u8, event: u8, now: Periods) -> NetworkStep
-        ensures { λ r. ⌜ r ≡ cond (isVoid (cellOf table63 event (self .state))) (spec.unchanged barred self) (spec.happens event (now .0) self) ⌝ }
+        ensures { λ r. ⌜ r ≡ cond (isVoid (cellOf table63 event (self .state)))
+            (spec.unchanged barred self) (spec.happens event (now .0) self) ⌝ }
     {
         let found = cell(event, self.state);
         match found {
