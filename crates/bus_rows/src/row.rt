@@ -103,7 +103,7 @@ pub(crate) fn said(p: HeldRun, body: &[u8]) {
 }
 
 // The notes of the terminals: of completed frames, bit i for terminal i + 1, and of their hearing or their timers.
-fn of_terminals(ns: [UnitNotes; 8], done1: u8, done2: u8, timers: bool) {
+fn of_terminals(ns: [UnitNotes; 8], done1: u8, done2: u8, timed: bool) {
     let mut first = done1;
     let mut second = done2;
     let mut i: usize = 0;
