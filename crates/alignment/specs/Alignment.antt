@@ -8,14 +8,16 @@ use lib.Dec.{ltb}
 use Rattle.alignment.specs.declared.Alignment.{Alignment}
 use Rattle.alignment.specs.declared.Followed.{Followed}
 
--- "Three framed periods running give alignment. Two unframed periods running, each with a pulse, lose it, at both ends."
+-- "Three framed periods running give alignment. Two unframed periods running, each with a pulse,
+-- lose it, at both ends."
 abbrev pub framedToGain : ℕ
 framedToGain = 3
 
 abbrev pub unframedToLose : ℕ
 unframedToLose = 2
 
--- Not aligned, or aligned, with a run of so many periods: framed ones, or unframed ones with a pulse.
+-- Not aligned with a run of n framed periods, and aligned with a run of n unframed ones, each with
+-- a pulse.
 abbrev pub unaligned : ℕ → Alignment
 unaligned n = record { aligned = false; run = n }
 

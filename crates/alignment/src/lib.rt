@@ -2,25 +2,28 @@
 ghost use mathlib.Core.Path.{_≡_};
 ghost use Rattle.alignment.specs.Alignment as spec;
 
-// Framed periods running that give alignment, and unframed ones running, each with a pulse, that lose it.
+// How many framed periods running give alignment, and how many unframed ones running, each with a
+// pulse, lose it.
 const FRAMED_TO_GAIN: u8 = 3;
 
 const UNFRAMED_TO_LOSE: u8 = 2;
 
+// Whether an end is aligned, and its run: the periods that count towards a change of that.
 pub struct Alignment {
     pub aligned: bool,
-    // Framed periods running while unaligned, unframed ones with a pulse while aligned.
+    // While unaligned, how many framed periods are running; while aligned, how many unframed ones,
+    // each with a pulse.
     pub run: u8,
 }
 
-// What a period makes of it, and whether it gives the event of loss.
+// What a period makes of alignment, and whether it gives the event of loss.
 pub struct Followed {
     pub alignment: Alignment,
     pub lost: bool,
 }
 
 impl Alignment {
-    // Not aligned, with no run.
+    // Gives an end that is not aligned, with no run.
     pub fn fresh() -> Self
         ensures { λ r. ⌜ r ≡ spec.fresh ⌝ }
     {
@@ -30,14 +33,16 @@ impl Alignment {
         }
     }
 
+    // Tests whether the run is in its range.
     pub fn in_range(self) -> bool
         ensures { λ r. ⌜ r ≡ spec.alignmentInRange self ⌝ }
     {
         self.run < FRAMED_TO_GAIN
     }
 
-    // A period passes, with or without a pulse, framed or not. A framed one counts while unaligned, an unframed one with a pulse while
-    // aligned; the run stays short of what changes alignment, or alignment changes.
+    // Follows a period, with or without a pulse, framed or not. A framed one counts while
+    // unaligned, an unframed one with a pulse while aligned. One that counts makes the run longer,
+    // or changes alignment where the run is then long enough.
     pub fn follow(self, pulse: bool, framed: bool) -> Followed
         ensures { λ r. ⌜ r ≡ spec.followed spec.framedToGain spec.unframedToLose pulse framed self ⌝ }
     {

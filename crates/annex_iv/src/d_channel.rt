@@ -4,8 +4,9 @@ use super::print::say;
 use dchannel::access::Access;
 use dchannel::access::Class;
 
-// Tests (a), (b) and (c) in a class, given with its number. In (b) an echo differs from the first bit after the opening flag, a 1 or a
-// 0, and from the closing flag's last 0, before which six 1s have been echoed.
+// Runs tests (a), (b) and (c) in a class, given with its number k. In (b) an echo differs from the
+// first bit after the opening flag, a 1 or a 0, and from the closing flag's last 0, before which
+// six 1s have been echoed.
 pub(crate) fn tests(k: u8, class: Class) {
     mismatch(k, false, false);
     mismatch(k, false, true);
@@ -18,7 +19,8 @@ pub(crate) fn tests(k: u8, class: Class) {
     returns(k);
 }
 
-// A frame of class k is held and some of its bits have left, with C as it is then.
+// Gives a record that holds a frame of class k, of which `sent` bits have left, with the last of
+// them, the levels and C as they are then.
 fn holding(k: u8, low: bool, sent: u16, count: u8, last: bool) -> Access {
     Access {
         length: 24,
@@ -31,7 +33,7 @@ fn holding(k: u8, low: bool, sent: u16, count: u8, last: bool) -> Access {
     }
 }
 
-// A level, and a bit that left with its echo, which differs.
+// Prints a level, and a bit that left with its echo, which differs.
 fn echo(low: bool, sent: bool) {
     if low {
         say(b" low");
@@ -42,7 +44,7 @@ fn echo(low: bool, sent: bool) {
     number(b" echo ", !sent as u8);
 }
 
-// (a): an echo that differs stops the sending, and the next D is 1.
+// Runs (a): an echo that differs stops the sending, and the next D is 1.
 fn mismatch(k: u8, low: bool, last: bool) {
     number(b"\nIV.2.2 a class ", k);
     echo(low, last);
@@ -50,7 +52,7 @@ fn mismatch(k: u8, low: bool, last: bool) {
     number(b" D ", turn.d as u8);
 }
 
-// (b): after an echo that differs, how many 1s of the echo go before the start.
+// Runs (b): after an echo that differs, how many 1s of the echo go before the start.
 fn starts_over(k: u8, sent: u16, count: u8, last: bool) {
     number(b"\nIV.2.2 b class ", k);
     echo(false, last);
@@ -58,7 +60,8 @@ fn starts_over(k: u8, sent: u16, count: u8, last: bool) {
     settles(b" starts after ", turn.access);
 }
 
-// (c): after a sent frame, how many 1s of the echo go before the next one's start ..
+// Runs (c) with a next frame: after a sent frame, how many 1s of the echo go before the next one's
+// start.
 fn starts_again(k: u8, class: Class) {
     number(b"\nIV.2.2 c class ", k);
     say(b" low");
@@ -66,20 +69,21 @@ fn starts_again(k: u8, class: Class) {
     settles(b" starts after ", handed.access);
 }
 
-// .. or bring a terminal without a frame back to the normal level.
+// Runs (c) without one: how many 1s of the echo bring the terminal back to the normal level.
 fn returns(k: u8) {
     number(b"\nIV.2.2 c class ", k);
     say(b" low");
     settles(b" normal after ", done(k));
 }
 
-// The record after a frame of class k has been sent: the echo of its last bit, a 0, agrees.
+// Gives the record after a frame of class k has been sent: the echo of its last bit, a 0, agrees.
 fn done(k: u8) -> Access {
     let turn = holding(k, false, 24, 0, false).access_step(false, false);
     turn.access
 }
 
-// C; the 1s of the echo, at most 20, until a held frame starts or, without one, both levels are normal; and C then.
+// Prints C; how many 1s of the echo come, at most 20, until a held frame starts or, without one,
+// both levels are normal; and C then.
 fn settles(text: &[u8], access: Access) {
     number(b" C ", access.count);
     let mut a = access;

@@ -1,7 +1,8 @@
-// Annex IV of JT-I430 run against the calls: tables IV-2 and IV-3 row by row, and the tests of IV.2.2. A row has its number, the state,
-// the stimulus, the next state and the INFO that is sent there, as the annex has them; then the reply, the notes and the period at
-// whose start each timer is due, as tables 6-2 and 6-3 and document 01 have them. `stdout` is written from those. IV.2.1, the echo, is in
-// `bus_rows`.
+// Annex IV of JT-I430 run against the calls: tables IV-2 and IV-3 row by row, and the tests of
+// IV.2.2. A row has its number, the state, the stimulus, the next state and the INFO that is sent
+// there, as the annex has them; then the reply, the notes and the period at whose start each timer
+// is due, as tables 6-2 and 6-3 and document 01 have them. `stdout` is written from those. IV.2.1,
+// the echo, is in `bus_rows`.
 ghost use Prim.Native.Nat.{_≤_};
 ghost use lib.ListN.{length};
 use dchannel::access::Class;
@@ -25,7 +26,8 @@ const ONES: Four = Four {
     fourth: true,
 };
 
-// The tests of table IV-2 or IV-3 in a state, numbered from the first on, by their stimuli: events of table 6-3 or 6-2.
+// Runs the tests of table IV-2 or IV-3 in a state, numbered from `first` on, by their stimuli:
+// events of table 6-3 or 6-2.
 fn tests(table: u8, first: u8, state: u8, events: &[u8])
     requires { ⌜ first ≤ 64 ⌝ }
     requires { ⌜ length (now events) ≤ 8 ⌝ }
@@ -44,7 +46,7 @@ fn tests(table: u8, first: u8, state: u8, events: &[u8])
     }
 }
 
-// What a row has before the next state.
+// Prints what a row has before the next state.
 fn before(table: u8, test: u8, state: u8, event: u8) {
     number(b"\nIV-", table);
     number(b" ", test);
@@ -65,7 +67,7 @@ fn before(table: u8, test: u8, state: u8, event: u8) {
     }
 }
 
-// A timer before a stimulus: it is due now, or runs until later, or does not run.
+// Gives a timer before a stimulus: it is due now, or, if it runs, at `later`, or does not run.
 fn due(now: bool, runs: bool, later: u64) -> u64 {
     if now {
         return NOW as u64;

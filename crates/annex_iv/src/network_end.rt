@@ -25,6 +25,7 @@ use table_6_3::T2_ROW;
 use table_6_3::info_sent;
 use timing::counts::Periods;
 
+// Runs the rows of the table, state by state.
 pub(crate) fn rows() {
     tests(2, 1, 1, &[AR_ROW, T1_ROW, T2_ROW, INFO_0_ROW, INFO_1_ROW]);
     tests(
@@ -55,6 +56,7 @@ pub(crate) fn rows() {
     );
 }
 
+// Runs one row: prints what comes of the stimulus.
 pub(crate) fn test(state: u8, event: u8) {
     let step = meets(unit(state, event), event);
     let next = step.network.state;
@@ -63,7 +65,7 @@ pub(crate) fn test(state: u8, event: u8) {
     timer(b" T2 ", step.network.t2);
 }
 
-// The stimulus, given to a unit.
+// Gives the stimulus to a unit.
 fn meets(unit: Network, event: u8) -> NetworkStep {
     if event <= DR_ROW {
         return unit.request(event, Periods(NOW));
@@ -74,8 +76,8 @@ fn meets(unit: Network, event: u8) -> NetworkStep {
     unit.hear(upward(event), Periods(NOW))
 }
 
-// Before the stimulus both timers run; to hear INFO 0, INFO 3 or a loss, the unit is in alignment and one unframed period short of
-// losing it.
+// Gives the unit as it is before the stimulus: both timers run; to hear INFO 0, INFO 3 or a loss,
+// the unit is in alignment and one unframed period short of losing it.
 fn unit(state: u8, event: u8) -> Network {
     let aligned = (event == INFO_0_ROW) | (event == INFO_3_ROW) | (event == LOSS_ROW);
     Network {
@@ -89,7 +91,7 @@ fn unit(state: u8, event: u8) -> Network {
     }
 }
 
-// What the stimulus's line shows: for a loss, a single pulse.
+// Gives what the stimulus's line shows: for a loss, a single pulse.
 fn upward(event: u8) -> Upward {
     let mut line = [0u8; 48];
     match event {
@@ -107,7 +109,7 @@ fn upward(event: u8) -> Upward {
     shown(&line)
 }
 
-// What a line shows; a refused one, which shows nothing, is told.
+// Gives what a line shows; the refusal of one that is refused is printed, and it shows nothing.
 fn shown(line: &[u8; 48]) -> Upward {
     let sensed = sense_up(line);
     match sensed {

@@ -4,17 +4,18 @@ ghost use lib.ListN.{length};
 use libc::STDOUT_FILENO;
 use notes_and_cells::notes::Notes;
 
+// Prints a text.
 pub(crate) fn say(text: &[u8]) {
     io::write_all(STDOUT_FILENO, text);
 }
 
-// A text and a number.
+// Prints a text and a number.
 pub(crate) fn number(text: &[u8], n: u8) {
     say(text);
     io::print_decimal(STDOUT_FILENO, n as u64);
 }
 
-// A text, and the period at whose start a timer is due.
+// Prints a text, and the period at whose start a timer is due, `-` for none.
 pub(crate) fn timer(text: &[u8], due: u64) {
     say(text);
     if due == 0 {
@@ -24,7 +25,7 @@ pub(crate) fn timer(text: &[u8], due: u64) {
     }
 }
 
-// A state and a stimulus, by its name in a list of ten.
+// Prints a state and a stimulus, by its name in a list of ten.
 pub(crate) fn stimulus(letter: &[u8], state: u8, names: &[u8], event: u8)
     requires { ⌜ 100 ≤ length (now names) ⌝ }
 {
@@ -34,7 +35,7 @@ pub(crate) fn stimulus(letter: &[u8], state: u8, names: &[u8], event: u8)
     }
 }
 
-// The next state, the INFO that is sent there, the reply and the notes.
+// Prints the next state, the INFO that is sent there, the reply and the notes.
 pub(crate) fn outcome(letter: &[u8], state: u8, info: u8, reply: u8, n: Notes) {
     number(letter, state);
     number(b" I", info);
@@ -46,7 +47,7 @@ pub(crate) fn outcome(letter: &[u8], state: u8, info: u8, reply: u8, n: Notes) {
     note(n.4);
 }
 
-// One of a list of names, each of ten characters, counted from 0.
+// Prints name k, counted from 0, of a list of names of ten characters each.
 fn name(names: &[u8], k: u8)
     requires { ⌜ k * 10 + 10 ≤ length (now names) ⌝ }
 {
@@ -55,7 +56,8 @@ fn name(names: &[u8], k: u8)
     say(&names[at..end]);
 }
 
-// A note by its code, 0 for none. The standard's MPH-II(c) is for connected and MPH-II(d) for disconnected.
+// Prints a note by its code, and nothing for 0. The standard's MPH-II(c) is for connected and
+// MPH-II(d) for disconnected.
 fn note(code: u8) {
     if code == 0 {
         return;

@@ -27,6 +27,7 @@ use terminal::Terminal;
 use terminal::TerminalStep;
 use timing::counts::Periods;
 
+// Runs the rows of the table, state by state.
 pub(crate) fn rows() {
     tests(3, 1, 1, &[ON_ROW, T3_ROW]);
     tests(
@@ -118,6 +119,7 @@ pub(crate) fn rows() {
     );
 }
 
+// Runs one row: prints what comes of the stimulus.
 pub(crate) fn test(state: u8, event: u8) {
     let step = meets(unit(state, event), event);
     let next = step.terminal.state;
@@ -125,7 +127,7 @@ pub(crate) fn test(state: u8, event: u8) {
     timer(b"T3 ", step.terminal.t3);
 }
 
-// The stimulus, given to a unit.
+// Gives the stimulus to a unit.
 fn meets(unit: Terminal, event: u8) -> TerminalStep {
     if event == ON_ROW {
         return unit.switch_on(Periods(NOW));
@@ -142,8 +144,8 @@ fn meets(unit: Terminal, event: u8) -> TerminalStep {
     unit.hear(downward(event), Periods(NOW))
 }
 
-// Before the stimulus T3 runs in every state in which it may run; to hear an INFO or a loss, the unit is in alignment and one unframed
-// period short of losing it.
+// Gives the unit as it is before the stimulus: T3 runs in every state in which it may run; to hear
+// an INFO or a loss, the unit is in alignment and one unframed period short of losing it.
 fn unit(state: u8, event: u8) -> Terminal {
     let aligned = (event == INFO_0_ROW) | (INFO_2_ROW <= event);
     let runs = (2 < state) & (state != 7);
@@ -158,7 +160,7 @@ fn unit(state: u8, event: u8) -> Terminal {
     }
 }
 
-// What the stimulus's line shows: for a signal or a loss, a single pulse.
+// Gives what the stimulus's line shows: for a signal or a loss, a single pulse.
 fn downward(event: u8) -> Downward {
     let mut line = [0u8; 48];
     match event {
@@ -176,7 +178,7 @@ fn downward(event: u8) -> Downward {
     shown(&line)
 }
 
-// What a line shows; a refused one, which shows nothing, is told.
+// Gives what a line shows; the refusal of one that is refused is printed, and it shows nothing.
 fn shown(line: &[u8; 48]) -> Downward {
     let sensed = sense_down(line);
     match sensed {

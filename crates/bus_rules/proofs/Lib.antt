@@ -1,7 +1,9 @@
--- What is on the line without building it (Quick), and that nothing later changes what was taken (Later); the terminals of a bus through each
--- call (Seats, Simulation: a list of actions on the D channel) and what always holds of them (Always); demand 3 (Mapping, Stretches, Demand3)
--- and that it is not empty (Exists); the notes of every call (Telling); refusals (Refusals, Barred); the frames that a terminal completes in a
--- period (OneDone); every field in its range (Ranges); INFO 1 never beside INFO 3 (Apart).
+-- What is on the line without building it (Quick), and that nothing later changes what was taken
+-- (Later); the terminals of a bus through each call (Stations, Simulation: a list of actions on the
+-- D channel) and what always holds of them (Always); demand 3 (Mapping, Stretches, Demand3) and
+-- that it is not empty (Exists); the notes of every call (Telling); refusals (Refusals, Barred);
+-- the frames that a terminal completes in a period (OneDone); every field in its range (Ranges);
+-- INFO 1 never beside INFO 3 (Apart).
 pub mod Quick
 pub mod Stations
 pub mod Mapping

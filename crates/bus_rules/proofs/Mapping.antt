@@ -1,4 +1,4 @@
--- The bus as the D channel of crate `contention` sees it, and a moment of the exchange.
+-- The bus as the D channel of crate `contention` sees it, and one D opportunity of its exchange.
 use mathlib.Core.Path.{_≡_, refl, _∙_}
 use mathlib.Core.Bool.{Bool, false}
 use mathlib.Core.List.{List, [], _∷_, map}

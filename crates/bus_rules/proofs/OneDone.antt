@@ -1,5 +1,6 @@
--- A period's exchange, terminal by terminal: the four turns of each, and that at most one frame of a terminal is completed in a period, the
--- one that it holds at the start. So one bit for each class says what is completed.
+-- A period's exchange, terminal by terminal: the four D opportunities of each, and that at most one
+-- frame of a terminal is completed in a period, the one that it holds at the start. So one bit for
+-- each class says what is completed.
 use mathlib.Core.Path.{_≡_, refl, ap, _∙_}
 use mathlib.Core.Bool.{Bool, true, cond, _||_}
 use mathlib.Core.List.{List, [], _∷_, _++_, map, map-map, append-nil}

@@ -51,8 +51,8 @@ freshStation = record { terminal = terminal.fresh; image = image []; body = [] }
 abbrev pub stationAt : ℕ → Bus → Station
 stationAt i b = getD (b .stations) i freshStation
 
--- "A fresh bus is in G1 and F1, unaligned, with no timer running and all levels normal." The last D heard is 1 (docs/DECISIONS.md,
--- reading 4).
+-- "A fresh bus is in G1 and F1, unaligned, with no timer running and all levels normal." The last D
+-- heard is 1 (docs/DECISIONS.md, reading 4).
 abbrev pub freshBus : Bus
 freshBus =
     record {
@@ -65,8 +65,9 @@ freshBus =
       stations = replicate terminals freshStation;
     }
 
--- A note: "The fields are the period, the unit, the note and its value." The note is its code, and the value of MPH-II is in its code; the
--- value of `heard` is the body, others have none. `refused` is the book's: no call has a note of it.
+-- A note: "The fields are the period, the unit, the note and its value." The note is its code, and
+-- the value of MPH-II is in its code; the value of `heard` is the body, others have none. `refused`
+-- is the book's: no call has a note of it.
 pub record Note : Type 0 where
   pub period : ℕ
   pub unit : ℕ

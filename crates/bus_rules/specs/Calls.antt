@@ -11,7 +11,8 @@ use Rattle.bus_rules.specs.Bus.{Bus, Note}
 use Rattle.bus_rules.specs.Period.{periodRun, periodNotes}
 use Rattle.bus_rules.specs.Event.{refusal, eventDone, eventNotes}
 
--- "A call on a bus gives it one of the book's events but `end`, or runs a period": any unit, event number and value
+-- "A call on a bus gives it one of the book's events but `end`, or runs a period": any unit, event
+-- number and value
 pub data Call : Type 0 where
   event : ℕ → ℕ → List ℕ → Call
   period : Call
@@ -46,16 +47,16 @@ unfoldable pub notesOfAll : Bus → List Call → List Note
 notesOfAll b [] = []
 notesOfAll b (c ∷ more) = notes b c ++ notesOfAll (after b c) more
 
--- ---- A run: periods until so many are run, or one hands back notes, or the bus has run 4,000,000.
--- It is no call of its own but that many calls of `period`, and hands back their notes: those of
--- the last one, since the others have none.
+-- ---- A run of at most `most` periods: they are run until that many are, or one hands back notes,
+-- or the bus has run 4,000,000. It is no call of its own but one call of `period` for each period
+-- that is run, and hands back their notes: those of the last one, since the others have none.
 
 -- whether it goes on after a period on this bus: that one hands back no notes, and the next one is
 -- not refused
 unfoldable pub goesOn : Bus → Bool
 goesOn b = eqb (length (notes b period)) 0 && eqb (reply (after b period) period) 0
 
--- the calls of a run of at most so many periods
+-- the calls of a run of at most n periods
 unfoldable pub runCalls : ℕ → Bus → List Call
 runCalls zero b = []
 runCalls (suc n) b = period ∷ cond (goesOn b) (runCalls n (after b period)) []

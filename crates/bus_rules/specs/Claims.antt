@@ -19,7 +19,7 @@ use Rattle.bus_rules.specs.Stretch.{Stretch, opportunitiesIn, stationThe
 use Rattle.bus_rules.specs.Stretch.{buses, poweredIn, longestIn}
 use Rattle.bus_rules.specs.Telling.{AllTell}
 
--- a moment of no list
+-- what stands at a place past the end of a list of D opportunities
 abbrev pub nowhere : Opportunity
 nowhere = record { network = 0; hit = Hit.none; senders = []; es = []; heardD = true; reading = cleared; saids = [] }
 
@@ -36,8 +36,9 @@ module _ (before during : List Call) where
   abbrev pub opps : List Opportunity
   opps = opportunitiesIn start during
 
-  -- "no rival completes two frames of one class while an activated terminal waits at that class's normal level": j is the rival, i
-  -- waits in class k, with the same frame, at both completions and at every D opportunity between
+  -- "no rival completes two frames of one class while an activated terminal waits at that class's
+  -- normal level": j is the rival, i waits in class k, with the same frame, at both completions and
+  -- at every D opportunity between
   abbrev pub NoRivalTwice : Type 0
   NoRivalTwice =
       (i j k p q : ℕ) → (i ≡ j → ⊥) → 1 ≤ k → p < q → q < length opps →
@@ -46,7 +47,8 @@ module _ (before during : List Call) where
       ((t : ℕ) → p ≤ t → t < q → Completes k i (at opps t) → ⊥) →
       ⊥
 
-  -- the frame that terminal i holds at opportunity p is completed at one of the `bound` opportunities from p on
+  -- the frame of class k that terminal i holds at opportunity p is completed at one of the `bound`
+  -- opportunities from p on
   pub record CompletedWithin (k i p bound : ℕ) : Type 0 where
     pub when : ℕ
     pub since : p ≤ when
@@ -60,19 +62,21 @@ module _ (before during : List Call) where
   abbrev pub waitBound : ℕ
   waitBound = (poweredIn (buses start during) + 1) * (longestIn (buses start during) + normal1)
 
-  -- "In class 1, if the stretch lasts that long, a frame so waiting is completed within (n + 1) times (L + 8) D opportunities, counted
-  -- from the first of the stretch at which it so waits": p is any opportunity at which it so waits, and so also the first. From a later one
-  -- on no more is claimed: the rest of a stretch is a stretch, and there p is the first.
+  -- "In class 1, if the stretch lasts that long, a frame so waiting is completed within (n + 1)
+  -- times (L + 8) D opportunities, counted from the first of the stretch at which it so waits": p
+  -- is any opportunity at which it so waits, and so also the first. From a later one on no more is
+  -- claimed: the rest of a stretch is a stretch, and there p is the first.
   abbrev pub WaitEnds : Type 0
   WaitEnds = (i p : ℕ) → Waits 1 i (at opps p) → p + waitBound ≤ length opps → CompletedWithin 1 i p waitBound
 
-  -- No sending stops inside its opening flag: that of a sending begun at opportunity p leaves at p to p + 7, and at each of its echoes the
-  -- sending goes on.
+  -- No sending stops inside its opening flag: that of a sending begun at opportunity p leaves at p
+  -- to p + 7, and at each of its echoes the sending goes on.
   abbrev pub NoStopInFlag : Type 0
   NoStopInFlag =
       (j p s : ℕ) → Begins j (at opps p) → s ≤ 9 → p + s < length opps → stationThen j (at opps (p + s)) .terminal .access .sent ≡ s
 
-  -- the frame that terminal j completes at opportunity u was begun at p or later, as many opportunities before u as its image has bits
+  -- the frame that terminal j completes at opportunity u was begun at p or later, as many
+  -- opportunities before u as its image has bits
   pub record BegunSince (p j u : ℕ) : Type 0 where
     pub when : ℕ
     pub since : p ≤ when
@@ -80,10 +84,11 @@ module _ (before during : List Call) where
     pub same-body : stationThen j (at opps when) .body ≡ stationThen j (at opps u) .body
     pub bits-since : when + length (image (stationThen j (at opps u) .body)) ≡ u
 
-  -- What is heard at opportunity t's D and completed at the next one's E. At one D one body is heard at most, so "It is heard once" needs
-  -- no words of its own.
+  -- What is heard at opportunity t's D and completed at the next one's E. At one D one body is
+  -- heard at most, so "It is heard once" needs no words of its own.
   pub record HeardWhole (p t : ℕ) : Type 0 where
-    -- "A body is heard at its D exactly when a frame with that body is completed at the next one's E"
+    -- "A body is heard at its D exactly when a frame with that body is completed at the next one's
+    -- E"
     pub heard-completed : (body : List ℕ) → saidTo (at opps t) ≡ heard body →
         (j : ℕ) × (k : ℕ) × (1 ≤ k) × Completes k j (at opps (t + 1)) × (stationThen j (at opps (t + 1)) .body ≡ body)
     -- .. and "all frames completed there have that body"
@@ -94,20 +99,23 @@ module _ (before during : List Call) where
     -- "nothing is torn"
     pub not-torn : saidTo (at opps t) ≡ torn → ⊥
 
-  -- "Take each D opportunity after the last bit of the first opening flag begun in the stretch, up to the stretch's last but one": p is
-  -- any opportunity at which a frame is begun, the first one included, and that flag's last bit leaves at p + 7 (NoStopInFlag)
+  -- "Take each D opportunity after the last bit of the first opening flag begun in the stretch, up
+  -- to the stretch's last but one": p is any opportunity at which a frame is begun, the first one
+  -- included, and that flag's last bit leaves at p + 7 (NoStopInFlag)
   abbrev pub HeardInOrder : Type 0
   HeardInOrder = (j p t : ℕ) → Begins j (at opps p) → p + 7 < t → t + 1 < length opps → HeardWhole p t
 
-  -- The same in demand 3's words. "Every frame begun and completed in it is heard whole": one that terminal j has begun at opportunity p,
-  -- or anew since then, and completes at the E of opportunity t + 1 is heard at the D before, which is its last bit.
+  -- The same in demand 3's words. "Every frame begun and completed in it is heard whole": one that
+  -- terminal j has begun at opportunity p, or anew since then, and completes at the E of
+  -- opportunity t + 1 is heard at the D before, which is its last bit.
   abbrev pub BegunHeard : Type 0
   BegunHeard =
       (j k p t : ℕ) → 1 ≤ k → p ≤ t → t + 1 < length opps →
       Begins j (at opps p) → Completes k j (at opps (t + 1)) →
       saidTo (at opps t) ≡ heard (stationThen j (at opps (t + 1)) .body)
 
-  -- the bodies heard at opportunity t and those after it, n in all; the bodies of the frames completed at them
+  -- the bodies heard at opportunity t and those after it, n in all; the bodies of the frames
+  -- completed at them
   unfoldable pub heardFrom : ℕ → ℕ → List (List ℕ)
   heardFrom t zero = []
   heardFrom t (suc n) = bodyHeard (at opps t) ++ heardFrom (t + 1) n
@@ -116,12 +124,14 @@ module _ (before during : List Call) where
   completedFrom t zero = []
   completedFrom t (suc n) = bodyCompleted (at opps t) ++ completedFrom (t + 1) n
 
-  -- ".. in order, equal ones sent together as one; between the first opening flag begun in it and the last completion nothing else is
-  -- heard": after the flag of a frame begun at p, the bodies heard are those completed, in the same order, each one opportunity before
+  -- ".. in order, equal ones sent together as one; between the first opening flag begun in it and
+  -- the last completion nothing else is heard": after the flag of a frame begun at p, the bodies
+  -- heard are those completed, in the same order, each one opportunity before
   abbrev pub HeardAsCompleted : Type 0
   HeardAsCompleted = (j p n : ℕ) → Begins j (at opps p) → p + 8 + n < length opps → heardFrom (p + 8) n ≡ completedFrom (p + 9) n
 
--- "A stretch is any unbroken part of the list": its D opportunities and its notes are a part of the whole list's
+-- "A stretch is any unbroken part of the list": its D opportunities and its notes are a part of the
+-- whole list's
 pub record PartOfList (before during after : List Call) : Type 0 where
   pub in-opportunities : opportunitiesIn freshBus (before ++ (during ++ after))
       ≡ opportunitiesIn freshBus before

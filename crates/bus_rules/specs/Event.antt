@@ -38,11 +38,13 @@ stationOf b unit = stationAt (unit - 1) b
 unfoldable pub classOf : ℕ → ℕ
 classOf event = cond (eqb event D1) 1 (cond (eqb event D2) 2 0)
 
--- 4: "`on`, `off` (terminals), `ar` (all), `dr` (unit 0), `d1`, `d2` (terminals ..), `hit` (unit 0 ..)"
+-- 4: "`on`, `off` (terminals), `ar` (all), `dr` (unit 0), `d1`, `d2` (terminals ..), `hit` (unit 0
+-- ..)"
 unfoldable pub eventFor : ℕ → ℕ → Bool
 eventFor unit event = cond (eqb unit 0) (among event (AR ∷ DR ∷ HIT ∷ [])) (among event (ON ∷ OFF ∷ AR ∷ D1 ∷ D2 ∷ []))
 
--- 5: what the rules of the network end and of a terminal bar, by their tables' numbers of the events
+-- 5: what the rules of the network end and of a terminal bar, by their tables' numbers of the
+-- events
 unfoldable pub barsNetwork : ℕ → ℕ → Bool
 barsNetwork event state =
     cond (eqb event AR) (network.bars table63.AR-ROW state) (cond (eqb event DR) (network.bars table63.DR-ROW state) false)
@@ -59,8 +61,8 @@ bars b unit event = cond (eqb unit 0) (barsNetwork event (b .network .state)) (b
 abbrev pub givesFrame : ℕ → Bool
 givesFrame event = not (eqb (classOf event) 0)
 
--- The reasons 2 to 8 in document 01's order. 2 is for the letters of a hit. 7 is for a body, whose values are octets: a value here is any
--- list of numbers, and `isBody` asks that each is an octet.
+-- The reasons 2 to 8 in document 01's order. 2 is for the letters of a hit. 7 is for a body, whose
+-- values are octets: a value here is any list of numbers, and `isBody` asks that each is an octet.
 unfoldable pub reasons : Bus → ℕ → ℕ → List ℕ → List Bool
 reasons b unit event value =
     (eqb event HIT && not (fits lineLength noneLetter value))
@@ -72,7 +74,8 @@ reasons b unit event value =
     ∷ (givesFrame event && not (eqb (stationOf b unit .terminal .access .held) 0))
     ∷ []
 
--- "The checks run in the order below, and the first that holds gives the number; where none holds, the call is not refused": 0
+-- "The checks run in the order below, and the first that holds gives the number; where none holds,
+-- the call is not refused": 0
 unfoldable pub firstHolding : ℕ → List Bool → ℕ
 firstHolding k [] = 0
 firstHolding k (holds ∷ more) = cond holds k (firstHolding (suc k) more)

@@ -42,8 +42,8 @@ sentUp state ds =
     let info = infoIn table62.infoSent state in
     cond (eqb info 3) (frame (filledWithOnes ds)) (cond (eqb info 1) calling silent)
 
--- Who sends what: whether a terminal in any of some states sends the INFO of a number; whether any terminal sends INFO 1, and whether any
--- sends INFO 3.
+-- Who sends what: whether a terminal in any of some states sends the INFO of a number; whether any
+-- terminal sends INFO 1, and whether any sends INFO 3.
 unfoldable pub anySends : ℕ → List ℕ → Bool
 anySends info [] = false
 anySends info (state ∷ states) = eqb (infoIn table62.infoSent state) info || anySends info states
@@ -68,7 +68,8 @@ pub record Sender : Type 0 where
 abbrev pub stationsOf : List Sender → List Station
 stationsOf ss = map (λ (s : Sender). s .station) ss
 
--- The exchange as an E comes: what does not change in it, and what has gone so far.
+-- A D opportunity: the exchange as its E comes. What does not change in the exchange, and what has
+-- been sent, heard and said in it before.
 pub record Opportunity : Type 0 where
   -- the network end's state and the hit
   pub network : ℕ
@@ -86,7 +87,7 @@ pub record Opportunity : Type 0 where
 abbrev pub inF7 : Station → Bool
 inF7 s = eqb (s .terminal .state) F7
 
--- What an E gives in F7: one turn of the D access, with the next bit of the image.
+-- What an E gives in F7: one step of the D access, with the next bit of the image.
 unfoldable pub accessStepOf : Bool → Station → AccessStep
 accessStepOf e s = accessStep normal1 normal2 e (getD (s .image) (s .terminal .access .sent) true) (s .terminal .access)
 
@@ -110,10 +111,11 @@ stationAfterE e s =
 unfoldable pub dOf : Bool → Station → Bool
 dOf e s = cond (inF7 s) (accessStepOf e s .d) true
 
--- the class of the frame that is completed, if any
+-- the class of the frame that is completed at the E, if any
 unfoldable pub doneOf : Bool → Station → List ℕ
 doneOf e s = cond (inF7 s) (cond (eqb (accessStepOf e s .done) 0) [] (accessStepOf e s .done ∷ [])) []
 
+-- a terminal in the exchange after an E
 unfoldable pub hearsE : Bool → Sender → Sender
 hearsE e s =
     record {
@@ -125,14 +127,16 @@ hearsE e s =
 unfoldable pub sentOf : Sender → Sent
 sentOf s = sentUp (s .station .terminal .state) (s .ds)
 
--- The line that all powered terminals hear, with the E bits so far, and the line that all terminals give together.
+-- The line that all powered terminals hear, with the E bits so far, and the line that all terminals
+-- give together.
 unfoldable pub lineDown : ℕ → Hit → List Bool → List ℕ
 lineDown network h es = struckBy h (sentDown network (filledWithOnes es))
 
 unfoldable pub lineUp : List Sender → List ℕ
 lineUp ss = combined (map sentLine (map sentOf ss))
 
--- "each E the last combined D that the network heard": the E that comes, at symbol level of the downward line after the hit
+-- "each E the last combined D that the network heard": the E that comes, at symbol level of the
+-- downward line after the hit
 unfoldable pub eComes : Opportunity → Bool
 eComes m = pick (length (m .es)) (eBits (levels (lineDown (m .network) (m .hit) (m .es ++ (m .heardD ∷ [])))))
 
@@ -150,6 +154,7 @@ inG3 m = eqb (m .network) G3
 unfoldable pub saidTo : Opportunity → Said
 saidTo m = cond (inG3 m) (said (m .reading) (dComes m)) nothing
 
+-- The exchange after this opportunity: as the next one's E comes, or after the last one.
 unfoldable pub onward : Opportunity → Opportunity
 onward m =
     record {
@@ -178,7 +183,8 @@ begins b =
       saids = [];
     }
 
--- "Echo and D go E11, D12, E24, D25, E35, D36, E46, D47": the four moments as E comes, and what the last one leaves.
+-- "Echo and D go E11, D12, E24, D25, E35, D36, E46, D47": the four D opportunities, each as its E
+-- comes, and the exchange after the last one.
 unfoldable pub opportunitiesOf : Bus → List Opportunity
 opportunitiesOf b = begins b ∷ onward (begins b) ∷ onward (onward (begins b)) ∷ onward (onward (onward (begins b))) ∷ []
 

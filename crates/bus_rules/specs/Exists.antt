@@ -20,11 +20,11 @@ use Rattle.bus_rules.specs.Stretch.{Stretch, opportunitiesIn, stationThe
 use Rattle.bus_rules.specs.Claims.{at, opps, CompletedWithin, waitBound, heardFrom, completedFrom}
 use Rattle.bus_rules.specs.Scenes.{activating, activated, beforeWait, duringWait, duringBusy}
 
--- So many periods after document 01's book has activated its terminal.
+-- After document 01's book has activated its terminal, n periods are a stretch, for every n.
 abbrev pub StretchesExist : Type 0
 StretchesExist = (n : ℕ) → Stretch activated (replicate n period)
 
--- They have four D opportunities each, up to the 4,000,000th period of any bus.
+-- n periods have four D opportunities each, up to the 4,000,000th period of any bus.
 abbrev pub StretchLength : Type 0
 StretchLength = (n : ℕ) (b : Bus) → b .periods + n ≤ mostPeriods → length (opportunitiesIn b (replicate n period)) ≡ 4 * n
 
@@ -32,8 +32,9 @@ StretchLength = (n : ℕ) (b : Bus) → b .periods + n ≤ mostPeriods → lengt
 abbrev pub WorstStretch : Type 0
 WorstStretch = Stretch (afterAll freshBus beforeWait) duringWait
 
--- .. and demand 3's words hold in it, at its D opportunities ms. Terminal 1 has the index 0. The bound is 128 (specs/Scenes.antt), so that
--- 127 is the last opportunity at which its frame may be completed.
+-- .. and demand 3's words hold in it, at its D opportunities ms. Terminal 1 has the index 0. The
+-- bound is 128 (specs/Scenes.antt), so that 127 is the last opportunity at which its frame may be
+-- completed.
 pub record WaitsToTheLast (ms : List Opportunity) : Type 0 where
   -- it waits at the first opportunity of the stretch, which lasts as long as the bound ..
   pub waits : Waits 1 0 (at ms 0)
@@ -53,13 +54,15 @@ pub record WaitsToTheLast (ms : List Opportunity) : Type 0 where
 abbrev pub WorstWait : Type 0
 WorstWait = WaitsToTheLast (opps beforeWait duringWait)
 
--- .. and what demand 3 says of it: its frame is completed in time and heard, and what is heard from the frame's flag on is what is completed.
+-- .. and what demand 3 says of it: its frame is completed in time and heard, and what is heard from
+-- the frame's flag on is what is completed.
 pub record SaidOfWorstWait : Type 0 where
   pub in-time : CompletedWithin beforeWait duringWait 1 0 0 (waitBound beforeWait duringWait)
   pub frame-heard : saidTo (at (opps beforeWait duringWait) 126) ≡ heard (stationThen 0 (at (opps beforeWait duringWait) 127) .body)
   pub as-completed : heardFrom beforeWait duringWait 111 16 ≡ completedFrom beforeWait duringWait 112 16
 
--- ---- The words need no more than document 01 says. Each holds wherever its sentence does, of every terminal and class ..
+-- ---- The words need no more than document 01 says. Each holds wherever its sentence does, of
+-- every terminal and class ..
 abbrev pub WaitsWhen : Type 0
 WaitsWhen =
     (k i : ℕ) (m : Opportunity) → stationThen i m .terminal .state ≡ F7 → stationThen i m .terminal .access .held ≡ k →
@@ -75,8 +78,9 @@ BeginsWhen =
     (i : ℕ) (m : Opportunity) → stationThen i m .terminal .state ≡ F7 → stationThen i m .terminal .access .sent ≡ 0 →
     accessStepOf (eComes m) (stationThen i m) .access .sent ≡ 1 → Begins i m
 
--- .. and a stretch may have "whatever the others request": every event, accepted or refused, and every period without hit and INFO 1, that
--- leaves the network end in G3 and in F7 all that are there ..
+-- .. and a stretch may have "whatever the others request": every event, accepted or refused, and
+-- every period without hit and INFO 1, that leaves the network end in G3 and in F7 all that are
+-- there ..
 abbrev pub AnyEvent : Type 0
 AnyEvent =
     (b : Bus) (unit number : ℕ) (value : List ℕ) (more : List Call) →

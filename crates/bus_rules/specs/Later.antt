@@ -11,7 +11,8 @@ use Rattle.bus_rules.specs.Bus.{Bus}
 use Rattle.bus_rules.specs.Exchange.{eComes, dComes, opportunitiesOf, exchanged, wholeDown, wholeUp}
 use Rattle.bus_rules.specs.Claims.{at}
 
--- Each of the four E and D is what stands in the lines of the period when all bits are known, whatever the hit and whoever sends INFO 1.
+-- Each of the four E and D is what stands in the lines of the period when all bits are known,
+-- whatever the hit and whoever sends INFO 1.
 abbrev pub AsTaken : Type 0
 AsTaken =
     (b : Bus) (k : ℕ) → k < 4 →

@@ -32,7 +32,7 @@ networkHears up now n = network.hears (shownUp up) now n
 unfoldable pub terminalHears : List ℕ → ℕ → Terminal → TerminalStep
 terminalHears down now t = terminal.hears (shownDown down) now t
 
--- One step of a terminal on its seat.
+-- One step of a terminal: the image and the body that stand beside it stay.
 unfoldable pub stepped : (Terminal → TerminalStep) → Station → Station
 stepped f s = record { terminal = f (s .terminal) .terminal; image = s .image; body = s .body }
 
@@ -50,15 +50,16 @@ unfoldable pub doneCodes : List ℕ → List ℕ
 doneCodes [] = []
 doneCodes (class ∷ more) = cond (eqb class 1) DONE1 DONE2 ∷ doneCodes more
 
--- the codes of a terminal's hearing, and of its timer
+-- the codes of what a terminal notes as it hears, and as its timer is due
 abbrev pub hearingCodes : List ℕ → ℕ → Sender → List ℕ
 hearingCodes down now s = dFirst (doneCodes (s .done)) (noted (terminalHears down now (s .station .terminal) .notes))
 
 abbrev pub timerCodes : ℕ → Station → List ℕ
 timerCodes now s = noted (terminal.timer now (s .terminal) .notes)
 
--- ---- Hearing, unit 0 first, after the exchange m. "The record counts periods run and D opportunities run, four for each period whose
--- lines leave the network end in G3": the book's lines, which come before the exchange.
+-- ---- Hearing, unit 0 first, after the exchange m. "The record counts periods run and D
+-- opportunities run, four for each period whose lines leave the network end in G3": the book's
+-- lines, which come before the exchange.
 unfoldable pub heardBy : Opportunity → Bus → Bus
 heardBy m b =
     let n = networkHears (wholeUp m) (b .periods) (b .network) .network in

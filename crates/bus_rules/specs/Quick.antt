@@ -40,7 +40,7 @@ unfoldable pub allD : Bool → List Station → Bool
 allD e [] = true
 allD e (s ∷ ss) = dOf e s && allD e ss
 
--- as many D bits have left each terminal as opportunities have gone
+-- each terminal has sent k D bits, one for each D opportunity so far
 pub data InStep (k : ℕ) : List Sender → Type 0 where
   end : InStep k []
   one : {s : Sender} {ss : List Sender} → length (s .ds) ≡ k → InStep k ss → InStep k (s ∷ ss)

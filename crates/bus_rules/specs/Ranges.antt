@@ -34,8 +34,9 @@ pub record InRange (b : Bus) : Type 0 where
   -- by index: past the last stands a fresh one, which is in range
   pub terminals-fit : (i : ℕ) → terminalInRange (getD (b .stations) i freshStation .terminal) ≡ true
 
--- "The record counts periods run and D opportunities run, four for each period whose lines leave the network end in G3": how many periods
--- a call runs, and how many of them with the network end in G3
+-- "The record counts periods run and D opportunities run, four for each period whose lines leave
+-- the network end in G3": how many periods a call runs, and how many of them with the network end
+-- in G3
 unfoldable pub runs : Bus → Call → ℕ
 runs b (event unit number value) = 0
 runs b period = cond (eqb (reply b period) 0) 1 0

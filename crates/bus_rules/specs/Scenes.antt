@@ -57,7 +57,7 @@ use Rattle.bus_rules.specs.Stretch.{opportunitiesOfCall, opportunitiesIn
 use Rattle.bus_rules.specs.Stretch.{longestOf, longestIn}
 use Rattle.bus_rules.specs.Claims.{waitBound}
 
--- so many periods, then more calls
+-- n periods, then more calls
 abbrev pub periods : ℕ → List Call → List Call
 periods zero more = more
 periods (suc n) more = period ∷ periods n more
@@ -101,7 +101,8 @@ handedBack b calls = reportFrom b calls
 
 -- ---- Lists of calls from the fresh bus.
 
--- document 01's book: `on` in period 0, `ar` in period 1, `d1` with body 00 in period 9, and the periods before 20
+-- document 01's book: `on` in period 0, `ar` in period 1, `d1` with body 00 in period 9, and the
+-- periods before 20
 abbrev pub exampleCalls : List Call
 exampleCalls = event 1 ON [] ∷ periods 1 (event 1 AR [] ∷ periods 8 (event 1 D1 (0 ∷ []) ∷ periods 11 []))
 
@@ -120,7 +121,8 @@ pub the-book :
 unfolding handedBack
 the-book = refl
 
--- "four for each period whose lines leave the network end in G3": the lines of periods 8 to 19, and not those of period 20 after a `dr`
+-- "four for each period whose lines leave the network end in G3": the lines of periods 8 to 19, and
+-- not those of period 20 after a `dr`
 pub four-each :
     (afterAll freshBus exampleCalls .opportunities ≡ 48)
     × (afterAll freshBus (exampleCalls ++ (event 0 DR [] ∷ period ∷ [])) .opportunities ≡ 48)
@@ -156,8 +158,9 @@ activating = event 1 ON [] ∷ periods 1 (event 1 AR [] ∷ periods 8 [])
 abbrev pub activated : Bus
 activated = afterAll freshBus activating
 
--- A hit that blots out period 9: the terminal drops its frame and falls to F3, the network end hears INFO 0 in period 10; period 10 has
--- no hit, and all is activated anew. A second hit that is refused replaces nothing.
+-- A hit that blots out period 9: the terminal drops its frame and falls to F3, the network end
+-- hears INFO 0 in period 10; period 10 has no hit, and all is activated anew. A second hit that is
+-- refused replaces nothing.
 pub one-hit :
     handedBack activated
     (event 1 D1 (0 ∷ []) ∷ event 0 HIT (replicate lineLength noneLetter) ∷ event 0 HIT (replicate 47 keepLetter) ∷ periods 8 [])
@@ -184,7 +187,8 @@ pub second-hit :
 unfolding handedBack
 second-hit = refl
 
--- The order of the refusals: 2 before 3, 3 before 4, 6 before 7, 7 before 8. Terminal 1 is in F7, terminal 2 in F1.
+-- The order of the refusals: 2 before 3, 3 before 4, 6 before 7, 7 before 8. Terminal 1 is in F7,
+-- terminal 2 in F1.
 pub refusals-in-order :
     handedBack activated
     (event 9 HIT []
@@ -211,10 +215,11 @@ pub refusals-in-order :
 unfolding handedBack
 refusals-in-order = refl
 
--- ---- The bound of demand 3 on a wait is met at its last opportunity, so that no smaller one holds; `duringWait` is a stretch
--- (specs/Exists.antt). Terminals 2 and 3 are activated first, and terminal 3 sends a frame
--- of class 2; as terminal 1 enters F7, with C at 0, theirs is 2. So terminal 2's frame of class 2 starts with terminal 1's of class 1, and
--- wins; then terminal 2's of class 1 wins, then terminal 3's.
+-- ---- The bound of demand 3 on a wait is met at its last opportunity, so that no smaller one
+-- holds; `duringWait` is a stretch (specs/Exists.antt). Terminals 2 and 3 are activated first, and
+-- terminal 3 sends a frame of class 2; as terminal 1 enters F7, with C at 0, theirs is 2. So
+-- terminal 2's frame of class 2 starts with terminal 1's of class 1, and wins; then terminal 2's of
+-- class 1 wins, then terminal 3's.
 abbrev pub beforeWait : List Call
 beforeWait =
     event 2 ON [] ∷ event 3 ON [] ∷ periods 1 (event 2 AR [] ∷ periods 8 (event 3 D2 (0 ∷ []) ∷ periods 6 (event 1 ON [] ∷ periods 3 [])))
@@ -233,9 +238,10 @@ pub worst-wait : (waitBound beforeWait duringWait ≡ 128)
 unfolding handedBack
 worst-wait = (refl, refl)
 
--- ---- A busy stretch (specs/Exists.antt) after document 01's book has activated terminal 1, which is given a frame. While that is sent
--- terminal 2 is switched on, off and on, enters F7 and is given a frame, and calls are refused with every number from 2 to 8. A hit is
--- given last, and its period is not run.
+-- ---- A busy stretch (specs/Exists.antt) after document 01's book has activated terminal 1, which
+-- is given a frame. While that is sent terminal 2 is switched on, off and on, enters F7 and is
+-- given a frame, and calls are refused with every number from 2 to 8. A hit is given last, and its
+-- period is not run.
 abbrev pub duringBusy : List Call
 duringBusy =
     event 1 D1 (0 ∷ [])
@@ -302,8 +308,8 @@ abbrev busWith : ℕ → Network → List Station → Bus
 busWith p n stations =
     record { periods = p; opportunities = 0; network = n; reading = cleared; heardD = true; hit = Hit.none; stations = stations }
 
--- INFO 1 beside INFO 3, where no list of calls leads: the four D that the network end hears in G3, with terminal 2 in F4 and terminal 1 in
--- F7 with a C and a held frame of class 1 or none.
+-- INFO 1 beside INFO 3, where no list of calls leads: the four D that the network end hears in G3,
+-- with terminal 2 in F4 and terminal 1 in F7 with a C and a held frame of class 1 or none.
 abbrev dsBeside : ℕ → ℕ → List Bool
 dsBeside count held =
     map dComes
@@ -313,20 +319,22 @@ dsBeside count held =
     ∷ stationIn F4 0 access.fresh
     ∷ [])))
 
--- nobody sends 0, and D25 is 0; the first 0 of a flag leaves at D25, D25 is 1, the sending stops at E35 and starts over at D47
+-- nobody sends 0, and D25 is 0; the first 0 of a flag leaves at D25, D25 is 1, the sending stops at
+-- E35 and starts over at D47
 pub inverted : (dsBeside 0 0 ≡ true ∷ false ∷ true ∷ true ∷ []) × (dsBeside 6 1 ≡ true ∷ true ∷ true ∷ false ∷ [])
 unfolding handedBack
 inverted = (refl, refl)
 
--- "hearing, unit 0 first": in one period the network end hears INFO 3 from terminal 1, and terminal 2 hears INFO 2 for the first time
+-- "hearing, unit 0 first": in one period the network end hears INFO 3 from terminal 1, and terminal
+-- 2 hears INFO 2 for the first time
 pub unit-0-first :
     handedBack (busWith 7 (networkIn G2 0 0) (stationIn F6 0 access.fresh ∷ stationIn F2 0 access.fresh ∷ [])) (period ∷ [])
     ≡ note 7 0 PH-ACT [] ∷ note 7 0 MPH-ACT [] ∷ note 7 2 MPH-II-CONNECTED [] ∷ []
 unfolding handedBack
 unit-0-first = refl
 
--- "T1 comes before T2", both due as period 500 starts: T1 leads from G2 to G4 and starts T2, and "a new start replaces it", so that T2 is
--- not due any more and G4 is not left
+-- "T1 comes before T2", both due as period 500 starts: T1 leads from G2 to G4 and starts T2, and "a
+-- new start replaces it", so that T2 is not due any more and G4 is not left
 abbrev bothDue : Bus
 bothDue = timed (busWith 500 (networkIn G2 500 500) [])
 
@@ -335,8 +343,8 @@ pub t1-first : (notesTimed (busWith 500 (networkIn G2 500 500) []) ≡ note 500 
 unfolding handedBack
 t1-first = (refl, refl, refl)
 
--- T1, and T3 of terminal 2, are due as period 8 starts: their notes come with the call that runs period 7, after what is heard in it,
--- unit 0 first, and have the number 8
+-- T1, and T3 of terminal 2, are due as period 8 starts: their notes come with the call that runs
+-- period 7, after what is heard in it, unit 0 first, and have the number 8
 pub timers-next :
     handedBack (busWith 7 (networkIn G2 8 0) (freshStation ∷ stationIn F4 8 access.fresh ∷ stationIn F2 0 access.fresh ∷ [])) (period ∷ [])
     ≡ note 7 3 MPH-II-CONNECTED [] ∷ note 8 0 PH-DEACT [] ∷ note 8 2 MPH-DEACT [] ∷ note 8 2 PH-DEACT [] ∷ []

@@ -18,7 +18,8 @@ use Rattle.bus_rules.specs.Exchange.{Opportunity, inF7, stationsOf, anyI
 use Rattle.bus_rules.specs.Calls.{Call, reply, after}
 use Rattle.bus_rules.specs.Calls.Call.{event, period}
 
--- What a stretch allows of a period run in it: "No period run in it has a hit or a terminal sending INFO 1"
+-- What a stretch allows of a period run in it: "No period run in it has a hit or a terminal sending
+-- INFO 1"
 pub record Undisturbed (b : Bus) : Type 0 where
   -- which terminals are powered is not asked
   pub no-hit : b .hit ≡ Hit.none
@@ -39,7 +40,8 @@ unfoldable pub Stretch : Bus → List Call → Type 0
 Stretch b [] = Unit
 Stretch b (c ∷ more) = Calm b c × Stays b (after b c) × Stretch (after b c) more
 
--- "A D opportunity is an E and the D after it": the moments as E comes, four for each period run
+-- "A D opportunity is an E and the D after it": those of a call, each as its E comes, four for each
+-- period run
 unfoldable pub opportunitiesOfCall : Bus → Call → List Opportunity
 opportunitiesOfCall b (event unit number value) = []
 opportunitiesOfCall b period = cond (eqb (reply b period) 0) (opportunitiesOf b) []
@@ -52,7 +54,8 @@ opportunitiesIn b (c ∷ more) = opportunitiesOfCall b c ++ opportunitiesIn (aft
 unfoldable pub stationThen : ℕ → Opportunity → Station
 stationThen i m = getD (stationsOf (m .senders)) i freshStation
 
--- "It waits at a D opportunity when, as E comes, it is in F7, holds a frame and that frame's class is at the normal level"
+-- "It waits at a D opportunity when, as E comes, it is in F7, holds a frame and that frame's class
+-- is at the normal level"
 pub record Waits (k i : ℕ) (m : Opportunity) : Type 0 where
   -- "one that is sending waits too": whether a bit has left is not asked
   pub in-F7 : stationThen i m .terminal .state ≡ F7
@@ -81,7 +84,8 @@ bodyIn (heard body) = body ∷ []
 unfoldable pub bodyHeard : Opportunity → List (List ℕ)
 bodyHeard m = bodyIn (saidTo m)
 
--- the body of the frame completed at the E, if one is: "equal ones sent together as one", so that of the first terminal that completes one
+-- the body of the frame completed at the E, if one is: "equal ones sent together as one", so that
+-- of the first terminal that completes one
 unfoldable pub firstDone : Bool → List Station → List (List ℕ)
 firstDone e [] = []
 firstDone e (s ∷ ss) = cond (inF7 s && not (eqb (accessStepOf e s .done) 0)) (s .body ∷ []) (firstDone e ss)

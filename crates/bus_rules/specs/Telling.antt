@@ -46,7 +46,8 @@ unfoldable pub completedIn : ℕ → List Opportunity → List ℕ
 completedIn i [] = []
 completedIn i (m ∷ ms) = doneOf (eComes m) (stationThen i m) ++ completedIn i ms
 
--- A call hands back a `heard` or `torn` exactly where its opportunities have one, and a `done1` or `done2` of each unit.
+-- A call hands back a `heard` or `torn` exactly where its opportunities have one, and a `done1` or
+-- `done2` of each unit.
 pub record Tells (b : Bus) (c : Call) : Type 0 where
   pub heard-or-torn : heardIn (notes b c) ≡ spoken (saidIn (opportunitiesOfCall b c))
   pub done : (i : ℕ) → doneNotesOf (suc i) (notes b c) ≡ doneCodes (completedIn i (opportunitiesOfCall b c))

@@ -9,7 +9,7 @@ use Rattle.symbols.specs.Symbols.{lineLength, minus, fits, hasLineLength}
 use Rattle.combining.specs.Combine.{combined}
 use Rattle.combining.specs.declared.combine.Combined.{Combined}
 
--- The terminals of a bus, and the symbols of all their lines.
+-- The number of terminals of a bus, and the number of symbols of all their lines.
 abbrev pub terminals : ℕ
 terminals = 8
 
@@ -26,7 +26,8 @@ unfoldable pub laid : List (List ℕ) → List ℕ
 laid [] = []
 laid (l ∷ ls) = l ++ laid ls
 
--- The eight terminals' lines are lent as 384 symbols, and the combined line goes into 48 octets: refusal 2 for a wrong length or code.
+-- The eight terminals' lines are lent as 384 symbols, and the combined line goes into 48 octets:
+-- refusal 2 for a wrong length or code.
 abbrev pub combineFits : List ℕ → List ℕ → Bool
 combineFits lines lent = hasLineLength lent && fits linesLength minus lines
 

@@ -39,13 +39,14 @@ CombinedNone = combined [] ≡ info0
 abbrev pub CombinedInfo0 : Type 0
 CombinedInfo0 = (ls ms : List (List ℕ)) → combined (ls ++ (info0 ∷ ms)) ≡ combined (ls ++ ms)
 
--- ---- Upward frames group by group, whatever their fields are: what each group gives, laid out, is the combined line.
+-- ---- Upward frames group by group, whatever their fields are: what each group gives, laid out, is
+-- the combined line.
 abbrev pub CombinedFrames : Type 1
 CombinedFrames = (X : Type 0) (fields : X → UpFields) (xs : List X) (l : List ℕ)
     → Combines xs (ofSender fields upGroups) lineLength l → combined (map (λ x. upLine (fields x)) xs) ≡ l
 
--- A group of one bit gives the group of the ANDs; one that all send alike gives itself; one that all but one leave at 1s, that is at
--- none, gives that one's.
+-- A group of one bit gives the group of the ANDs; one that all send alike gives itself; one that
+-- all but one leave at 1s, that is at none, gives that one's.
 abbrev pub GroupBit : Type 1
 GroupBit =
     (X : Type 0) (b : X → Bool) (xs : List X) → combinedOver 2 (map (λ x. groupSymbols (b x ∷ [])) xs) ≡ groupSymbols (allOf b xs ∷ [])
@@ -76,14 +77,15 @@ CombinedSent = (xs : List Sent) → anyCalling xs ≡ false → combined (map se
 abbrev pub CombinedCalling : Type 0
 CombinedCalling = (xs : List Sent) → anyCalling xs ≡ true → combined (map sentLine xs) ≡ combined (info1 ∷ framesLine (frames xs) ∷ [])
 
--- The D bits at symbol level, whatever is sent: the ANDs, at position 25 inverted where INFO 1 is sent.
+-- The D bits at symbol level, whatever is sent: the ANDs, at position 25 inverted where INFO 1 is
+-- sent.
 abbrev pub CombinedSentD : Type 0
 CombinedSentD = (xs : List Sent) → dBits (levels (combined (map sentLine xs))) ≡ heardWithInfo1 (anyCalling xs) (andAll (map sentD xs))
 
 abbrev pub CombinedQuietD : Type 0
 CombinedQuietD = (xs : List Sent) → anyCalling xs ≡ false → dBits (levels (combined (map sentLine xs))) ≡ andAll (map sentD xs)
 
--- Place by place.
+-- The ANDs and the heard D bits, place by place.
 abbrev pub PickAll : Type 0
 PickAll = (k : ℕ) (ds : List Four) → pick k (andAll ds) ≡ allOf (pick k) ds
 
@@ -91,7 +93,8 @@ abbrev pub PickHeard : Type 0
 PickHeard =
     (k : ℕ) (info1 : Bool) (d : Four) → k < 4 → pick k (heardWithInfo1 info1 d) ≡ cond (eqb k 1 && info1) (not (pick k d)) (pick k d)
 
--- ---- The lines as they are lent: laid one after the other, they are the rows, and the call combines them.
+-- ---- The lines as they are lent: laid one after the other, they are the rows, and the call
+-- combines them.
 abbrev pub RowsLaid : Type 0
 RowsLaid = (ls : List (List ℕ)) → ((i : ℕ) → i < length ls → length (getD ls i []) ≡ lineLength) → rows (length ls) (laid ls) ≡ ls
 
@@ -116,7 +119,8 @@ FitsSent = (xs : List Sent) → length xs ≡ terminals → fits linesLength min
 abbrev pub EightSent : Type 0
 EightSent = (xs : List Sent) → length xs ≡ terminals → eight (laid (map sentLine xs)) ≡ combined (map sentLine xs)
 
--- ---- A hit changes exactly its letters' positions: keep leaves the symbol, plus, minus and none give theirs.
+-- ---- A hit changes exactly its letters' positions: keep leaves the symbol, plus, minus and none
+-- give theirs.
 abbrev pub HitAt : Type 0
 HitAt = (letters l : List ℕ) (i : ℕ) → i < lineLength → getD (hit letters l) i none ≡ struck (getD letters i keepLetter) (getD l i none)
 
@@ -133,7 +137,8 @@ HitMinus = (letters l : List ℕ) (i : ℕ) → i < lineLength → getD letters 
 abbrev pub HitNone : Type 0
 HitNone = (letters l : List ℕ) (i : ℕ) → i < lineLength → getD letters i keepLetter ≡ noneLetter → getD (hit letters l) i none ≡ none
 
--- At symbol level each bit comes from its own letter and itself alone: E and A of any line, and of a frame.
+-- At symbol level each bit comes from its own letter and itself alone: E and A of any line, and of
+-- a frame.
 abbrev pub LevelHit : Type 0
 LevelHit =
     (letters l : List ℕ) (i : ℕ) → i < lineLength

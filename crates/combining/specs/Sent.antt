@@ -46,8 +46,8 @@ abbrev pub framesLine : List Four → List ℕ
 framesLine [] = info0
 framesLine (d ∷ ds) = info3 (andAll (d ∷ ds))
 
--- The D bits at symbol level of the combined line, where the ANDs are d. INFO 1 has a plus at position 25, where a D of 0 is a minus:
--- together they give none, and the plus alone is a pulse.
+-- The D bits at symbol level of the combined line, where the ANDs are d. INFO 1 has a plus at
+-- position 25, where a D of 0 is a minus: together they give none, and the plus alone is a pulse.
 abbrev pub heardWithInfo1 : Bool → Four → Four
 heardWithInfo1 info1 d =
     record {

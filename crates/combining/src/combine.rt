@@ -1,4 +1,5 @@
-// Several terminals on one line: plus where only plus is sent, minus where only minus, none otherwise.
+// Several terminals on one line: plus where only plus is sent, minus where only minus, none
+// otherwise.
 ghost use mathlib.Core.Path.{_≡_};
 ghost use lib.Bits.{bitOr};
 ghost use lib.ListN.{length, getD};
@@ -12,12 +13,12 @@ use symbols::MINUS;
 use symbols::NONE;
 use symbols::fits;
 
-// The terminals of a bus, and the symbols of all their lines.
+// The number of terminals of a bus, and the number of symbols of all their lines.
 pub const TERMINALS: usize = 8;
 
 pub const LINES_LENGTH: usize = 384;
 
-// Plus and minus gathered together.
+// What a plus and a minus at one position are gathered to: 1 and 2 bit by bit.
 const PLUS_AND_MINUS: u8 = 3;
 
 // Whether the line was combined, or the number of the refusal.
@@ -26,7 +27,7 @@ pub enum Combined {
     Refused(u8),
 }
 
-// Puts a line over what is gathered.
+// Adds a line to what is gathered in `out`, bit by bit.
 fn overlay(out: &mut [u8], line: &[u8])
     requires { ⌜ length (now out) ≡ lineLength ⌝ }
     requires { ⌜ length (now line) ≡ lineLength ⌝ }
@@ -39,13 +40,14 @@ fn overlay(out: &mut [u8], line: &[u8])
     }
 }
 
+// Gives the symbol of what is gathered at a position: none where plus and minus are.
 fn gathered_symbol(m: u8) -> u8
     ensures { λ r. ⌜ r ≡ gatheredSymbol m ⌝ }
 {
     if m == PLUS_AND_MINUS { NONE } else { m }
 }
 
-// Makes symbols of what is gathered: none where both are sent.
+// Makes symbols of what is gathered in `out`.
 fn resolve(out: &mut [u8])
     requires { ⌜ length (now out) ≡ lineLength ⌝ }
     ensures { λ _. ⌜ now (out .exit) ≡ lineBy (λ i. gatheredSymbol (getD (now (out .entry)) i none)) ⌝ }
@@ -57,7 +59,7 @@ fn resolve(out: &mut [u8])
     }
 }
 
-// Puts the eight lines over what is gathered.
+// Adds the eight lines to what is gathered in `out`.
 fn gather(lines: &[u8], out: &mut [u8])
     requires { ⌜ length (now lines) ≡ linesLength ⌝ }
     requires { ⌜ length (now out) ≡ lineLength ⌝ }
@@ -73,7 +75,8 @@ fn gather(lines: &[u8], out: &mut [u8])
     }
 }
 
-// Combines the eight terminals' lines, lent as 8 times 48 octets, or replies 2 for a wrong length or code.
+// Combines the eight terminals' lines, lent as 8 times 48 octets, into `out`, or refuses with 2 a
+// wrong length or code.
 pub fn combine(lines: &[u8], out: &mut [u8]) -> Combined
     ensures reply { λ r. ⌜ r ≡ combinedReply (combineFits (now (lines .entry)) (now (out .entry))) ⌝ }
     ensures octets { λ _. ⌜ now (out .exit)

@@ -1,4 +1,5 @@
-// Hits: letters applied to a line. Their fits are 0 keep, 1 plus, 2 minus, 3 none.
+// Hits: letters applied to a line. The letters' codes are 0 for keep, 1 for plus, 2 for minus and 3
+// for none.
 ghost use mathlib.Core.Path.{_≡_};
 ghost use lib.ListN.{length};
 ghost use Rattle.symbols.specs.Symbols.{lineLength, reply, leaves};
@@ -18,7 +19,7 @@ pub const MINUS_LETTER: u8 = 2;
 
 pub const NONE_LETTER: u8 = 3;
 
-// A letter applied to a symbol.
+// Gives the symbol that a letter makes of the symbol s.
 fn struck(letter: u8, s: u8) -> u8
     ensures { λ r. ⌜ r ≡ struck letter s ⌝ }
 {
@@ -33,7 +34,7 @@ fn struck(letter: u8, s: u8) -> u8
     }
 }
 
-// Applies 48 letters to a line.
+// Applies 48 letters to a line, position by position.
 fn strike(line: &mut [u8], letters: &[u8])
     requires { ⌜ length (now line) ≡ lineLength ⌝ }
     requires { ⌜ length (now letters) ≡ lineLength ⌝ }
@@ -46,7 +47,8 @@ fn strike(line: &mut [u8], letters: &[u8])
     }
 }
 
-// Applies a hit: 0, or 2 where what is lent is no line or not 48 letters.
+// Applies a hit and replies 0, or replies 2 where `line` is no line or `letters` are not 48
+// letters.
 pub fn apply_hit(line: &mut [u8], letters: &[u8]) -> u8
     ensures reply { λ r. ⌜ r ≡ reply (hitFits (now (letters .entry)) (now (line .entry))) ⌝ }
     ensures octets { λ _. ⌜ now (line .exit) ≡ leaves (hitFits (now (letters .entry)) (now (line .entry)))

@@ -23,12 +23,14 @@ pub record Contender : Type 0 where
   -- the body of the held frame, where one is held
   pub body : List ℕ
 
+-- the D channel: its terminals, and what the network end has of it
 pub record Channel : Type 0 where
   pub contenders : List Contender
   -- "the last combined D that the network heard"
   pub heardD : Bool
   pub reading : Reading
 
+-- what happens to the channel
 pub data Action : Type 0 where
   -- `d1` or `d2`: a frame of a class with a body is handed to the terminal at an index
   hand : ℕ → ℕ → List ℕ → Action
@@ -36,11 +38,12 @@ pub data Action : Type 0 where
   enter leave : ℕ → Action
   -- "Leaving G3 clears the reader silently"
   clear : Action
-  -- "A D opportunity is an E and the D after it": the E that all terminals in F7 hear, the D that the network end hears, and whether it
-  -- reads D (in G3)
+  -- "A D opportunity is an E and the D after it": the E that all terminals in F7 hear, the D that
+  -- the network end hears, and whether it reads D (in G3)
   opportunity : Bool → Bool → Bool → Action
 
--- a frame is taken by a terminal in F7 that holds none, for class 1 or 2, if it is a body (refusals 6 to 8); else nothing changes
+-- a frame is taken by a terminal in F7 that holds none, for class 1 or 2, if it is a body (refusals
+-- 6 to 8); else nothing changes
 unfoldable pub mayHold : ℕ → List ℕ → Contender → Bool
 mayHold k body s = (s .active && eqb (s .access .held) 0) && ((eqb k 1 || eqb k 2) && isBody body)
 
@@ -67,7 +70,7 @@ leaving s = record { active = false; access = left (s .access) .access; body = s
 unfoldable pub nextBit : Contender → Bool
 nextBit s = getD (image (s .body)) (s .access .sent) true
 
--- a channel with these terminals
+-- the channel c with other terminals, ss
 abbrev pub withContenders : Channel → List Contender → Channel
 withContenders c ss = record { contenders = ss; heardD = c .heardD; reading = c .reading }
 
@@ -89,6 +92,7 @@ module _ (x1 x2 : ℕ) where
   togetherD e [] = true
   togetherD e (s ∷ ss) = cond (sendsD e s) (togetherD e ss) false
 
+  -- the channel after an action ..
   unfoldable pub step : Channel → Action → Channel
   step c (hand i k body) = withContenders c (change (holding k body) i (c .contenders))
   step c (enter i) = withContenders c (change entering i (c .contenders))
@@ -101,6 +105,7 @@ module _ (x1 x2 : ℕ) where
         reading = cond on (next (c .reading) bit) (c .reading);
       }
 
+  -- .. and after a list of actions
   unfoldable pub run : Channel → List Action → Channel
   run c [] = c
   run c (a ∷ more) = run (step c a) more

@@ -13,7 +13,7 @@ use Rattle.contention.specs.Channel.{Channel, Action, freshChannel, run}
 use Rattle.contention.specs.Stretch.{Stretch, opportunities, contender, Waits, Completes, Begins, saidAt, activeCount, ImagesAtMost}
 use Rattle.contention.specs.Invariant.{Invariant}
 
--- opportunity t of a list of them
+-- opportunity t of a list of them; past the list's end a channel without terminals
 abbrev pub at : List Channel → ℕ → Channel
 at cs t = getD cs t (freshChannel 0)
 
@@ -26,8 +26,9 @@ module _ (x1 x2 : ℕ) (c : Channel) (during : List Action) where
   abbrev pub opps : List Channel
   opps = opportunities x1 x2 c during
 
-  -- "No rival completes two frames of one class while an activated terminal waits at that class's normal level": j is the rival, i waits
-  -- in class k. "Two completions fall while it waits if it waits, with the same frame, at both and at every D opportunity between"
+  -- "No rival completes two frames of one class while an activated terminal waits at that class's
+  -- normal level": j is the rival, i waits in class k. "Two completions fall while it waits if it
+  -- waits, with the same frame, at both and at every D opportunity between"
   abbrev pub NoRivalTwice : Type 0
   NoRivalTwice =
       (i j k p q : ℕ) → (i ≡ j → ⊥) → 1 ≤ k → p < q → q < length opps →
@@ -36,7 +37,8 @@ module _ (x1 x2 : ℕ) (c : Channel) (during : List Action) where
       ((t : ℕ) → p ≤ t → t < q → Completes x1 x2 k i (at opps t) → ⊥) →
       ⊥
 
-  -- the frame of class k that terminal i holds at opportunity p is completed at one of the `bound` opportunities from p on
+  -- the frame of class k that terminal i holds at opportunity p is completed at one of the `bound`
+  -- opportunities from p on
   pub record CompletedWithin (k i p bound : ℕ) : Type 0 where
     pub when : ℕ
     pub since : p ≤ when
@@ -46,9 +48,10 @@ module _ (x1 x2 : ℕ) (c : Channel) (during : List Action) where
     pub same-frame : (t : ℕ) → p ≤ t → t < when → Completes x1 x2 k i (at opps t) → ⊥
     pub same-body : contender i (at opps when) .body ≡ contender i (at opps p) .body
 
-  -- "In class 1, if the stretch lasts that long, a frame so waiting is completed within (n + 1) times (L + 8) D opportunities, counted
-  -- from the first of the stretch at which it so waits", with x1 for 8: p is any opportunity at which it so waits, the first included.
-  -- The terminals in F7 at the stretch's end are all that were in F7 in it, as nobody leaves.
+  -- "In class 1, if the stretch lasts that long, a frame so waiting is completed within (n + 1)
+  -- times (L + 8) D opportunities, counted from the first of the stretch at which it so waits",
+  -- with x1 for 8: p is any opportunity at which it so waits, the first included. The terminals in
+  -- F7 at the stretch's end are all that were in F7 in it, as nobody leaves.
   abbrev pub WaitEnds : Type 0
   WaitEnds =
       (n L i p : ℕ) →
@@ -58,13 +61,14 @@ module _ (x1 x2 : ℕ) (c : Channel) (during : List Action) where
       p + waitBound n L x1 ≤ length opps →
       CompletedWithin 1 i p (waitBound n L x1)
 
-  -- No sending stops inside its opening flag. The flag of a sending begun at opportunity p leaves at p to p + 7, and its echoes come at
-  -- p + 1 to p + 8: the sending goes on at each of them.
+  -- No sending stops inside its opening flag. The flag of a sending begun at opportunity p leaves
+  -- at p to p + 7, and its echoes come at p + 1 to p + 8: the sending goes on at each of them.
   abbrev pub NoStopInFlag : Type 0
   NoStopInFlag =
       (j p s : ℕ) → Begins x1 x2 j (at opps p) → s ≤ 9 → p + s < length opps → contender j (at opps (p + s)) .access .sent ≡ s
 
-  -- the frame that terminal j completes at opportunity u was begun at p or later, as many opportunities before u as its image has bits
+  -- the frame that terminal j completes at opportunity u was begun at p or later, as many
+  -- opportunities before u as its image has bits
   pub record BegunSince (p j u : ℕ) : Type 0 where
     pub when : ℕ
     pub since : p ≤ when
@@ -72,10 +76,11 @@ module _ (x1 x2 : ℕ) (c : Channel) (during : List Action) where
     pub same-body : contender j (at opps when) .body ≡ contender j (at opps u) .body
     pub bits-since : when + length (image (contender j (at opps u) .body)) ≡ u
 
-  -- What is heard at opportunity t's D and completed at the next one's E. At one D one body is heard at most, so "It is heard once" needs
-  -- no words of its own.
+  -- What is heard at opportunity t's D and completed at the next one's E. At one D one body is
+  -- heard at most, so "It is heard once" needs no words of its own.
   pub record HeardWhole (p t : ℕ) : Type 0 where
-    -- "A body is heard at its D exactly when a frame with that body is completed at the next one's E"
+    -- "A body is heard at its D exactly when a frame with that body is completed at the next one's
+    -- E"
     pub heard-completed : (body : List ℕ) → saidAt x1 x2 (at opps t) ≡ heard body →
         (j : ℕ) × (k : ℕ) × (1 ≤ k) × Completes x1 x2 k j (at opps (t + 1)) × (contender j (at opps (t + 1)) .body ≡ body)
     -- .. and "all frames completed there have that body"
@@ -86,8 +91,9 @@ module _ (x1 x2 : ℕ) (c : Channel) (during : List Action) where
     -- "nothing is torn"
     pub not-torn : saidAt x1 x2 (at opps t) ≡ torn → ⊥
 
-  -- "Take each D opportunity after the last bit of the first opening flag begun in the stretch, up to the stretch's last but one": p is
-  -- any opportunity at which a frame is begun, the first one included, and that flag's last bit leaves at p + 7 (NoStopInFlag)
+  -- "Take each D opportunity after the last bit of the first opening flag begun in the stretch, up
+  -- to the stretch's last but one": p is any opportunity at which a frame is begun, the first one
+  -- included, and that flag's last bit leaves at p + 7 (NoStopInFlag)
   abbrev pub HeardInOrder : Type 0
   HeardInOrder = (j p t : ℕ) → Begins x1 x2 j (at opps p) → p + 7 < t → t + 1 < length opps → HeardWhole p t
 
@@ -97,7 +103,8 @@ module _ (x1 x2 : ℕ) (c : Channel) (during : List Action) where
     pub wait-ends : WaitEnds
     pub heard-in-order : HeardInOrder
 
--- what holds of every stretch from every channel that satisfies the invariant, for all levels with 8 ≤ x1 and x1 + 2 ≤ x2 ..
+-- what holds of every stretch from every channel that satisfies the invariant, for all levels with
+-- 8 ≤ x1 and x1 + 2 ≤ x2 ..
 abbrev pub InStretches : ((x1 x2 : ℕ) → Channel → List Action → Type 0) → Type 0
 InStretches P =
     (x1 x2 : ℕ) (c : Channel) (during : List Action) → 8 ≤ x1 → x1 + 2 ≤ x2 → Invariant x2 c → Stretch x1 x2 c during → P x1 x2 c during
@@ -106,13 +113,15 @@ InStretches P =
 abbrev pub start : ℕ → ℕ → ℕ → List Action → Channel
 start x1 x2 terminals before = run x1 x2 (freshChannel terminals) before
 
--- .. and so of every stretch of every list of actions from a fresh channel with any number of terminals
+-- .. and so of every stretch of every list of actions from a fresh channel with any number of
+-- terminals
 abbrev pub InLists : ((x1 x2 : ℕ) → Channel → List Action → Type 0) → Type 0
 InLists P =
     (x1 x2 terminals : ℕ) (before during : List Action) → 8 ≤ x1 → x1 + 2 ≤ x2 →
     Stretch x1 x2 (start x1 x2 terminals before) during → P x1 x2 (start x1 x2 terminals before) during
 
--- Demand 3 for the D channel, and the same from any channel that satisfies the invariant, as a restored one does (document 02, 2.10).
+-- Demand 3 for the D channel, and the same from any channel that satisfies the invariant, as a
+-- restored one does (document 02, 2.10).
 abbrev pub Demand3 : Type 0
 Demand3 = InLists ThreeParts
 

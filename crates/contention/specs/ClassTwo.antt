@@ -33,8 +33,9 @@ module _ (x1 x2 : ℕ) where
   onesTaken c [] = 0
   onesTaken c (a ∷ more) = cond (takesOne c a) 1 0 + onesTaken (step x1 x2 c a) more
 
-  -- "with at most k class 1 frames held or handed in during the stretch, a class 2 frame waiting at normal level is completed, counted as
-  -- there and if the stretch lasts that long, within (n + 1 + k) times (L + 10) D opportunities. After 2.9, x2 replaces 10": `ones` is that k
+  -- "with at most k class 1 frames held or handed in during the stretch, a class 2 frame waiting at
+  -- normal level is completed, counted as there and if the stretch lasts that long, within (n + 1 +
+  -- k) times (L + 10) D opportunities. After 2.9, x2 replaces 10": `ones` is that k
   abbrev pub WaitEndsClassTwo : Channel → List Action → Type 0
   WaitEndsClassTwo c during =
       (n L ones i p : ℕ) →

@@ -31,6 +31,7 @@ pub record Invariant (x2 : ℕ) (c : Channel) : Type 0 where
       (contender i c .access .sent ≡ contender j c .access .sent) ×
       ((t : ℕ) → t + 1 < contender i c .access .sent
       → getD (image (contender i c .body)) t true ≡ getD (image (contender j c .body)) t true)
-  -- while one goes on, every C is at most the 1s that end what it has heard of itself: so nobody starts
+  -- while one goes on, every C is at most the 1s that end what it has heard of itself: so nobody
+  -- starts
   pub held-back : (i j n : ℕ) → contender i c .access .sent ≡ suc (suc n) →
       contender j c .access .count ≤ endingOnes (take (suc n) (image (contender i c .body)))

@@ -24,9 +24,9 @@ module _ (x1 x2 : ℕ) where
   opportunities c [] = []
   opportunities c (a ∷ more) = seen c a ++ opportunities (step x1 x2 c a) more
 
-  -- What a stretch allows of one action. "No period run in it has a hit or a terminal sending INFO 1": the E of an opportunity is the last
-  -- D, and its D is what the terminals send together. The network end stays in G3, so it reads D and its reader is not cleared, and nobody
-  -- leaves F7.
+  -- What a stretch allows of one action. "No period run in it has a hit or a terminal sending INFO
+  -- 1": the E of an opportunity is the last D, and its D is what the terminals send together. The
+  -- network end stays in G3, so it reads D and its reader is not cleared, and nobody leaves F7.
   abbrev pub Calm : Channel → Action → Type 0
   Calm c (hand i k body) = Unit
   Calm c (enter i) = Unit
@@ -50,15 +50,17 @@ module _ (x1 x2 : ℕ) where
 unfoldable pub contender : ℕ → Channel → Contender
 contender i c = getD (c .contenders) i freshContender
 
--- "It waits at a D opportunity when, as E comes, it is in F7, holds a frame and that frame's class is at the normal level; one that is
--- sending waits too": the terminal at index i, with a frame of class k
+-- "It waits at a D opportunity when, as E comes, it is in F7, holds a frame and that frame's class
+-- is at the normal level; one that is sending waits too": the terminal at index i, with a frame of
+-- class k
 pub record Waits (k i : ℕ) (c : Channel) : Type 0 where
   pub in-F7 : contender i c .active ≡ true
   pub holds : contender i c .access .held ≡ k
   pub normal : lowOf k (contender i c .access) ≡ false
 
 module _ (x1 x2 : ℕ) where
-  -- "The frame is completed when the echo of its last bit agrees": the terminal's frame of class k, at this E
+  -- "The frame is completed when the echo of its last bit agrees": the terminal's frame of class k,
+  -- at this E
   pub record Completes (k i : ℕ) (c : Channel) : Type 0 where
     pub in-F7 : contender i c .active ≡ true
     pub done : accessStepAt x1 x2 (c .heardD) (contender i c) .done ≡ k

@@ -14,7 +14,8 @@ use Rattle.d_reader.specs.declared.ReaderAnswer.{ReaderAnswer}
 use Rattle.d_reader.specs.declared.ReaderAnswer.the-variants.{Nothing, Heard, Torn, Refused}
 use Rattle.d_reader.specs.declared.Read.{Read}
 
--- bits are counted up to here: so many, even less the seven of a flag, are too many for a body
+-- the count of bits goes up to here: mostBits, even less the seven of a flag, are too many for a
+-- body
 abbrev pub mostBits : ℕ
 mostBits = 8 * longestBody + 8
 
@@ -26,15 +27,16 @@ freshReader = record { bits = 0; ones = 7; octet = 0; opened = false; zero = fal
 abbrev pub openedReader : Reader
 openedReader = record { bits = 0; ones = 0; octet = 0; opened = true; zero = false }
 
--- one bit more
+-- a count of bits with one bit more: it stays at mostBits once there
 unfoldable pub oneMore : ℕ → ℕ
 oneMore n = cond (ltb n mostBits) (n + 1) mostBits
 
--- a data bit is taken up; n and z are the new number of 1s, and whether the last 0 counts
+-- the reader after a data bit; n and z are the new number of 1s, and whether the last 0 counts
 abbrev pub takeUp : Bool → ℕ → Bool → Reader → Reader
 takeUp b n z r = record { bits = oneMore (r .bits); ones = n; octet = shifted (r .octet) b; opened = r .opened; zero = z }
 
--- the reader after a bit: the seventh 1 breaks the frame off; a 0 after six 1s ends a flag, after five it is an inserted one
+-- the reader after a bit: the seventh 1 breaks the frame off; a 0 after six 1s ends a flag, after
+-- five it is an inserted one
 unfoldable pub afterBit : Bool → Reader → Reader
 afterBit true r = cond (ltb (r .ones) 6) (takeUp true (r .ones + 1) (r .zero) r) freshReader
 afterBit false r =
@@ -43,12 +45,12 @@ afterBit false r =
     (record { bits = r .bits; ones = 0; octet = r .octet; opened = r .opened; zero = false })
     (takeUp false 0 (r .opened) r))
 
--- whether a bit that is read after so many 1s is a data bit, as far as can be known
+-- whether a bit that is read after `ones` 1s is a data bit, as far as can be known then
 unfoldable pub isData : Bool → ℕ → Bool
 isData true ones = ltb ones 6
 isData false ones = cond (eqb ones 5) false (not (eqb ones 6))
 
--- whether a bit is the eighth of an octet, where a body may be so long
+-- whether a bit is the eighth of an octet that the longest body can still have
 unfoldable pub fills : Bool → Reader → Bool
 fills b r =
     cond (r .opened)
@@ -68,7 +70,8 @@ betweenFlags n =
 unfoldable pub abortedAfter : ℕ → ReaderAnswer
 abortedAfter n = cond (ltb n 8) Nothing Torn
 
--- what the reader answers to a bit: the six 1s before it are no data bits, nor is the 0 before these where a flag ends
+-- what the reader answers to a bit: where it ends a flag or is the seventh 1, the six 1s before it
+-- are no data bits, nor is the 0 before these where a flag ends
 unfoldable pub answerTo : Bool → Reader → ReaderAnswer
 answerTo b r =
     cond (r .opened)

@@ -30,11 +30,12 @@ zeroCounts [] = false
 zeroCounts (true ∷ bs) = zeroCounts bs
 zeroCounts (false ∷ bs) = not (eqb (leading bs) 5)
 
--- a count of bits as the record has it
+-- a count of bits as the record has it: at most mostBits
 unfoldable pub capped : ℕ → ℕ
 capped n = cond (ltb n mostBits) n mostBits
 
--- the frame under way: `since` is what has been read since the opening flag, whose 0 is the oldest of the raw bits
+-- the frame under way: `since` is what has been read since the opening flag, whose 0 is the oldest
+-- of the raw bits
 pub record FrameRead (r : Reader) (buf : List ℕ) (raw : List Bool) : Type 0 where
   pub since : List Bool
   pub raw-is : raw ≡ since ++ (false ∷ [])
@@ -60,8 +61,9 @@ readerMeaning (Heard n) buf = readerSays (heard (take n buf))
 readerMeaning Torn buf = readerSays torn
 readerMeaning (Refused k) buf = readerRefused k
 
--- A call, with a buffer that is long enough, is a step of the reader over raw bits: from every reading that the record and the octets
--- stand for, the answer means what is said to the bit, and what the call leaves stands for the next reading.
+-- A call, with a buffer that is long enough, is a step of the reader over raw bits: from every
+-- reading that the record and the octets stand for, the answer means what is said to the bit, and
+-- what the call leaves stands for the next reading.
 abbrev pub ReadsOn : Reader → List ℕ → Bool → Read → List ℕ → Type 0
 ReadsOn r buf b after left =
     (s : Reading) → longestBody ≤ length buf → StandsFor r buf s

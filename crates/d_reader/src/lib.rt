@@ -13,13 +13,16 @@ ghost use Rattle.d_reader.specs.StandsFor.{StandsFor, ReadsOn};
 const LONGEST_BODY: usize = 266;
 // Its bits.
 const BODY_BITS: u16 = 8 * LONGEST_BODY as u16;
-// Bits are counted up to here.
+// The count of bits goes up to here: MOST_BITS, even less the seven of a flag, are too many for a
+// body.
 const MOST_BITS: u16 = BODY_BITS + 8;
 
-// What has been read of the frame under way, in counters. The frame's whole octets stand in a lent buffer.
+// What has been read of the frame under way, in counters. The frame's whole octets stand in a lent
+// buffer.
 pub struct Reader {
-    // Bits of the frame under way, inserted 0s removed, counted up to more than a heard frame and its flag have. Without meaning, as the
-    // octet, until a flag has been read.
+    // How many bits of the frame under way have been read, inserted 0s left out; MOST_BITS stands
+    // for that many and for all more. The bits of the closing flag are counted too, as they come.
+    // While `opened` is false, this and `octet` have no meaning.
     pub bits: u16,
     // The 1s read since the last 0; 7 for seven or more, or where no 0 has been read.
     pub ones: u8,
@@ -27,14 +30,14 @@ pub struct Reader {
     pub octet: u8,
     // Whether a flag has been read, and no seven 1s since.
     pub opened: bool,
-    // Whether the last 0 read counts among the bits.
+    // Whether the last 0 read is one that `bits` counts.
     pub zero: bool,
 }
 
 // What the reader says to a bit.
 pub enum ReaderAnswer {
     Nothing,
-    // So many octets of the lent buffer are the body.
+    // A body: this many octets, the first of the lent buffer.
     Heard(u16),
     Torn,
     // The number of the refusal.
@@ -48,7 +51,7 @@ pub struct Read {
 }
 
 impl Reader {
-    // A reader that waits for a flag and has read nothing, whatever the buffer holds.
+    // Gives a reader that waits for a flag and has read nothing, whatever the buffer holds.
     pub fn fresh() -> Self
         ensures { λ r. ⌜ r ≡ freshReader ⌝ }
         ensures { λ r. ⌜ ((buf : List ℕ) → StandsFor r buf cleared) ⌝ }
@@ -62,7 +65,8 @@ impl Reader {
         }
     }
 
-    // One bit is read; the frame's octets are in the lent buffer, which has room for the longest body.
+    // Reads one bit. The frame's octets are in `octets`; where this has no room for the longest
+    // body, the call is refused with 2.
     pub fn read(self, bit: bool, octets: &mut [u8]) -> Read
         ensures { λ r. ⌜ r ≡ readBit bit (now (octets .entry)) self ⌝ }
         ensures { λ _. ⌜ now (octets .exit) ≡ readOctets bit self (now (octets .entry)) ⌝ }
@@ -81,7 +85,7 @@ impl Reader {
         }
     }
 
-    // Whether every field is in its range.
+    // Tests whether every field is in its range.
     pub fn in_range(self) -> bool
         ensures { λ r. ⌜ r ≡ readerInRange self ⌝ }
     {
@@ -92,7 +96,8 @@ impl Reader {
         }
     }
 
-    // An octet that is whole with this bit goes to its place, where a body may be so long.
+    // Puts an octet that is whole with this bit in its place, unless the longest body ends before
+    // it.
     fn store_whole(self, bit: bool, octets: &mut [u8])
         requires { ⌜ longestBody ≤ length (now octets) ⌝ }
         ensures { λ r. ⌜ now (octets .exit) ≡ storeWhole bit self (now (octets .entry)) ⌝ }
@@ -118,7 +123,7 @@ impl Reader {
         }
     }
 
-    // The record after a bit.
+    // Gives the record after a bit.
     fn after_bit(self, bit: bool) -> Self
         ensures { λ r. ⌜ r ≡ afterBit bit self ⌝ }
     {
@@ -149,7 +154,7 @@ impl Reader {
         self.take_up(false, 0, self.opened)
     }
 
-    // The record after a data bit, with the new number of 1s, and whether the last 0 counts.
+    // Gives the record after a data bit; `ones` and `zero` are what these fields become.
     fn take_up(self, bit: bool, ones: u8, zero: bool) -> Self
         ensures { λ r. ⌜ r ≡ takeUp bit ones zero self ⌝ }
     {
@@ -175,7 +180,8 @@ impl Reader {
         }
     }
 
-    // The answer to a bit: the six 1s before it are no data bits, nor is the 0 before these where a flag ends.
+    // Gives the answer to a bit. Where this bit ends a flag or is the seventh 1, the six 1s before
+    // it are no data bits, nor is the 0 before these where a flag ends.
     fn answer_to(self, bit: bool) -> ReaderAnswer
         ensures { λ r. ⌜ r ≡ answerTo bit self ⌝ }
     {

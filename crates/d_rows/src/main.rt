@@ -1,19 +1,22 @@
-// Prints some images, and what the reader says to bit strings; the last and longest of these is read from standard input.
+// Prints some images, and what the reader says to bit strings; the last and longest of these is
+// read from standard input.
 use d_reader::Reader;
 use d_reader::ReaderAnswer;
 use libc::STDIN_FILENO;
 use libc::STDOUT_FILENO;
 use packing::image::Imaged;
 
+// Prints a text.
 fn text(t: &[u8]) {
     io::write_all(STDOUT_FILENO, t);
 }
 
+// Prints a number.
 fn number(n: usize) {
     io::print_decimal(STDOUT_FILENO, n as u64);
 }
 
-// Octets in hexadecimal.
+// Prints octets in hexadecimal.
 fn octets(o: &[u8]) {
     let mut i: usize = 0;
     while i < o.len() {
@@ -22,13 +25,14 @@ fn octets(o: &[u8]) {
     }
 }
 
-// The first of them.
+// Prints the first `count` of some octets, where there are that many.
 fn first(o: &[u8], count: usize) {
     if count <= o.len() {
         octets(&o[..count]);
     }
 }
 
+// Prints a bit.
 fn bit(b: bool) {
     if b {
         text(b"1");
@@ -37,7 +41,7 @@ fn bit(b: bool) {
     }
 }
 
-// The first bits of packed octets.
+// Prints the first `count` bits of packed octets.
 fn bits(o: &[u8], count: u16) {
     let mut i: u16 = 0;
     while i < count {
@@ -46,7 +50,8 @@ fn bits(o: &[u8], count: u16) {
     }
 }
 
-// A line for an image: its length in bits and, where asked, the bits; or the number of the refusal.
+// Prints a line for an image: its length in bits and, if `shown`, the bits; or the number of the
+// refusal.
 fn image(body: &[u8], out: &mut [u8], shown: bool) {
     let answer = packing::image::image(body, out);
     match answer {
@@ -65,7 +70,7 @@ fn image(body: &[u8], out: &mut [u8], shown: bool) {
     text(b"\n");
 }
 
-// A line for what the reader answers to the bit at a place, unless it is nothing.
+// Prints a line for what the reader answers to the bit at a place, unless it is nothing.
 fn answer(place: usize, answer: ReaderAnswer, heard: &[u8]) {
     match answer {
         ReaderAnswer::Nothing => {}
@@ -88,7 +93,8 @@ fn answer(place: usize, answer: ReaderAnswer, heard: &[u8]) {
     }
 }
 
-// What a fresh reader answers to the digits of a bit string, each with the digit's place.
+// Prints what a fresh reader answers to the digits of a bit string, each answer with the digit's
+// place, and gives the reader after them.
 fn answers(digits: &[u8], heard: &mut [u8]) -> Reader {
     let mut reader = Reader::fresh();
     let mut i: usize = 0;
@@ -102,7 +108,7 @@ fn answers(digits: &[u8], heard: &mut [u8]) -> Reader {
     reader
 }
 
-// The same, and whether the reader is in range in the end.
+// Prints the same, and whether the reader is in range in the end.
 fn read(digits: &[u8], heard: &mut [u8]) {
     if answers(digits, heard).in_range() {
         text(b"in range\n");
@@ -111,6 +117,7 @@ fn read(digits: &[u8], heard: &mut [u8]) {
     }
 }
 
+// Prints the images of some bodies.
 fn images() {
     let mut out = [0u8; 322];
     let longest = [255u8; 267];
@@ -125,6 +132,7 @@ fn images() {
     image(&longest[..266], &mut short, false);
 }
 
+// Prints what the reader says to some bit strings.
 fn readings() {
     let mut heard = [0u8; 266];
     text(b"an image of 00\n");

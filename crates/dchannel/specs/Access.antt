@@ -120,7 +120,8 @@ goesOn e next a = cond (sameBit e (a .last)) (cond (leb (a .length) (a .sent)) (
 abbrev pub tries : ℕ → ℕ → Bool → Access → AccessStep
 tries x1 x2 next a = cond (mayStart x1 x2 a) (sendsNext next a) (idles a)
 
--- One D opportunity in F7 with the E heard and the image's bit number `sent`, in the order of docs/DECISIONS.md, reading 1: C and the
--- levels first; then what a terminal does that was sending as E came, or was not.
+-- One D opportunity in F7 with the E heard and the image's bit number `sent`, in the order of
+-- docs/DECISIONS.md, reading 1: C and the levels first; then what a terminal does that was sending
+-- as E came, or was not.
 unfoldable pub accessStep : ℕ → ℕ → Bool → Bool → Access → AccessStep
 accessStep x1 x2 e next a = cond (sending a) (goesOn e next (afterE x1 x2 e a)) (tries x1 x2 next (afterE x1 x2 e a))

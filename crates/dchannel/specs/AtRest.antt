@@ -6,7 +6,7 @@ use Prim.Native.Nat.{ℕ, _+_}
 use lib.Dec.{eqb}
 use Rattle.dchannel.specs.declared.access.Access.{Access}
 
--- An access that every further E of 1 leaves as it is: no frame is held, C has come to its end, and class 2 is at its normal level (class 1
--- no longer changes there, at whichever level it is).
+-- An access that every further E of 1 leaves as it is: no frame is held, C has come to its end, and
+-- class 2 is at its normal level (class 1 no longer changes there, at whichever level it is).
 unfoldable pub atRest : ℕ → Access → Bool
 atRest x2 a = ((eqb (a .held) 0 && eqb (a .sent) 0) && eqb (a .count) (x2 + 1)) && not (a .low2)

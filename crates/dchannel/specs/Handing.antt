@@ -26,7 +26,8 @@ unfoldable pub takenUp : ℕ → ℕ → Access → Access
 takenUp k n a =
     record { length = n; sent = 0; count = a .count; held = k; low1 = a .low1; low2 = a .low2; last = true }
 
--- A frame whose image has n bits is handed over: refused by 7 where no body has such an image, by 8 where one is held.
+-- A frame whose image has n bits is handed over: refused by 7 where no body has such an image, by 8
+-- where one is held.
 unfoldable pub handed : Class → ℕ → Access → Handed
 handed class n a =
     cond (isImageLength n)

@@ -8,6 +8,7 @@ use lib.Dec.{leb}
 use Rattle.hdlc.specs.Image.{longestImage}
 use Rattle.dchannel.specs.declared.access.Access.{Access}
 
--- the class from 0 to 2, the image's bits and those that have left to the longest image, C to the low value of class 2
+-- the class from 0 to 2, the image's bits and those that have left to the longest image, C to the
+-- low value of class 2
 unfoldable pub accessInRange : ℕ → Access → Bool
 accessInRange x2 a = leb (a .held) 2 && leb (a .length) longestImage && leb (a .sent) longestImage && leb (a .count) (x2 + 1)

@@ -6,7 +6,7 @@ ghost use Rattle.dchannel.specs.AtRest.{atRest};
 ghost use Rattle.dchannel.specs.Handing.{handed, left};
 ghost use Rattle.dchannel.specs.Ranges.{accessInRange};
 
-// The C at which class 1 starts at its normal level. The low level is one more.
+// The C at which class 1 starts at its normal level. At the low level it is one more.
 pub const NORMAL_1: u8 = 8;
 // The same for class 2.
 pub const NORMAL_2: u8 = 10;
@@ -41,14 +41,16 @@ pub struct Access {
     pub last: bool,
 }
 
-// What one D opportunity gives: the record after it, the bit for D and the class of a completed frame, 0 for none.
+// What one D opportunity gives: the record after it, the bit for D and the class of a completed
+// frame, 0 for none.
 pub struct AccessStep {
     pub access: Access,
     pub d: bool,
     pub done: u8,
 }
 
-// What handing over a frame gives: the record, and 0, or the number of the refusal (7 or 8) with the record as it was.
+// What handing over a frame gives: the record, and 0, or the number of the refusal (7 or 8) with
+// the record as it was.
 pub struct Handed {
     pub access: Access,
     pub reply: u8,
@@ -61,7 +63,7 @@ pub struct Left {
 }
 
 impl Access {
-    // No frame held, C at 0, both levels normal.
+    // Gives a record with no frame held, C at 0 and both levels normal.
     pub fn fresh() -> Self
         ensures { λ r. ⌜ r ≡ fresh ⌝ }
     {
@@ -76,7 +78,8 @@ impl Access {
         }
     }
 
-    // A frame of a class, whose image has so many bits, is handed over.
+    // Hands over a frame of a class, whose image has `length` bits. It is refused with 7 where no
+    // image has that length, and with 8 where a frame is held.
     pub fn hand(self, class: Class, length: u16) -> Handed
         ensures { λ r. ⌜ r ≡ handed class length self ⌝ }
     {
@@ -111,7 +114,7 @@ impl Access {
         }
     }
 
-    // The terminal enters F7.
+    // Gives the record as the terminal enters F7: C is 0.
     pub fn enter(self) -> Self
         ensures { λ r. ⌜ r ≡ entered self ⌝ }
     {
@@ -126,7 +129,8 @@ impl Access {
         }
     }
 
-    // The terminal leaves F7.
+    // Gives the record as the terminal leaves F7: a held frame is dropped, and both levels are
+    // normal.
     pub fn leave(self) -> Left
         ensures { λ r. ⌜ r ≡ left self ⌝ }
     {
@@ -136,7 +140,7 @@ impl Access {
         }
     }
 
-    // One D opportunity in F7: the E heard, and the image's bit number `sent`.
+    // Takes one D opportunity in F7: e is the E heard, and `next` is the image's bit number `sent`.
     pub fn access_step(self, e: bool, next: bool) -> AccessStep
         ensures { λ r. ⌜ r ≡ accessStep normal1 normal2 e next self ⌝ }
     {
@@ -172,7 +176,7 @@ impl Access {
         }
     }
 
-    // C and the levels after an E.
+    // Gives the record with C and the levels after an E.
     fn after_e(self, e: bool) -> Self
         ensures { λ r. ⌜ r ≡ afterE normal1 normal2 e self ⌝ }
     {
@@ -196,7 +200,7 @@ impl Access {
         }
     }
 
-    // A sending under way ends: the frame is completed, or it is held and starts over.
+    // Ends a sending under way: the frame is completed, or it stays held and starts over.
     fn ends(self, completed: bool) -> AccessStep
         ensures { λ r. ⌜ r ≡ cond completed (completes self) (stops self) ⌝ }
     {
@@ -231,7 +235,7 @@ impl Access {
         }
     }
 
-    // Whether a held frame starts: C has reached the threshold of its class at its level.
+    // Tests whether a held frame starts: C has reached the threshold of its class at its level.
     fn may_start(self) -> bool
         ensures { λ r. ⌜ r ≡ mayStart normal1 normal2 self ⌝ }
     {
@@ -241,14 +245,14 @@ impl Access {
         (self.held != 0) & (NORMAL_2 + self.low2 as u8 <= self.count)
     }
 
-    // Whether every further E of 1 leaves the record as it is.
+    // Tests whether every further E of 1 leaves the record as it is.
     pub fn at_rest(self) -> bool
         ensures { λ r. ⌜ r ≡ atRest normal2 self ⌝ }
     {
         (self.held == 0) & (self.sent == 0) & (self.count == NORMAL_2 + 1) & !self.low2
     }
 
-    // Whether every field is in its range.
+    // Tests whether every field is in its range.
     pub fn in_range(self) -> bool
         ensures { λ r. ⌜ r ≡ accessInRange normal2 self ⌝ }
     {

@@ -31,7 +31,7 @@ use Rattle.network.specs.Calls as networkCalls
 use Rattle.terminal.specs.Terminal as terminal
 use Rattle.terminal.specs.Calls as terminalCalls
 
--- whether bits are the given ones, written as 0 and 1
+-- bits written as 0 and 1, and whether two lists of bits are the same
 abbrev bits : List ℕ → List Bool
 bits [] = []
 bits (n ∷ ns) = eqb n 1 ∷ bits ns
@@ -42,18 +42,19 @@ alike [] (y ∷ ys) = false
 alike (x ∷ xs) [] = false
 alike (x ∷ xs) (y ∷ ys) = cond (cond x y (not y)) (alike xs ys) false
 
--- a terminal in F7 with C at c that holds a frame of class k with an image of n bits, the class at its low level or not, and the other
--- class at the other level
+-- a terminal in F7 with C at c that holds a frame of class k with an image of n bits, the class at
+-- its low level or not, and the other class at the other level
 abbrev holding : ℕ → Bool → ℕ → ℕ → Access
 holding k low n c =
     let first = eqb k 1 in
     record { length = n; sent = 0; count = c; held = k; low1 = cond first low (not low); low2 = cond first (not low) low; last = true }
 
--- whether it starts
+-- whether such a terminal starts to send its frame
 abbrev starts : ℕ → Bool → ℕ → Bool
 starts k low c = mayStart normal1 normal2 (holding k low 24 c)
 
--- Two terminals that send images x and y, over n D opportunities from the echo e: the classes of the frames that each completes, added.
+-- Two terminals with accesses a and b that send images x and y, over some D opportunities from the
+-- echo e: the classes of the frames that each completes, added to m and to n.
 abbrev completed : ℕ → List Bool → List Bool → Access → Access → Bool → ℕ → ℕ → List ℕ
 completed zero x y a b e m n = m ∷ n ∷ []
 completed (suc k) x y a b e m n =
@@ -64,7 +65,8 @@ completed (suc k) x y a b e m n =
 abbrev first00 : List ℕ
 first00 = completed 25 (image (0 ∷ [])) (image (1 ∷ [])) (holding 1 false 24 8) (holding 1 false 24 8) true 0 0
 
--- the state of the network end in G4 after it has heard a line, and of a terminal in F6 after its T3 is due
+-- the state of the network end in G4 after it has heard a line, and of a terminal in F6 after its
+-- T3 is due
 abbrev g4Hears : List ℕ → ℕ
 g4Hears line =
     networkCalls.hearCall (shownUp line) (record { 0 = 9 }) (record { t1 = 0; t2 = 0; state = G4; alignment = unaligned 0 })
@@ -75,7 +77,8 @@ f6Due =
     terminalCalls.timerCall (record { 0 = 9 }) (record { t3 = 9; access = access.fresh; state = F6; alignment = inAlignment 0 })
     .terminal .state
 
--- an upward line whose first pulse after symbol 2 is minus and stands at a position
+-- an upward line whose first pulse after symbol 2 is minus, with `before` nones before it and
+-- `after` nones after it
 abbrev pulseAt : ℕ → ℕ → List ℕ
 pulseAt before after = plus ∷ minus ∷ (replicate before none ++ (minus ∷ replicate after none))
 

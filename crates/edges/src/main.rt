@@ -1,16 +1,17 @@
-// The edges of document 01 that are checked by running: a body of 266 octets is taken, one of 267 refused. The others stand in
-// specs/Edges.antt.
+// The edges of document 01 that are checked by running: a body of 266 octets is taken, one of 267
+// refused. The others stand in specs/Edges.antt.
 use dchannel::access::Access;
 use dchannel::access::Class;
 use libc::STDOUT_FILENO;
 use packing::image::Imaged;
 use packing::image::image;
 
+// Prints a text.
 fn say(text: &[u8]) {
     io::write_all(STDOUT_FILENO, text);
 }
 
-// The answer of the image call, and then of handing the frame over.
+// Prints the answer of the image call, and then that of handing the frame over.
 fn show(answer: Imaged) {
     match answer {
         Imaged::Bits(n) => {

@@ -9,11 +9,12 @@ use lib.Dec.{eqb}
 use lib.ListN.{length, getD, take, drop}
 use Rattle.frame.specs.declared.fields.Four.{Four}
 
+-- A bit as a number.
 abbrev pub bit : Bool → ℕ
 bit true = 1
 bit false = 0
 
--- The number that some bits are, the first the highest.
+-- The number that bits stand for, the first bit being the highest.
 unfoldable pub numberHighFirst : List Bool → ℕ
 numberHighFirst [] = 0
 numberHighFirst (b ∷ bs) = bit b * 2 ^ length bs + numberHighFirst bs
@@ -31,12 +32,13 @@ octetBits n =
     ∷ eqb (n % 2) 1
     ∷ []
 
--- How many 0s there are.
+-- How many 0s a list of bits holds.
 unfoldable pub zeros : List Bool → ℕ
 zeros [] = 0
 zeros (b ∷ bs) = (1 - bit b) + zeros bs
 
--- The L of some bits: 0 exactly if they hold an odd number of 0s, so that with L the 0s are even in number.
+-- The L of some bits: 0 exactly if they hold an odd number of 0s, so that with L the 0s are even in
+-- number.
 abbrev pub balance : List Bool → Bool
 balance bs = eqb (zeros bs % 2) 0
 
@@ -51,7 +53,7 @@ bitAtPosition n bits = getD bits (n - 1) true
 abbrev pub octetAt : ℕ → List Bool → ℕ
 octetAt n bits = numberHighFirst (take 8 (drop (n - 1) bits))
 
--- Four bits at four positions.
+-- The four bits at positions i, j, k and l.
 abbrev pub fourAt : ℕ → ℕ → ℕ → ℕ → List Bool → Four
 fourAt i j k l bits =
     record {
@@ -65,6 +67,6 @@ fourAt i j k l bits =
 abbrev pub dBits : List Bool → Four
 dBits bits = fourAt 12 25 36 47 bits
 
--- The index in a line of the D at place k.
+-- The index in a line, from 0, of the D at place k: the D bits have the places 0 to 3.
 abbrev pub dIndex : ℕ → ℕ
 dIndex k = getD (11 ∷ 24 ∷ 35 ∷ 46 ∷ []) k 0

@@ -34,7 +34,8 @@ downBody f =
     ∷ f .d .fourth  -- 47 D
     ∷ [])))))))
 
--- All 48: 1 F and 2 L are 0, and the L at 48 is 0 exactly if positions 3-47 hold an odd number of 0s.
+-- All 48: 1 F and 2 L are 0, and the L at 48 is 0 exactly if positions 3-47 hold an odd number of
+-- 0s.
 unfoldable pub downBits : DownFields → List Bool
 downBits f = false ∷ false ∷ balanced (downBody f)
 
@@ -49,7 +50,7 @@ eBits bits = fourAt 11 24 35 46 bits
 abbrev pub aBit : List Bool → Bool
 aBit bits = bitAtPosition 13 bits
 
--- The indices in a line of the E at place k and of A.
+-- The indices in a line, from 0, of the E at place k and of A: the E bits have the places 0 to 3.
 abbrev pub eIndex : ℕ → ℕ
 eIndex k = getD (10 ∷ 23 ∷ 34 ∷ 45 ∷ []) k 0
 

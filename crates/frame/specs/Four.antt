@@ -11,7 +11,7 @@ use Rattle.frame.specs.declared.fields.Four.{Four}
 unfoldable pub pick : ℕ → Four → Bool
 pick k f = getD (f .first ∷ f .second ∷ f .third ∷ f .fourth ∷ []) k true
 
--- Four bits of which the first ones are known: 1 for the rest.
+-- Four bits of which only the first ones are known, as `bits`: 1 for the rest.
 unfoldable pub filledWithOnes : List Bool → Four
 filledWithOnes bits = record { first = getD bits 0 true; second = getD bits 1 true; third = getD bits 2 true; fourth = getD bits 3 true }
 
@@ -19,7 +19,7 @@ filledWithOnes bits = record { first = getD bits 0 true; second = getD bits 1 tr
 abbrev pub allFour : Bool → Four
 allFour b = record { first = b; second = b; third = b; fourth = b }
 
--- The ANDs of four bits, over a list.
+-- The ANDs of two times four bits, and of a whole list of them, place by place.
 abbrev pub andFour : Four → Four → Four
 andFour a b =
     record {

@@ -16,7 +16,7 @@ use Rattle.frame.specs.declared.fields.Four.{Four}
 use Rattle.frame.specs.declared.fields.DownFields.{DownFields}
 use Rattle.frame.specs.declared.fields.UpFields.{UpFields}
 
--- ---- At symbol level: its bits.
+-- ---- At symbol level a written frame has its own bits.
 abbrev pub LevelsDown : Type 0
 LevelsDown = (f : DownFields) → levels (downLine f) ≡ downBits f
 
@@ -42,8 +42,8 @@ LineDown = (f : DownFields) → isLine (downLine f) ≡ true
 abbrev pub LineUp : Type 0
 LineUp = (f : UpFields) → isLine (upLine f) ≡ true
 
--- ---- An upward frame is its groups one after the other, each beginning with minus: a group with its L leaves the polarity as it
--- found it. So each D of 0 is a minus.
+-- ---- An upward frame is its groups one after the other, each beginning with minus: a group with
+-- its L leaves the polarity as it found it. So each D of 0 is a minus.
 abbrev pub BalancedPolarity : Type 0
 BalancedPolarity = (bs : List Bool) → nextPulse minus (balanced bs) ≡ minus
 

@@ -11,12 +11,13 @@ use Rattle.symbols.specs.Symbols.{none, plus, minus}
 abbrev pub opposite : ℕ → ℕ
 opposite s = 3 - s
 
--- Bits as symbols, where the next pulse is s: a 1 is none and leaves the polarity, a 0 is a pulse and turns it.
+-- Bits as symbols, where the next pulse is s: a 1 is none and leaves the polarity, a 0 is a pulse
+-- and turns it.
 unfoldable pub alternate : ℕ → List Bool → List ℕ
 alternate s [] = []
 alternate s (b ∷ bs) = cond b none s ∷ alternate (cond b s (opposite s)) bs
 
--- The polarity of the next pulse after some bits.
+-- The polarity of the next pulse after some bits, before which it is s.
 unfoldable pub nextPulse : ℕ → List Bool → ℕ
 nextPulse s [] = s
 nextPulse s (b ∷ bs) = nextPulse (cond b s (opposite s)) bs

@@ -49,7 +49,8 @@ upFieldsOf line = upFields (levels line)
 abbrev pub groupSymbols : List Bool → List ℕ
 groupSymbols bs = alternate minus (balanced bs)
 
--- The symbols of the ten groups, in the order of the line: F with its L, then B1, D, FA, B2, D, B1, D, B2, D with theirs.
+-- The symbols of the ten groups, in the order of the line: F with its L, then B1, D, FA, B2, D, B1,
+-- D, B2, D with theirs.
 abbrev pub upGroups : List (UpFields → List ℕ)
 upGroups =
     (λ f. plus ∷ minus ∷ [])

@@ -1,4 +1,5 @@
-// The fields of the two frames, by value: every bit but F, L, N and the upward FA.
+// The fields of the two frames, by value: every bit but those that follow from others (L and N) and
+// those that are always 0 (F, and FA upward).
 
 // The four D bits of a frame, or its four echo bits, in the order of the line.
 pub struct Four {

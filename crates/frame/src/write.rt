@@ -1,4 +1,4 @@
-// Writing frames.
+// Writing frames as lines.
 ghost use mathlib.Core.Path.{_≡_};
 ghost use mathlib.Core.List.{_∷_};
 ghost use mathlib.Core.Bool.{cond, false};
@@ -20,14 +20,15 @@ use symbols::PLUS;
 // 2 to the 45th, the highest of 46 bits.
 const TOP: u64 = 35184372088832;
 
-// The symbol of a bit, where the next pulse is next.
+// Gives the symbol of a bit: none for a 1, the pulse `next` for a 0.
 fn symbol(b: bool, next: u8) -> u8
     ensures { λ r. ⌜ r ≡ cond b none next ⌝ }
 {
     if b { NONE } else { next }
 }
 
-// The polarity of the next pulse after that bit.
+// Gives the polarity of the next pulse after the bit b, before which it was `next`: a 1 leaves it,
+// a 0 turns it.
 fn turned(b: bool, next: u8) -> u8
     requires { ⌜ next < 4 ⌝ }
     ensures { λ r. ⌜ r ≡ cond b next (opposite next) ⌝ }
@@ -36,7 +37,8 @@ fn turned(b: bool, next: u8) -> u8
     if b { next } else { 3 - next }
 }
 
-// Writes the line of a frame whose bits 3 to 48 are w's 46 bits, the highest first.
+// Writes the line of a frame whose bits 3 to 48 are w's 46 bits, the highest first, and replies 0;
+// or replies 2 where `out` is not 48 long.
 fn emit(w: u64, out: &mut [u8]) -> u8
     ensures reply { λ r. ⌜ r ≡ reply (hasLineLength (now (out .entry))) ⌝ }
     ensures octets { λ _. ⌜ now (out .exit)
@@ -60,7 +62,7 @@ fn emit(w: u64, out: &mut [u8]) -> u8
     0
 }
 
-// Writes a downward frame: 0, or 2 where what is lent is not 48 long.
+// Writes a downward frame and replies 0, or replies 2 where `out` is not 48 long.
 pub fn write_down(f: DownFields, out: &mut [u8]) -> u8
     ensures reply { λ r. ⌜ r ≡ reply (hasLineLength (now (out .entry))) ⌝ }
     ensures octets { λ _. ⌜ now (out .exit) ≡ leaves (hasLineLength (now (out .entry))) (downLine f) (now (out .entry)) ⌝ }
@@ -68,7 +70,7 @@ pub fn write_down(f: DownFields, out: &mut [u8]) -> u8
     emit(down_word(f), out)
 }
 
-// Writes an upward frame: 0, or 2 where what is lent is not 48 long.
+// Writes an upward frame and replies 0, or replies 2 where `out` is not 48 long.
 pub fn write_up(f: UpFields, out: &mut [u8]) -> u8
     ensures reply { λ r. ⌜ r ≡ reply (hasLineLength (now (out .entry))) ⌝ }
     ensures octets { λ _. ⌜ now (out .exit) ≡ leaves (hasLineLength (now (out .entry))) (upLine f) (now (out .entry)) ⌝ }

@@ -15,8 +15,8 @@ use Rattle.frame_reader.specs.Read.{downRead, upRead}
 use Rattle.frame_reader.specs.declared.answers.ReadDown.{ReadDown}
 use Rattle.frame_reader.specs.declared.answers.ReadUp.{ReadUp}
 
--- The frame reader (document 01, "The line"; refusals 2 and 10), for fields F that `write` writes and that are good, an answer R
--- that is `fields` or `refused`, and the reader `read`.
+-- The frame reader (document 01, "The line"; refusals 2 and 10), for fields F that `write` writes
+-- and that are good, an answer R that is `fields` or `refused`, and the reader `read`.
 module _ {F R : Type 0} (Good : F → Type 0) (write : F → List ℕ) (fields : F → R) (refused : ℕ → R) (read : List ℕ → R) where
   -- Reading what was written gives the fields.
   abbrev pub RoundTrip : Type 0

@@ -12,8 +12,8 @@ use Rattle.frame_reader.specs.declared.answers.ReadUp.{ReadUp}
 use Rattle.frame_reader.specs.declared.answers.ReadFour.{ReadFour}
 use Rattle.frame.specs.declared.fields.Four.{Four}
 
--- For a frame that is written by `write` and whose fields are taken from a line by `taken`: 2 for what is no line; the fields taken
--- where writing them gives the line back; 10 else.
+-- For a frame that is written by `write` and whose fields are taken from a line by `taken`: 2 for
+-- what is no line; the fields taken where writing them gives the line back; 10 else.
 unfoldable pub readBy : {F R : Type 0} → (F → List ℕ) → (List ℕ → F) → (F → R) → (ℕ → R) → List ℕ → R
 readBy write taken fields refused l = cond (isLine l) (cond (sameSymbols l (write (taken l))) (fields (taken l)) (refused 10)) (refused 2)
 

@@ -40,7 +40,7 @@ const E3: usize = 34;
 
 const E4: usize = 45;
 
-// The octet whose bits are the eight symbols from index at on.
+// Gives the octet whose bits are the eight symbols from index `at` on.
 fn octet_at(line: &[u8], at: usize) -> u8
     requires { ⌜ at + 8 ≤ length (now line) ⌝ }
     ensures { λ r. ⌜ r ≡ numberHighFirst (take 8 (drop at (levels (now (line .entry))))) ⌝ }
@@ -54,7 +54,7 @@ fn octet_at(line: &[u8], at: usize) -> u8
     n
 }
 
-// The bits at four indices.
+// Gives the bits at the indices i, j, k and l.
 fn four_at(line: &[u8], i: usize, j: usize, k: usize, l: usize) -> Four
     requires { ⌜ i < length (now line) ⌝ }
     requires { ⌜ j < length (now line) ⌝ }
@@ -70,7 +70,7 @@ fn four_at(line: &[u8], i: usize, j: usize, k: usize, l: usize) -> Four
     }
 }
 
-// The fields of a downward line at symbol level.
+// Gives the fields that a downward line holds at symbol level.
 fn down_fields(line: &[u8]) -> DownFields
     requires { ⌜ length (now line) ≡ lineLength ⌝ }
     ensures { λ r. ⌜ r ≡ downFieldsOf (now (line .entry)) ⌝ }
@@ -93,7 +93,7 @@ fn down_fields(line: &[u8]) -> DownFields
     }
 }
 
-// The fields of an upward line at symbol level.
+// Gives the fields that an upward line holds at symbol level.
 fn up_fields(line: &[u8]) -> UpFields
     requires { ⌜ length (now line) ≡ lineLength ⌝ }
     ensures { λ r. ⌜ r ≡ upFieldsOf (now (line .entry)) ⌝ }
@@ -107,7 +107,8 @@ fn up_fields(line: &[u8]) -> UpFields
     }
 }
 
-// Reads a downward frame: its fields, 2 for what is no line, 10 for a line that no fields are written as.
+// Reads a downward frame: gives its fields, or refuses with 2 what is no line, and with 10 a line
+// that no fields are written as.
 pub fn read_down(line: &[u8]) -> ReadDown
     ensures { λ r. ⌜ r ≡ downRead (now (line .entry)) ⌝ }
 {
@@ -125,7 +126,7 @@ pub fn read_down(line: &[u8]) -> ReadDown
     }
 }
 
-// Reads an upward frame.
+// Reads an upward frame in the same way.
 pub fn read_up(line: &[u8]) -> ReadUp
     ensures { λ r. ⌜ r ≡ upRead (now (line .entry)) ⌝ }
 {
@@ -143,7 +144,7 @@ pub fn read_up(line: &[u8]) -> ReadUp
     }
 }
 
-// The four D bits of a line of either direction.
+// Gives the four D bits of a line of either direction, or refuses with 2 what is no line.
 pub fn d_bits(line: &[u8]) -> ReadFour
     ensures { λ r. ⌜ r ≡ fourRead dBits (now (line .entry)) ⌝ }
 {
@@ -154,7 +155,7 @@ pub fn d_bits(line: &[u8]) -> ReadFour
     }
 }
 
-// The four echo bits of a downward line.
+// Gives the four echo bits of a downward line, or refuses with 2 what is no line.
 pub fn e_bits(line: &[u8]) -> ReadFour
     ensures { λ r. ⌜ r ≡ fourRead eBits (now (line .entry)) ⌝ }
 {
@@ -165,7 +166,7 @@ pub fn e_bits(line: &[u8]) -> ReadFour
     }
 }
 
-// Whether the A bit of a downward line is 1.
+// Tests whether the A bit of a downward line is 1.
 pub fn a_bit(line: &[u8]) -> TestAnswer
     ensures { λ r. ⌜ r ≡ tested aLevel (now (line .entry)) ⌝ }
 {

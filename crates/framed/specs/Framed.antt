@@ -13,7 +13,7 @@ unfoldable pub firstPulse : List ℕ → ℕ
 firstPulse [] = none
 firstPulse (s ∷ ss) = cond (eqb s none) (firstPulse ss) s
 
--- Symbol 1 is plus, 2 is minus, and the first pulse in the n symbols from 3 on is minus.
+-- Whether symbol 1 is plus, 2 is minus, and the first pulse in the n symbols from 3 on is minus.
 unfoldable pub framedIn : ℕ → List ℕ → Bool
 framedIn n l = cond (eqb (getD l 0 none) plus) (cond (eqb (getD l 1 none) minus) (eqb (firstPulse (take n (drop 2 l))) minus) false) false
 

@@ -12,7 +12,7 @@ use symbols::TestAnswer;
 use symbols::answer;
 use symbols::fits;
 
-// The first pulse of s, or none where it has no pulse.
+// Gives the first pulse of s, or none where s has no pulse.
 fn first_pulse(s: &[u8]) -> u8
     ensures { λ r. ⌜ r ≡ firstPulse (now (s .entry)) ⌝ }
 {
@@ -26,7 +26,8 @@ fn first_pulse(s: &[u8]) -> u8
     NONE
 }
 
-// Whether a line is framed, its first pulse after symbol 2 looked for in the n symbols from 3 on.
+// Tests whether a line is framed: symbol 1 is plus, 2 is minus, and the first pulse in the n
+// symbols from 3 on is minus.
 fn framed_in(line: &[u8], n: usize) -> bool
     requires { ⌜ n + 2 ≤ lineLength ⌝ }
     requires { ⌜ length (now line) ≡ lineLength ⌝ }
@@ -42,7 +43,8 @@ fn framed_in(line: &[u8], n: usize) -> bool
     first_pulse(&line[2..end]) == MINUS
 }
 
-// Whether a downward line is framed: symbol 1 plus, 2 minus, and the first pulse in 3 to 15 minus.
+// Tests whether a downward line is framed: symbol 1 is plus, 2 is minus, and the first pulse in 3
+// to 15 is minus.
 pub fn framed_down(line: &[u8]) -> TestAnswer
     ensures { λ r. ⌜ r ≡ tested framedDown (now (line .entry)) ⌝ }
 {
@@ -53,7 +55,7 @@ pub fn framed_down(line: &[u8]) -> TestAnswer
     }
 }
 
-// The same for an upward line, with 3 to 14.
+// Tests the same of an upward line, with 3 to 14 in the place of 3 to 15.
 pub fn framed_up(line: &[u8]) -> TestAnswer
     ensures { λ r. ⌜ r ≡ tested framedUp (now (line .entry)) ⌝ }
 {
@@ -64,7 +66,7 @@ pub fn framed_up(line: &[u8]) -> TestAnswer
     }
 }
 
-// Whether a line has a pulse.
+// Tests whether a line has a pulse.
 pub fn has_pulse(line: &[u8]) -> TestAnswer
     ensures { λ r. ⌜ r ≡ tested hasPulse (now (line .entry)) ⌝ }
 {

@@ -30,7 +30,8 @@ longestBody = 266
 abbrev pub shortestImage : ℕ
 shortestImage = 16 + 8
 
--- the bits of the longest image, 2,569: two flags, the longest body and a 0 after every five 1s of it
+-- the bits of the longest image, 2,569: two flags, the longest body and a 0 after every five 1s of
+-- it
 abbrev pub longestImage : ℕ
 longestImage = 16 + 8 * longestBody + (8 * longestBody) / 5
 

@@ -10,8 +10,10 @@ use lib.ListN.{length, drop}
 use Rattle.hdlc.specs.Bits.{sameBit, octets}
 use Rattle.hdlc.specs.Image.{flag, longestBody}
 
--- What the reader has read. `raw` holds the bits newest first: since the last flag, of which the closing 0 counts because the next
--- flag may share it, or, while it waits for a flag, since it was cleared or read seven 1s.
+-- What the reader has read. `raw` holds the bits newest first, so that a new bit is put before
+-- them. They are those since the last flag, of which the closing 0 counts because the next flag may
+-- share it, or, while the reader waits for a flag, those since it was cleared or read seven 1s. A
+-- flag (01111110) and seven 1s read the same both ways: so `raw` is compared with them as it is.
 pub record Reading : Type 0 where
   pub opened : Bool
   pub raw : List Bool
@@ -25,7 +27,9 @@ pub data Said : Type 0 where
 abbrev pub cleared : Reading
 cleared = record { opened = false; raw = [] }
 
--- whether a list begins with the given bits
+-- Whether a list begins with the given bits. `startsWith flag raw` says that the bits read last are
+-- a flag, and `startsWith sevenOnes raw` that they are seven 1s: `raw` is newest first, but a flag
+-- (01111110) and seven 1s read the same both ways, so that the comparison with `raw` is right.
 unfoldable pub startsWith : List Bool → List Bool → Bool
 startsWith [] bs = true
 startsWith (p ∷ ps) [] = false
@@ -40,7 +44,7 @@ unstuff k [] = []
 unstuff k (true ∷ bs) = true ∷ unstuff (suc k) bs
 unstuff k (false ∷ bs) = cond (eqb k 5) (unstuff 0 bs) (false ∷ unstuff 0 bs)
 
--- a list turned round
+-- a list turned round: raw bits oldest first
 unfoldable pub reversed : List Bool → List Bool
 reversed [] = []
 reversed (b ∷ bs) = reversed bs ++ (b ∷ [])
@@ -50,11 +54,13 @@ unfoldable pub rest : List Bool → List Bool
 rest [] = []
 rest (b ∷ bs) = bs
 
--- the bits between the opening flag and what closes the frame, inserted 0s removed; the oldest raw bit is the opening flag's 0
+-- the bits between the opening flag and what closes the frame, oldest first and inserted 0s
+-- removed; the oldest raw bit is the opening flag's 0
 unfoldable pub contents : List Bool → List Bool
 contents raw = unstuff 0 (rest (reversed raw))
 
--- what lies between two flags: "whole octets, 1 to 266, are heard. Fewer than 8 bits are nothing. All else is torn"
+-- what lies between two flags: "whole octets, 1 to 266, are heard. Fewer than 8 bits are nothing.
+-- All else is torn"
 unfoldable pub between : List Bool → Said
 between bs =
     cond (ltb (length bs) 8) nothing
@@ -64,7 +70,8 @@ between bs =
 unfoldable pub aborted : List Bool → Said
 aborted bs = cond (ltb (length bs) 8) nothing torn
 
--- what the reader says when `raw` are the bits with the newest one
+-- what the reader says when `raw`, newest first, are the bits with the one that has just been read;
+-- while the reader waits for a flag it says nothing
 unfoldable pub says : Bool → List Bool → Said
 says false raw = nothing
 says true raw =
@@ -73,7 +80,8 @@ says true raw =
 unfoldable pub said : Reading → Bool → Said
 said s b = says (s .opened) (b ∷ s .raw)
 
--- "A closing flag also opens, and two flags may share a 0; after seven 1s the reader waits for a flag"
+-- "A closing flag also opens, and two flags may share a 0; after seven 1s the reader waits for a
+-- flag"
 unfoldable pub next : Reading → Bool → Reading
 next s b =
     cond (startsWith flag (b ∷ s .raw)) (record { opened = true; raw = false ∷ [] })

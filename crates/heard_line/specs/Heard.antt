@@ -9,8 +9,9 @@ use Rattle.alignment.specs.declared.Followed.{Followed}
 use Rattle.heard_line.specs.declared.heard.Downward.{Downward}
 use Rattle.heard_line.specs.declared.heard.Upward.{Upward}
 
--- A terminal's: INFO 0 has no pulse; loss; "In alignment a framed period is INFO 2 or 4 by A"; else a signal. The period that gives
--- alignment is itself identified: alignment is as it stands after the period.
+-- A terminal's: INFO 0 has no pulse; loss; "In alignment a framed period is INFO 2 or 4 by A"; else
+-- a signal. The period that gives alignment is itself identified: alignment is as it stands after
+-- the period.
 unfoldable pub downwardEvent : Downward → Followed → ℕ
 downwardEvent line f =
     cond (line .pulse)
@@ -21,7 +22,8 @@ downwardEvent line f =
     terminals.SIGNAL-ROW))
     terminals.INFO-0-ROW
 
--- The network end's INFO: INFO 0, INFO 1, INFO 3. "Any other period with a pulse is a signal", for which table 6-3 has no row: 0.
+-- The network end's INFO: INFO 0, INFO 1, INFO 3. "Any other period with a pulse is a signal", for
+-- which table 6-3 has no row: 0.
 unfoldable pub upwardEvent : Upward → Followed → ℕ
 upwardEvent line f =
     cond (line .pulse)

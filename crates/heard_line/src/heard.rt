@@ -1,4 +1,4 @@
-// What a heard line is, for a terminal and for the network end.
+// Which event a heard line is, for a terminal and for the network end.
 ghost use mathlib.Core.Path.{_≡_};
 ghost use Rattle.heard_line.specs.Heard.{downwardEvent, upwardEvent, lossUp};
 use alignment::Followed;
@@ -18,7 +18,7 @@ pub struct Upward {
 }
 
 impl Downward {
-    // The event of table 6-2, with what the period makes of alignment.
+    // Gives the event of table 6-2 that the line is, where the period makes f of alignment.
     pub fn event(self, f: Followed) -> u8
         ensures { λ r. ⌜ r ≡ downwardEvent self f ⌝ }
     {
@@ -42,7 +42,7 @@ impl Downward {
 }
 
 impl Upward {
-    // The event of table 6-3 besides loss, 0 for none.
+    // Gives the event of table 6-3 that the line is, besides loss, 0 for none.
     pub fn event(self, f: Followed) -> u8
         ensures { λ r. ⌜ r ≡ upwardEvent self f ⌝ }
     {
@@ -61,7 +61,7 @@ impl Upward {
     }
 }
 
-// The event of loss at the network end, 0 for none.
+// Gives the event of loss at the network end, 0 for none.
 pub fn loss_up(f: Followed) -> u8
     ensures { λ r. ⌜ r ≡ lossUp f ⌝ }
 {

@@ -1,4 +1,5 @@
-// What a lent line of 48 symbols shows: worked out once for a period, and then heard by the network end, or by every powered terminal.
+// What a lent line of 48 symbols shows: worked out once for a period, and then heard by the network
+// end, or by every powered terminal.
 ghost use mathlib.Core.Path.{_≡_};
 ghost use Rattle.heard_line.specs.Sensing as spec;
 use super::heard::Downward;
@@ -22,6 +23,7 @@ pub enum SensedUp {
     Refused(u8),
 }
 
+// Works out what a downward line shows, or refuses with 2 what is no line.
 pub fn sense_down(line: &[u8]) -> SensedDown
     ensures { λ r. ⌜ r ≡ spec.sensedDown (now (line .entry)) ⌝ }
 {
@@ -36,6 +38,7 @@ pub fn sense_down(line: &[u8]) -> SensedDown
     })
 }
 
+// Works out what an upward line shows, or refuses with 2 what is no line.
 pub fn sense_up(line: &[u8]) -> SensedUp
     ensures { λ r. ⌜ r ≡ spec.sensedUp (now (line .entry)) ⌝ }
 {
@@ -50,6 +53,7 @@ pub fn sense_up(line: &[u8]) -> SensedUp
     })
 }
 
+// Tests whether an answer is yes.
 fn is_yes(answer: TestAnswer) -> bool
     ensures { λ r. ⌜ r ≡ spec.isYes answer ⌝ }
 {

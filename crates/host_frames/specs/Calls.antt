@@ -15,7 +15,7 @@ use Rattle.frame_reader.specs.declared.answers.ReadDown.{ReadDown}
 use Rattle.frame_reader.specs.declared.answers.ReadUp.{ReadUp}
 use Rattle.host_frames.specs.Octets.{fieldsLength, downOctets, downFrom, asDown, upFrom, isDown, isUp}
 
--- A call writes octets over what it is lent, or is refused.
+-- What a call comes to: it writes octets over what it is lent, or is refused.
 pub data Outcome : Type 0 where
   wrote : List ℕ → Outcome
   refused : ℕ → Outcome
@@ -38,7 +38,8 @@ asDownRead (ReadUp.Refused n) = ReadDown.Refused n
 abbrev pub readAs : ℕ → List ℕ → ReadDown
 readAs up l = cond (eqb up 0) (downRead l) (asDownRead (upRead l))
 
--- Reading symbols l into lent octets: the octets of the fields, or the refusal; 2 for lent octets of another length.
+-- Reading symbols l into lent octets: the octets of the fields, or the refusal; 2 for lent octets
+-- of another length.
 abbrev pub octetsRead : ReadDown → Outcome
 octetsRead (ReadDown.Fields f) = wrote (downOctets f)
 octetsRead (ReadDown.Refused n) = refused n
@@ -46,7 +47,8 @@ octetsRead (ReadDown.Refused n) = refused n
 unfoldable pub frameRead : ℕ → List ℕ → List ℕ → Outcome
 frameRead up l lent = cond (eqb (length lent) fieldsLength) (octetsRead (readAs up l)) (refused 2)
 
--- Writing the frame of octets fs into lent symbols: its line, or 2 for octets that stand for no fields or lent symbols of another length.
+-- Writing the frame of octets fs into lent symbols: its line, or 2 for octets that stand for no
+-- fields or lent symbols of another length.
 abbrev pub accepts : ℕ → List ℕ → Bool
 accepts up fs = cond (eqb up 0) (isDown fs) (isUp fs)
 

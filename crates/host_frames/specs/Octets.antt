@@ -62,7 +62,8 @@ downFrom fs = record {
   s = eqb (getD fs 15 0) 1;
 }
 
--- An upward frame has the B octets and the D bits of a downward one. Where octets are to be written, every other bit is 0.
+-- An upward frame has the B octets and the D bits of a downward one. Where octets are to be
+-- written, every other bit is 0.
 abbrev pub asDown : UpFields → DownFields
 asDown f = record {
   b1first = f .b1first;

@@ -1,5 +1,6 @@
-// The fields of a frame as 16 octets, with the same places in both directions: the four B octets; then bits, each an octet 0 or 1:
-// the four D, the four E, A, FA, M and S. An upward frame has no bit from E on: these octets are 0.
+// The fields of a frame as 16 octets, with the same places in both directions: the four B octets;
+// then bits, each an octet 0 or 1: the four D, the four E, A, FA, M and S. An upward frame has no
+// bit from E on: these octets are 0.
 ghost use mathlib.Core.Path.{_≡_};
 ghost use Prim.Native.Nat.{_+_, _≤_};
 ghost use lib.ListN.{length};
@@ -8,7 +9,7 @@ use frame::fields::DownFields;
 use frame::fields::Four;
 use frame::fields::UpFields;
 
-// How many octets there are.
+// The number of octets that fields take.
 pub const FIELDS: usize = 16;
 
 // The places of the first D and of the first E.
@@ -16,7 +17,7 @@ pub(crate) const FIRST_D: usize = 4;
 
 pub(crate) const FIRST_E: usize = 8;
 
-// The four bits from place at on.
+// Gives the four bits from place `at` on.
 fn four_from(octets: &[u8], at: usize) -> Four
     requires { ⌜ at + 4 ≤ length (now octets) ⌝ }
     ensures { λ r. ⌜ r ≡ fourFrom at (now (octets .entry)) ⌝ }
@@ -29,7 +30,7 @@ fn four_from(octets: &[u8], at: usize) -> Four
     }
 }
 
-// The fields that octets stand for.
+// Gives the fields that octets stand for.
 pub(crate) fn down_from(octets: &[u8]) -> DownFields
     requires { ⌜ length (now octets) ≡ fieldsLength ⌝ }
     ensures { λ r. ⌜ r ≡ downFrom (now (octets .entry)) ⌝ }
@@ -52,7 +53,7 @@ pub(crate) fn down_from(octets: &[u8]) -> DownFields
     }
 }
 
-// Writes the octets of fields.
+// Writes the octets of the fields f.
 pub(crate) fn put(f: DownFields, lent: &mut [u8])
     requires { ⌜ length (now lent) ≡ fieldsLength ⌝ }
     ensures { λ _. ⌜ now (lent .exit) ≡ downOctets f ⌝ }
@@ -82,7 +83,7 @@ pub(crate) fn put(f: DownFields, lent: &mut [u8])
     }
 }
 
-// The fields of an upward frame with every other bit 0.
+// Gives the fields of an upward frame as those of a downward one, with every other bit 0.
 pub(crate) fn as_down(f: UpFields) -> DownFields
     ensures { λ r. ⌜ r ≡ asDown f ⌝ }
 {

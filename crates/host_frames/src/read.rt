@@ -9,7 +9,8 @@ use frame_reader::answers::ReadUp;
 use frame_reader::read::read_down;
 use frame_reader::read::read_up;
 
-// The fields of a frame of either direction, of an upward one with every other bit 0.
+// Reads a frame, downward where `up` is 0, else upward: the fields of an upward one are given with
+// every other bit 0.
 fn read_as(up: u32, symbols: &[u8]) -> ReadDown
     ensures { λ r. ⌜ r ≡ readAs up (now (symbols .entry)) ⌝ }
 {
@@ -22,7 +23,8 @@ fn read_as(up: u32, symbols: &[u8]) -> ReadDown
     }
 }
 
-// Reads 48 symbols, downward where up is 0: 0 and the fields' octets; 2 for a wrong length or code, 10 for what no frame is written as.
+// Reads 48 symbols, downward where `up` is 0, puts the fields' octets into `fields` and replies 0;
+// or replies 2 for a wrong length or code, 10 for a line that no fields are written as.
 #[no_mangle]
 pub extern "C" fn sbus_read_frame(up: u32, symbols: &[u8], fields: &mut [u8]) -> u32
     ensures reply { λ r. ⌜ r ≡ replyOf (frameRead up (now (symbols .entry)) (now (fields .entry))) ⌝ }

@@ -10,7 +10,7 @@ use frame::write::write_down;
 use frame::write::write_up;
 use symbols::fits;
 
-// Whether octets stand for the fields of a frame of that direction.
+// Tests whether octets stand for the fields of a frame, downward where `up` is 0, else upward.
 fn accepts(up: u32, fields: &[u8]) -> bool
     ensures { λ r. ⌜ r ≡ accepts up (now (fields .entry)) ⌝ }
 {
@@ -24,7 +24,8 @@ fn accepts(up: u32, fields: &[u8]) -> bool
     downward & fits(&fields[FIRST_E..], FIELDS - FIRST_E, 0)
 }
 
-// Writes the frame of 16 octets of fields, downward where up is 0: 0 and its 48 symbols, or 2 for a wrong length or octet.
+// Writes the frame of 16 octets of fields, downward where `up` is 0, as 48 symbols and replies 0;
+// or replies 2 for a wrong length or octet.
 #[no_mangle]
 pub extern "C" fn sbus_write_frame(up: u32, fields: &[u8], symbols: &mut [u8]) -> u32
     ensures reply { λ r. ⌜ r ≡ replyOf (frameWritten up (now (fields .entry)) (now (symbols .entry))) ⌝ }

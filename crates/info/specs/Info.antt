@@ -16,7 +16,7 @@ use Rattle.frame.specs.declared.fields.UpFields.{UpFields}
 abbrev pub info0 : List ℕ
 info0 = replicate lineLength none
 
--- Two symbols and six nones, six times.
+-- A list n times over, and two symbols with six nones six times over.
 abbrev pub times : ℕ → List ℕ → List ℕ
 times zero l = []
 times (suc n) l = l ++ times n l
@@ -71,6 +71,6 @@ info4Fields e = record {
 abbrev pub info4 : Four → List ℕ
 info4 e = downLine (info4Fields e)
 
--- Exactly INFO 1's symbols are INFO 1.
+-- Whether a line is INFO 1: it has exactly INFO 1's symbols.
 abbrev pub isInfo1 : List ℕ → Bool
 isInfo1 l = sameSymbols l info1

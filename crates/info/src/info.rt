@@ -20,7 +20,7 @@ use symbols::answer;
 use symbols::fits;
 use symbols::same_symbols;
 
-// The symbol at index i of first, second and six nones, six times.
+// Gives the symbol at index i of the line that has `first`, `second` and six nones, six times.
 fn repeated_symbol(first: u8, second: u8, i: usize) -> u8
     requires { ⌜ i < lineLength ⌝ }
     ensures { λ r. ⌜ r ≡ getD (spec.repeated first second) i none ⌝ }
@@ -35,7 +35,7 @@ fn repeated_symbol(first: u8, second: u8, i: usize) -> u8
     }
 }
 
-// Writes first, second and six nones, six times.
+// Writes `first`, `second` and six nones, six times.
 fn write_repeated(first: u8, second: u8, out: &mut [u8]) -> u8
     ensures reply { λ r. ⌜ r ≡ reply (hasLineLength (now (out .entry))) ⌝ }
     ensures octets { λ _. ⌜ now (out .exit) ≡ leaves (hasLineLength (now (out .entry))) (spec.repeated first second) (now (out .entry)) ⌝ }
@@ -51,7 +51,7 @@ fn write_repeated(first: u8, second: u8, out: &mut [u8]) -> u8
     0
 }
 
-// INFO 0.
+// Writes INFO 0.
 pub fn info0(out: &mut [u8]) -> u8
     ensures reply { λ r. ⌜ r ≡ reply (hasLineLength (now (out .entry))) ⌝ }
     ensures octets { λ _. ⌜ now (out .exit) ≡ leaves (hasLineLength (now (out .entry))) spec.info0 (now (out .entry)) ⌝ }
@@ -59,7 +59,7 @@ pub fn info0(out: &mut [u8]) -> u8
     write_repeated(NONE, NONE, out)
 }
 
-// INFO 1.
+// Writes INFO 1.
 pub fn info1(out: &mut [u8]) -> u8
     ensures reply { λ r. ⌜ r ≡ reply (hasLineLength (now (out .entry))) ⌝ }
     ensures octets { λ _. ⌜ now (out .exit) ≡ leaves (hasLineLength (now (out .entry))) spec.info1 (now (out .entry)) ⌝ }
@@ -67,7 +67,7 @@ pub fn info1(out: &mut [u8]) -> u8
     write_repeated(PLUS, MINUS, out)
 }
 
-// INFO 2.
+// Writes INFO 2.
 pub fn info2(out: &mut [u8]) -> u8
     ensures reply { λ r. ⌜ r ≡ reply (hasLineLength (now (out .entry))) ⌝ }
     ensures octets { λ _. ⌜ now (out .exit) ≡ leaves (hasLineLength (now (out .entry))) spec.info2 (now (out .entry)) ⌝ }
@@ -93,7 +93,7 @@ pub fn info2(out: &mut [u8]) -> u8
     write_down(f, out)
 }
 
-// INFO 3 with the D bits d.
+// Writes INFO 3 with the D bits d.
 pub fn info3(d: Four, out: &mut [u8]) -> u8
     ensures reply { λ r. ⌜ r ≡ reply (hasLineLength (now (out .entry))) ⌝ }
     ensures octets { λ _. ⌜ now (out .exit) ≡ leaves (hasLineLength (now (out .entry))) (spec.info3 d) (now (out .entry)) ⌝ }
@@ -108,7 +108,8 @@ pub fn info3(d: Four, out: &mut [u8]) -> u8
     write_up(f, out)
 }
 
-// The symbol at an E, behind a last pulse.
+// Gives the symbol at the E bit e, where the last pulse before it is `last`: none for a 1, the
+// opposite pulse for a 0.
 fn echo(e: bool, last: u8) -> u8
     requires { ⌜ last < 4 ⌝ }
     ensures { λ r. ⌜ r ≡ cond e none (opposite last) ⌝ }
@@ -116,7 +117,7 @@ fn echo(e: bool, last: u8) -> u8
     if e { NONE } else { 3 - last }
 }
 
-// The first pulse behind that E.
+// Gives the first pulse after that E, where the last one before it is `last`.
 fn behind_echo(e: bool, last: u8) -> u8
     requires { ⌜ last < 4 ⌝ }
     ensures { λ r. ⌜ r ≡ cond e (opposite last) last ⌝ }
@@ -125,8 +126,10 @@ fn behind_echo(e: bool, last: u8) -> u8
     if e { 3 - last } else { last }
 }
 
-// Puts the pulses of INFO 4 into a line of nones: at F, at the L behind it, at each E that is 0, at FA, at M, at S, and at the last L where
-// the pulses between are odd in number. The L behind F counts as a plus: the first pulse behind it is minus.
+// Puts the pulses of INFO 4 into a line of nones: at F, at the L after it, at each E that is 0, at
+// FA, at M, at S, and at the last L where the pulses between are odd in number. The first pulse
+// after position 2 is minus, as if the pulse there were a plus: so the E at position 11 comes after
+// PLUS.
 fn put_pulses(e: Four, out: &mut [u8])
     requires { ⌜ now out ≡ spec.info0 ⌝ }
     ensures { λ _. ⌜ now (out .exit) ≡ spec.info4 e ⌝ }
@@ -144,11 +147,13 @@ fn put_pulses(e: Four, out: &mut [u8])
     out[34] = echo(e.third, m);
     out[36] = s;
     out[45] = echo(e.fourth, s);
-    // Position 48 is a pulse where the last one before it is plus.
+    // Position 48 is a plus where the last pulse before it is a minus, else none. From position 3
+    // on pulses alternate and the first is a minus: so they are odd in number up to position 47
+    // exactly if the last of them is a minus. `l` is what a pulse at position 48 would be.
     out[47] = echo(l == MINUS, MINUS);
 }
 
-// INFO 4 with the echo bits e.
+// Writes INFO 4 with the echo bits e.
 pub fn info4(e: Four, out: &mut [u8]) -> u8
     ensures reply { λ r. ⌜ r ≡ reply (hasLineLength (now (out .entry))) ⌝ }
     ensures octets { λ _. ⌜ now (out .exit) ≡ leaves (hasLineLength (now (out .entry))) (spec.info4 e) (now (out .entry)) ⌝ }
@@ -161,7 +166,7 @@ pub fn info4(e: Four, out: &mut [u8]) -> u8
     0
 }
 
-// Whether a line is exactly INFO 1.
+// Tests whether a line is exactly INFO 1.
 pub fn is_info1(line: &[u8]) -> TestAnswer
     ensures { λ r. ⌜ r ≡ tested spec.isInfo1 (now (line .entry)) ⌝ }
 {

@@ -1,5 +1,5 @@
-// Prints the INFO lines and some written frames as rows of `+`, `-` and `0`, beside a row that names the field at each position: `1`
-// for B1, `2` for B2, `f` for FA.
+// Prints the INFO lines and some written frames as rows of `+`, `-` and `0`, beside a row that
+// names the field at each position: `1` for B1, `2` for B2, `f` for FA.
 use combining::combine::LINES_LENGTH;
 use combining::combine::TERMINALS;
 use combining::combine::combine;
@@ -23,6 +23,7 @@ use symbols::MINUS;
 use symbols::NONE;
 use symbols::PLUS;
 
+// Gives the letter of a symbol.
 fn letter(s: u8) -> u8 {
     if s == PLUS {
         b'+'
@@ -50,6 +51,7 @@ fn show(name: &[u8], line: &mut [u8]) {
     io::write_all(STDOUT_FILENO, b"\n");
 }
 
+// Gives four bits.
 fn four(first: bool, second: bool, third: bool, fourth: bool) -> Four {
     Four {
         first: first,
@@ -59,6 +61,7 @@ fn four(first: bool, second: bool, third: bool, fourth: bool) -> Four {
     }
 }
 
+// Prints the INFO lines.
 fn infos() {
     let mut line = [NONE; LINE_LENGTH];
     info0(&mut line);
@@ -77,7 +80,7 @@ fn infos() {
     show(b"INFO 4 E 0110    ", &mut line);
 }
 
-// Frames with other B octets. FA at 1 makes N 0.
+// Prints frames with other B octets. FA at 1 makes N 0.
 fn frames() {
     let mut line = [NONE; LINE_LENGTH];
     let down = DownFields {
@@ -116,7 +119,7 @@ fn put(lines: &mut [u8], n: usize, d: Four) {
     }
 }
 
-// Two terminals together, and a hit on INFO 2: plus at 3, none at 5 and 6.
+// Prints two terminals together, and a hit on INFO 2: plus at 3, none at 5 and 6.
 fn combined_and_hit() {
     let mut lines = [NONE; LINES_LENGTH];
     put(&mut lines, 0, four(true, false, true, true));

@@ -14,7 +14,8 @@ use Rattle.network.specs.Network.{unchanged, requests, timers, hears}
 use Rattle.network.specs.declared.Network.{Network}
 use Rattle.network.specs.declared.NetworkStep.{NetworkStep}
 
--- Refusal 1: each field in its range. The latest timer is one started when the last period has been run.
+-- Refusal 1: each field in its range. The latest timer is one started when the last period has been
+-- run.
 unfoldable pub networkInRange : Network → Bool
 networkInRange n =
     cond (ltb (n .state) G1) false
@@ -25,7 +26,8 @@ networkInRange n =
 unfoldable pub ready : Periods → Network → Bool
 ready now n = cond (networkInRange n) (periodsInRange now) false
 
--- The calls: refusal 1 for a field outside its range, or a period past the last; else what the rules say.
+-- The calls: refusal 1 for a field outside its range, or a period past the last; else what the
+-- rules say.
 unfoldable pub checked : (ℕ → Network → NetworkStep) → Periods → Network → NetworkStep
 checked step now n = cond (ready now n) (step (now .0) n) (unchanged 1 n)
 

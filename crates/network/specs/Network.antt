@@ -39,8 +39,9 @@ moved next action now n =
       alignment = n .alignment;
     }
 
--- What a cell does in period now. "A cell that is impossible there changes nothing, save for requests
--- (refusal 5)": `bars` says which requests those are. An empty cell changes nothing either.
+-- What a cell does in period now. "A cell that is impossible there changes nothing, save for
+-- requests (refusal 5)": `bars` says which requests those are. An empty cell changes nothing
+-- either.
 unfoldable pub acts : Cell → ℕ → Network → NetworkStep
 acts (To next action notes) now n = record { network = moved next action now n; notes = notes; reply = 0 }
 acts (Stay notes) now n = record { network = n; notes = notes; reply = 0 }
@@ -64,8 +65,8 @@ andThen s f =
 unfoldable pub aligned : Alignment → Network → Network
 aligned a n = record { t1 = n .t1; t2 = n .t2; state = n .state; alignment = a }
 
--- Reason 5 for the network end, by an event's number in table 6-3 and the state: "`ar` in .. G2 or G3,
--- `dr` in G1 or G4".
+-- Reason 5 for the network end, by an event's number in table 6-3 and the state: "`ar` in .. G2 or
+-- G3, `dr` in G1 or G4".
 unfoldable pub bars : ℕ → ℕ → Bool
 bars event state =
     cond (eqb event AR-ROW) (eqb state G2 || eqb state G3)
@@ -79,7 +80,8 @@ unfoldable pub requests : ℕ → ℕ → Network → NetworkStep
 requests event now n =
     cond (isRequest event) (cond (bars event (n .state)) (unchanged 5 n) (happens event now n)) (unchanged 4 n)
 
--- The start of a period: "T1 comes before T2". A due timer is spent whatever the cell (docs/DECISIONS.md, reading 12).
+-- The start of a period: "T1 comes before T2". A due timer is spent whatever the cell
+-- (docs/DECISIONS.md, reading 12).
 unfoldable pub t1Due : ℕ → Network → NetworkStep
 t1Due now n =
     cond (due (n .t1) now)
@@ -95,7 +97,8 @@ t2Due now n =
 unfoldable pub timers : ℕ → Network → NetworkStep
 timers now n = andThen (t1Due now n) (t2Due now)
 
--- A period is heard: alignment follows it; then come the event of loss, if any, and what the line is.
+-- A period is heard: alignment follows it; then come the event of loss, if any, and what the line
+-- is.
 unfoldable pub heardAs : Upward → Followed → ℕ → Network → NetworkStep
 heardAs line f now n = andThen (happens (lossUp f) now (aligned (f .alignment) n)) (happens (upwardEvent line f) now)
 

@@ -41,7 +41,8 @@ pub struct Network {
     pub alignment: Alignment,
 }
 
-// What a call gives: the record, the notes, and 0 or the number of the refusal with the record as it was.
+// What a call gives: the record, the notes, and 0 or the number of the refusal with the record as
+// it was.
 pub struct NetworkStep {
     pub network: Network,
     pub notes: Notes,
@@ -49,7 +50,7 @@ pub struct NetworkStep {
 }
 
 impl Network {
-    // G1, unaligned, with no timer running.
+    // Gives a network end in G1, unaligned, with no timer running.
     pub fn fresh() -> Self
         ensures { λ r. ⌜ r ≡ spec.fresh ⌝ }
     {
@@ -61,7 +62,7 @@ impl Network {
         }
     }
 
-    // Whether every field is in its range.
+    // Tests whether every field is in its range.
     pub fn in_range(self) -> bool
         ensures { λ r. ⌜ r ≡ calls.networkInRange self ⌝ }
     {
@@ -80,7 +81,8 @@ impl Network {
         self.alignment.in_range()
     }
 
-    // `ar` and `dr`, by their numbers in table 6-3.
+    // Takes a request, `ar` or `dr`, by its number in table 6-3. Any other number is refused with
+    // 4, and a request whose cell is impossible or empty with 5.
     pub fn request(self, event: u8, now: Periods) -> NetworkStep
         ensures { λ r. ⌜ r ≡ calls.requestCall event now self ⌝ }
     {
@@ -95,7 +97,7 @@ impl Network {
         }
     }
 
-    // The start of a period: T1, then T2, where they are due.
+    // Starts a period: takes the events of T1, then of T2, where they are due.
     pub fn timer_due(self, now: Periods) -> NetworkStep
         ensures { λ r. ⌜ r ≡ calls.timerCall now self ⌝ }
     {
@@ -112,7 +114,8 @@ impl Network {
         }
     }
 
-    // A period's upward line is echo: the event of loss, if any, and what the line is.
+    // Hears a period's upward line: takes the event of loss, if any, and then the event that the
+    // line is.
     pub fn hear(self, line: Upward, now: Periods) -> NetworkStep
         ensures { λ r. ⌜ r ≡ calls.hearCall line now self ⌝ }
     {
@@ -138,13 +141,14 @@ impl Network {
         }
     }
 
-    // Whether record and period are in range.
+    // Tests whether record and period are in range.
     fn ready(self, now: Periods) -> bool
         ensures { λ r. ⌜ r ≡ calls.ready now self ⌝ }
     {
         self.in_range() && now.in_range()
     }
 
+    // Gives the record as it is, with no notes and a reply.
     fn unchanged(self, reply: u8) -> NetworkStep
         ensures { λ r. ⌜ r ≡ spec.unchanged reply self ⌝ }
     {
@@ -155,7 +159,7 @@ impl Network {
         }
     }
 
-    // The record as it is, with notes and a reply.
+    // Gives the record as it is, with notes and a reply.
     fn stays(self, notes: Notes, reply: u8) -> NetworkStep
         ensures { λ r. ⌜ r ≡ record { network = self; notes = notes; reply = reply } ⌝ }
     {
@@ -166,7 +170,8 @@ impl Network {
         }
     }
 
-    // An event of table 6-3; the reply at a cell that is impossible or empty is barred.
+    // Takes an event of table 6-3: does what its cell says and replies 0; where the cell is
+    // impossible or empty, changes nothing and replies `barred`.
     fn happens(self, barred: u8, event: u8, now: Periods) -> NetworkStep
         ensures { λ r. ⌜ r ≡ cond (isVoid (cellOf table63 event (self .state)))
             (spec.unchanged barred self) (spec.happens event (now .0) self) ⌝ }
@@ -189,7 +194,8 @@ impl Network {
         }
     }
 
-    // The event of a timer at the record with other timers, where it is due.
+    // Takes the event of a timer if it has `expired`, at the record with t1 and t2 in the place of
+    // its timers; else changes nothing.
     fn expires(self, expired: bool, t1: u64, t2: u64, event: u8, now: Periods) -> NetworkStep
         ensures { λ r. ⌜ r ≡ cond expired
             (spec.happens event (now .0) (record { t1 = t1; t2 = t2; state = self .state; alignment = self .alignment }))

@@ -11,7 +11,8 @@ use Rattle.notes_and_cells.specs.declared.cell.Cell.{Cell}
 use Rattle.notes_and_cells.specs.declared.cell.Cell.the-variants.{To, Stay, Impossible, Absent}
 use Rattle.notes_and_cells.specs.declared.notes.Notes.{Notes}
 
--- What a cell does to a timer: START and STOP are for T3 in table 6-2 and for T1 in table 6-3. No cell stops T2.
+-- What a cell does to a timer: START and STOP are for T3 in table 6-2 and for T1 in table 6-3. No
+-- cell stops T2.
 abbrev pub KEEP : ℕ
 KEEP = 0
 
@@ -58,14 +59,16 @@ absent = Absent
 unfoldable pub cellIn : List Cell → ℕ → Cell
 cellIn row state = getD (impossible ∷ row) state impossible
 
--- The row of a table at an event, counted from 1 in the printed order. A number that is no event has no cells.
+-- The row of a table at an event, counted from 1 in the printed order. A number that is no event
+-- has no cells.
 abbrev pub rowOf : List (List Cell) → ℕ → List Cell
 rowOf table event = getD ([] ∷ table) event []
 
 abbrev pub cellOf : List (List Cell) → ℕ → ℕ → Cell
 cellOf table event state = cellIn (rowOf table event) state
 
--- The INFO that is sent in a state, by the list of a table's first line. At a number that is no state it is INFO 0.
+-- The INFO that is sent in a state, by the list of a table's first line. At a number that is no
+-- state it is INFO 0.
 unfoldable pub infoIn : List ℕ → ℕ → ℕ
 infoIn sent state = getD (0 ∷ sent) state 0
 
@@ -76,14 +79,14 @@ stateAfter (Stay notes) state = state
 stateAfter Impossible state = state
 stateAfter Absent state = state
 
--- Its notes.
+-- The notes of a cell.
 abbrev pub cellNotes : Cell → Notes
 cellNotes (To next action notes) = notes
 cellNotes (Stay notes) = notes
 cellNotes Impossible = packedNotes []
 cellNotes Absent = packedNotes []
 
--- An impossible or an empty cell: an event changes nothing there.
+-- Whether a cell is impossible or empty: an event changes nothing there.
 abbrev pub isVoid : Cell → Bool
 isVoid (To next action notes) = false
 isVoid (Stay notes) = false

@@ -63,6 +63,6 @@ REFUSED = 16
 abbrev pub packedNotes : List ℕ → Notes
 packedNotes codes = (length codes, getD codes 0 0, getD codes 1 0, getD codes 2 0, getD codes 3 0)
 
--- The notes that they are.
+-- The codes of a call's notes, as a list.
 unfoldable pub noted : Notes → List ℕ
 noted n = take (n .0) (n .1 ∷ n .2 ∷ n .3 ∷ n .4 ∷ [])

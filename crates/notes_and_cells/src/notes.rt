@@ -1,4 +1,5 @@
-// The notes of one unit's call (document 01, "Bench book and report"). specs/Names.antt gives each code its name and value.
+// The notes of one unit's call (document 01, "Bench book and report"). specs/Names.antt gives each
+// code its name and value.
 
 pub const PH_ACT: u8 = 1;
 
@@ -32,5 +33,6 @@ pub const DROPPED2: u8 = 15;
 
 pub const REFUSED: u8 = 16;
 
-// At most four notes: their number, and their codes in the order in which they stand. A place that has none is 0.
+// At most four notes: their number, and their codes in the order in which they stand. A place that
+// has none is 0.
 pub struct Notes(pub u8, pub u8, pub u8, pub u8, pub u8);

@@ -16,11 +16,11 @@ shifted o b = cond b (o / 2 + 128) (o / 2)
 unfoldable pub lastEight : List Bool → List Bool
 lastEight bs = drop (length bs) (replicate 8 false ++ bs)
 
--- each whole octet of the bits, of the first m, is in the buffer
+-- each whole octet that the bits make, of the first m octets, is in the buffer
 abbrev pub WholeOctets : ℕ → List ℕ → List Bool → Type 0
 WholeOctets m buf bs = (i : ℕ) → i < m → 8 * i + 8 ≤ length bs → getD buf i 0 ≡ numberLowFirst (take 8 (drop (8 * i) bs))
 
--- .. and the last eight bits are in an octet of their own
+-- .. and the last eight bits are in an octet of their own: so the bits bs are kept
 pub record BitsKept (m : ℕ) (bs : List Bool) (octet : ℕ) (buf : List ℕ) : Type 0 where
   pub octet-is : octet ≡ numberLowFirst (lastEight bs)
   pub whole : WholeOctets m buf bs

@@ -8,7 +8,7 @@ use lib.ListN.{set}
 use Rattle.packing.specs.Octets.{shifted}
 use Rattle.packing.specs.declared.image.Packer.{Packer}
 
--- nothing put
+-- the packer before any bit is put
 abbrev pub freshPacker : Packer
 freshPacker = record { at = 0; ones = 0; octet = 0 }
 

@@ -35,7 +35,8 @@ packedBit os i = cond (ltb (i / 8) (length os)) (bitOf (getD os (i / 8) 0) (i % 
 unfoldable pub isBodyLength : ℕ → Bool
 isBodyLength n = cond (eqb n 0) false (leb n longestBody)
 
--- the call's reply: the image's length in bits, or 2 for a short buffer, or 7 for a body that is empty or too long
+-- the call's reply: the image's length in bits, or 2 for a short buffer, or 7 for a body that is
+-- empty or too long
 unfoldable pub imaged : List ℕ → List ℕ → Imaged
 imaged body buf =
     cond (ltb (length buf) imageRoom) (Refused 2) (cond (isBodyLength (length body)) (Bits (length (image body))) (Refused 7))

@@ -12,7 +12,8 @@ ghost use Rattle.packing.specs.Packer.{putBit, putBitOctets, putBits, pu
 pub const LONGEST_BODY: usize = 266;
 // Its bits.
 const BODY_BITS: usize = 8 * LONGEST_BODY;
-// The octets that the longest image takes: two flags, the body's bits, and a 0 for every five of them.
+// How many octets the longest image takes: two flags, the body's bits, and a 0 for every five of
+// them.
 pub const IMAGE_ROOM: usize = (16 + BODY_BITS + BODY_BITS / 5 + 7) / 8;
 // A flag's bits as an octet.
 const FLAG: u8 = 126;
@@ -35,7 +36,8 @@ struct Packer {
     octet: u8,
 }
 
-// Packs a body's image into a buffer that has room for the longest.
+// Packs a body's image into `out` and answers its length in bits. A buffer that has no room for the
+// longest image is refused with 2, a body that is empty or too long with 7.
 pub fn image(body: &[u8], out: &mut [u8]) -> Imaged
     ensures { λ r. ⌜ r ≡ imaged (now (body .entry)) (now (out .entry)) ⌝ }
     ensures { λ _. ⌜ now (out .exit) ≡ imagedOctets (now (body .entry)) (now (out .entry)) ⌝ }
@@ -54,7 +56,7 @@ pub fn image(body: &[u8], out: &mut [u8]) -> Imaged
     }
 }
 
-// Bit i of packed octets, 0 past their end.
+// Gives bit i of packed octets, 0 past their end.
 pub fn packed_bit(octets: &[u8], i: u16) -> bool
     ensures { λ r. ⌜ r ≡ packedBit (now (octets .entry)) i ⌝ }
 {
@@ -68,7 +70,7 @@ pub fn packed_bit(octets: &[u8], i: u16) -> bool
 }
 
 impl Packer {
-    // One bit is put; an octet goes to its place with its eighth bit.
+    // Puts one bit; with its eighth bit an octet goes to its place in `out`.
     fn put_bit(self, bit: bool, out: &mut [u8]) -> Self
         requires { ⌜ self .at < 8 * imageRoom ⌝ }
         requires { ⌜ self .ones < 255 ⌝ }
@@ -89,7 +91,7 @@ impl Packer {
         }
     }
 
-    // The first bits of octets are put as they are.
+    // Puts the first `count` bits of `octets` as they are.
     fn put_plain(self, octets: &[u8], count: u16, out: &mut [u8]) -> Self
         requires { ⌜ self .at + count ≤ 8 * imageRoom ⌝ }
         requires { ⌜ self .ones + count ≤ 255 ⌝ }
@@ -107,7 +109,7 @@ impl Packer {
         packer
     }
 
-    // The bits of a body, or of a part of it, are put, with a 0 after each fifth 1.
+    // Puts the bits of a body, or of a part of it, with a 0 after every five 1s.
     fn put_body(self, body: &[u8], out: &mut [u8]) -> Self
         requires { ⌜ self .at + length (stuff (self .ones) (bodyBits (now body))) ≤ 8 * imageRoom ⌝ }
         requires { ⌜ self .ones < 5 ⌝ }
@@ -129,7 +131,7 @@ impl Packer {
     }
 }
 
-// The image of a body, with 0s up to a whole octet, and its length in bits.
+// Packs the image of a body, with 0s up to a whole octet, and gives its length in bits.
 fn pack_image(body: &[u8], out: &mut [u8]) -> u16
     requires { ⌜ imageRoom ≤ length (now out) ⌝ }
     requires { ⌜ length (now body) ≤ longestBody ⌝ }

@@ -18,7 +18,7 @@ plus = 1
 abbrev pub minus : ℕ
 minus = 2
 
--- The symbols of a period.
+-- The number of symbols of a period.
 abbrev pub lineLength : ℕ
 lineLength = 48
 
@@ -29,16 +29,16 @@ level s = eqb s none
 abbrev pub levels : List ℕ → List Bool
 levels line = map level line
 
--- Every code of the list is at most top.
+-- Whether every code of a list is at most top.
 unfoldable pub within : ℕ → List ℕ → Bool
 within top [] = true
 within top (s ∷ ss) = cond (leb s top) (within top ss) false
 
--- n codes, each at most top.
+-- Whether a list is n codes, each at most top.
 unfoldable pub fits : ℕ → ℕ → List ℕ → Bool
 fits n top l = cond (eqb (length l) n) (within top l) false
 
--- A line is 48 symbols.
+-- Whether a list is a line: 48 symbols.
 abbrev pub isLine : List ℕ → Bool
 isLine l = fits lineLength minus l
 
@@ -58,11 +58,12 @@ sameSymbols [] (y ∷ ys) = false
 sameSymbols (x ∷ xs) [] = false
 sameSymbols (x ∷ xs) (y ∷ ys) = cond (eqb x y) (sameSymbols xs ys) false
 
--- A slice that a line can be written into is 48 long.
+-- Whether a line can be written into a lent slice: it is 48 long.
 abbrev pub hasLineLength : List ℕ → Bool
 hasLineLength lent = eqb (length lent) lineLength
 
--- The reply of a call that changes what it is lent: 0, or refusal 2 where it is lent something wrong.
+-- The reply of a call that changes what it is lent: 0, or refusal 2 where it is lent something
+-- wrong.
 abbrev pub reply : Bool → ℕ
 reply good = cond good 0 2
 

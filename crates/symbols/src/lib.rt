@@ -1,26 +1,27 @@
-// Symbols and lines (document 01, "The line"): a line is 48 symbols in a lent slice. A lent line of another length, or with another
-// code, is turned down with 2, and then no lent octet changes. Of a slice that is written to, only the length counts.
+// Symbols and lines (document 01, "The line"): a line is 48 symbols in a lent slice. A lent line of
+// another length, or with a code that is no symbol, is turned down with 2, and then no lent octet
+// changes. Of a slice that is written to, only the length counts.
 ghost use mathlib.Core.Path.{_≡_};
 ghost use Rattle.symbols.specs.Symbols as spec;
 
-// The three symbols.
+// The codes of the three symbols.
 pub const NONE: u8 = 0;
 
 pub const PLUS: u8 = 1;
 
 pub const MINUS: u8 = 2;
 
-// The symbols of a period.
+// The number of symbols of a period.
 pub const LINE_LENGTH: usize = 48;
 
-// The answer of a test of a line, or the number of the refusal.
+// What a test of a line answers: yes or no, or the number of the refusal.
 pub enum TestAnswer {
     Yes,
     No,
     Refused(u8),
 }
 
-// Whether s is n codes, each at most top.
+// Tests whether s is n codes, each at most top.
 pub fn fits(s: &[u8], n: usize, top: u8) -> bool
     ensures { λ r. ⌜ r ≡ spec.fits n top (now (s .entry)) ⌝ }
 {
@@ -36,7 +37,7 @@ pub fn fits(s: &[u8], n: usize, top: u8) -> bool
     ok
 }
 
-// Whether a and b are the same, code for code.
+// Tests whether a and b are the same, code for code.
 pub fn same_symbols(a: &[u8], b: &[u8]) -> bool
     ensures { λ r. ⌜ r ≡ spec.sameSymbols (now (a .entry)) (now (b .entry)) ⌝ }
 {
@@ -53,7 +54,7 @@ pub fn same_symbols(a: &[u8], b: &[u8]) -> bool
     true
 }
 
-// What a test of a line answers.
+// Gives the answer of a test of a line that comes out as b.
 pub fn answer(b: bool) -> TestAnswer
     ensures { λ r. ⌜ r ≡ spec.answer b ⌝ }
 {

@@ -15,8 +15,8 @@ nextState event state = stateAfter (cellOf table62 event state) state
 abbrev pub inF6OrF7 : ℕ → Bool
 inF6OrF7 state = cond (eqb state F6) true (eqb state F7)
 
--- Whether an event leads into F6 or F7: INFO 0, loss and power off lead out, INFO 2 and INFO 4 lead there from all states but F1, and
--- no other event leads in or out.
+-- Whether an event leads to F6 or F7: INFO 0, loss and power off lead out, INFO 2 and INFO 4 lead
+-- there from all states but F1, and no other event leads in or out.
 abbrev pub inF6OrF7After : ℕ → ℕ → Bool
 inF6OrF7After event state =
     cond (eqb event INFO-0-ROW) false
@@ -24,6 +24,7 @@ inF6OrF7After event state =
     (cond (eqb event OFF-ROW) false
     (cond (eqb event INFO-2-ROW) (not (eqb state F1)) (cond (eqb event INFO-4-ROW) (not (eqb state F1)) (inF6OrF7 state)))))
 
--- Whether it leads to F1: power on leads out, power off leads there, and no other event leads in or out.
+-- Whether it leads to F1: power on leads out, power off leads there, and no other event leads in or
+-- out.
 abbrev pub inF1After : ℕ → ℕ → Bool
 inF1After event state = cond (eqb event ON-ROW) false (cond (eqb event OFF-ROW) true (eqb state F1))

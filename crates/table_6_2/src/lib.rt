@@ -1,4 +1,5 @@
-// Table 6-2 of JT-I430: what a terminal in a state, F1 to F8, does at an event. The cells stand row by row in specs/Table62.antt.
+// Table 6-2 of JT-I430: what a terminal in a state, F1 to F8, does at an event. The cells stand row
+// by row in specs/Table62.antt.
 ghost use mathlib.Core.Path.{_≡_};
 ghost use Rattle.notes_and_cells.specs.Cells.{cellIn, cellOf, infoIn};
 ghost use Rattle.table_6_2.specs.Table62 as table;
@@ -54,7 +55,8 @@ pub const INFO_4_ROW: u8 = 8;
 
 pub const LOSS_ROW: u8 = 9;
 
-// The cell at an event and a state, for every number: what is no event or no state has an impossible cell.
+// Gives the cell at an event and a state, for every number: what is no event or no state has an
+// impossible cell.
 pub fn cell(event: u8, state: u8) -> Cell
     ensures { λ r. ⌜ r ≡ cellOf table.table62 event state ⌝ }
 {
@@ -72,7 +74,7 @@ pub fn cell(event: u8, state: u8) -> Cell
     }
 }
 
-// Power on and a source detected.
+// Gives the cell where power comes on and a source is detected.
 fn power_on(state: u8) -> Cell
     ensures { λ r. ⌜ r ≡ cellIn table.powerOn state ⌝ }
 {
@@ -83,7 +85,7 @@ fn power_on(state: u8) -> Cell
     }
 }
 
-// Source off.
+// Gives the cell where the source goes off.
 fn power_off(state: u8) -> Cell
     ensures { λ r. ⌜ r ≡ cellIn table.powerOff state ⌝ }
 {
@@ -100,7 +102,7 @@ fn power_off(state: u8) -> Cell
     }
 }
 
-// PH-AR, the request for activation.
+// Gives the cell at PH-AR, the request for activation.
 fn activation_request(state: u8) -> Cell
     ensures { λ r. ⌜ r ≡ cellIn table.activationRequest state ⌝ }
 {
@@ -115,7 +117,7 @@ fn activation_request(state: u8) -> Cell
     }
 }
 
-// T3 expires.
+// Gives the cell where T3 expires.
 fn t3_expiry(state: u8) -> Cell
     ensures { λ r. ⌜ r ≡ cellIn table.t3Expiry state ⌝ }
 {
@@ -128,7 +130,7 @@ fn t3_expiry(state: u8) -> Cell
     }
 }
 
-// INFO 0 is received.
+// Gives the cell where INFO 0 is received.
 fn info_0_received(state: u8) -> Cell
     ensures { λ r. ⌜ r ≡ cellIn table.info0Received state ⌝ }
 {
@@ -141,7 +143,7 @@ fn info_0_received(state: u8) -> Cell
     }
 }
 
-// Any signal is received.
+// Gives the cell where any signal is received.
 fn signal_received(state: u8) -> Cell
     ensures { λ r. ⌜ r ≡ cellIn table.signalReceived state ⌝ }
 {
@@ -154,7 +156,7 @@ fn signal_received(state: u8) -> Cell
     }
 }
 
-// INFO 2 is received.
+// Gives the cell where INFO 2 is received.
 fn info_2_received(state: u8) -> Cell
     ensures { λ r. ⌜ r ≡ cellIn table.info2Received state ⌝ }
 {
@@ -168,7 +170,7 @@ fn info_2_received(state: u8) -> Cell
     }
 }
 
-// INFO 4 is received.
+// Gives the cell where INFO 4 is received.
 fn info_4_received(state: u8) -> Cell
     ensures { λ r. ⌜ r ≡ cellIn table.info4Received state ⌝ }
 {
@@ -182,7 +184,7 @@ fn info_4_received(state: u8) -> Cell
     }
 }
 
-// Frame alignment is lost.
+// Gives the cell where frame alignment is lost.
 fn alignment_lost(state: u8) -> Cell
     ensures { λ r. ⌜ r ≡ cellIn table.alignmentLost state ⌝ }
 {
@@ -193,7 +195,7 @@ fn alignment_lost(state: u8) -> Cell
     }
 }
 
-// The number of the INFO that is sent in a state, 0 for a number that is no state.
+// Gives the number of the INFO that is sent in a state, 0 for a number that is no state.
 pub fn info_sent(state: u8) -> u8
     ensures { λ r. ⌜ r ≡ infoIn table.infoSent state ⌝ }
 {

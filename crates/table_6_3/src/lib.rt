@@ -1,4 +1,5 @@
-// Table 6-3 of JT-I430: what the network end in a state, G1 to G4, does at an event. The cells stand row by row in specs/Table63.antt.
+// Table 6-3 of JT-I430: what the network end in a state, G1 to G4, does at an event. The cells
+// stand row by row in specs/Table63.antt.
 ghost use mathlib.Core.Path.{_≡_};
 ghost use Rattle.notes_and_cells.specs.Cells.{cellIn, cellOf, infoIn};
 ghost use Rattle.table_6_3.specs.Table63 as table;
@@ -42,7 +43,8 @@ pub const INFO_3_ROW: u8 = 7;
 
 pub const LOSS_ROW: u8 = 8;
 
-// The cell at an event and a state, for every number: what is no event or no state has an impossible cell.
+// Gives the cell at an event and a state, for every number: what is no event or no state has an
+// impossible cell.
 pub fn cell(event: u8, state: u8) -> Cell
     ensures { λ r. ⌜ r ≡ cellOf table.table63 event state ⌝ }
 {
@@ -59,7 +61,7 @@ pub fn cell(event: u8, state: u8) -> Cell
     }
 }
 
-// PH-AR, the request for activation.
+// Gives the cell at PH-AR, the request for activation.
 fn activation_request(state: u8) -> Cell
     ensures { λ r. ⌜ r ≡ cellIn table.activationRequest state ⌝ }
 {
@@ -71,7 +73,7 @@ fn activation_request(state: u8) -> Cell
     }
 }
 
-// MPH-DR, the request for deactivation.
+// Gives the cell at MPH-DR, the request for deactivation.
 fn deactivation_request(state: u8) -> Cell
     ensures { λ r. ⌜ r ≡ cellIn table.deactivationRequest state ⌝ }
 {
@@ -83,7 +85,7 @@ fn deactivation_request(state: u8) -> Cell
     }
 }
 
-// T1 expires.
+// Gives the cell where T1 expires.
 fn t1_expiry(state: u8) -> Cell
     ensures { λ r. ⌜ r ≡ cellIn table.t1Expiry state ⌝ }
 {
@@ -95,7 +97,7 @@ fn t1_expiry(state: u8) -> Cell
     }
 }
 
-// T2 expires.
+// Gives the cell where T2 expires.
 fn t2_expiry(state: u8) -> Cell
     ensures { λ r. ⌜ r ≡ cellIn table.t2Expiry state ⌝ }
 {
@@ -106,7 +108,7 @@ fn t2_expiry(state: u8) -> Cell
     }
 }
 
-// INFO 0 is received.
+// Gives the cell where INFO 0 is received.
 fn info_0_received(state: u8) -> Cell
     ensures { λ r. ⌜ r ≡ cellIn table.info0Received state ⌝ }
 {
@@ -118,7 +120,7 @@ fn info_0_received(state: u8) -> Cell
     }
 }
 
-// INFO 1 is received.
+// Gives the cell where INFO 1 is received.
 fn info_1_received(state: u8) -> Cell
     ensures { λ r. ⌜ r ≡ cellIn table.info1Received state ⌝ }
 {
@@ -130,7 +132,7 @@ fn info_1_received(state: u8) -> Cell
     }
 }
 
-// INFO 3 is received.
+// Gives the cell where INFO 3 is received.
 fn info_3_received(state: u8) -> Cell
     ensures { λ r. ⌜ r ≡ cellIn table.info3Received state ⌝ }
 {
@@ -141,7 +143,7 @@ fn info_3_received(state: u8) -> Cell
     }
 }
 
-// Frame alignment is lost.
+// Gives the cell where frame alignment is lost.
 fn alignment_lost(state: u8) -> Cell
     ensures { λ r. ⌜ r ≡ cellIn table.alignmentLost state ⌝ }
 {
@@ -152,7 +154,7 @@ fn alignment_lost(state: u8) -> Cell
     }
 }
 
-// The number of the INFO that is sent in a state, 0 for a number that is no state.
+// Gives the number of the INFO that is sent in a state, 0 for a number that is no state.
 pub fn info_sent(state: u8) -> u8
     ensures { λ r. ⌜ r ≡ infoIn table.infoSent state ⌝ }
 {

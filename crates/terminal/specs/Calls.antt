@@ -17,7 +17,8 @@ use Rattle.terminal.specs.Terminal.{unchanged, switchesOn, switchesOff, 
 use Rattle.terminal.specs.declared.Terminal.{Terminal}
 use Rattle.terminal.specs.declared.TerminalStep.{TerminalStep}
 
--- Refusal 1: each field in its range. The latest T3 is one started when the last period has been run.
+-- Refusal 1: each field in its range. The latest T3 is one started when the last period has been
+-- run.
 unfoldable pub terminalInRange : Terminal → Bool
 terminalInRange t =
     cond (ltb (t .state) F1) false
@@ -28,7 +29,8 @@ terminalInRange t =
 unfoldable pub ready : Periods → Terminal → Bool
 ready now t = cond (terminalInRange t) (periodsInRange now) false
 
--- The calls: refusal 1 for a field outside its range, or a period past the last; else what the rules say.
+-- The calls: refusal 1 for a field outside its range, or a period past the last; else what the
+-- rules say.
 unfoldable pub checked : (ℕ → Terminal → TerminalStep) → Periods → Terminal → TerminalStep
 checked step now t = cond (ready now t) (step (now .0) t) (unchanged 1 t)
 

@@ -37,8 +37,9 @@ fresh = record { t3 = 0; access = dchannel.fresh; state = F1; alignment = alignm
 abbrev pub unchanged : ℕ → Terminal → TerminalStep
 unchanged k t = record { terminal = t; notes = packedNotes []; reply = k }
 
--- The D access on the way from a state to the next, and the class of the frame that is dropped there, 0 for none: "C: 0 on entering
--- F7", "Leaving F7 drops a held frame and sets both levels to normal".
+-- The D access on the way from a state to the next, and the class of the frame that is dropped
+-- there, 0 for none: "C: 0 on entering F7", "Leaving F7 drops a held frame and sets both levels to
+-- normal".
 abbrev keeping : Access → Left
 keeping a = record { access = a; dropped = 0 }
 
@@ -60,9 +61,9 @@ moved next action now t =
       alignment = t .alignment;
     }
 
--- What a cell does in period now: "D notes, dropped1 and dropped2 among them, come before the table's".
--- "A cell that is impossible there changes nothing, save for requests (refusal 5)": `bars` says which
--- requests those are. An empty cell changes nothing either.
+-- What a cell does in period now: "D notes, dropped1 and dropped2 among them, come before the
+-- table's". "A cell that is impossible there changes nothing, save for requests (refusal 5)":
+-- `bars` says which requests those are. An empty cell changes nothing either.
 unfoldable pub acts : Cell → ℕ → Terminal → TerminalStep
 acts (To next action notes) now t =
     record {
@@ -85,8 +86,8 @@ aligned a t = record { t3 = t .t3; access = t .access; state = t .state; alignme
 unfoldable pub noTimer : Terminal → Terminal
 noTimer t = record { t3 = 0; access = t .access; state = t .state; alignment = t .alignment }
 
--- Reason 5 for a terminal, by an event's number in table 6-2 and the state: "`on` outside F1, `off` in
--- F1, `ar` in F1, F2, F4, F5, F7".
+-- Reason 5 for a terminal, by an event's number in table 6-2 and the state: "`on` outside F1, `off`
+-- in F1, `ar` in F1, F2, F4, F5, F7".
 unfoldable pub bars : ℕ → ℕ → Bool
 bars event state =
     cond (eqb event ON-ROW) (not (eqb state F1))
@@ -118,11 +119,13 @@ holding h t =
 unfoldable pub handsOver : Class → ℕ → Terminal → TerminalStep
 handsOver class n t = cond (eqb (t .state) F7) (holding (handed class n (t .access)) t) (unchanged 6 t)
 
--- The start of a period: T3, spent whatever the cell (docs/DECISIONS.md, reading 12), where it is due.
+-- The start of a period: T3, spent whatever the cell (docs/DECISIONS.md, reading 12), where it is
+-- due.
 unfoldable pub timer : ℕ → Terminal → TerminalStep
 timer now t = cond (due (t .t3) now) (happens T3-ROW now (noTimer t)) (unchanged 0 t)
 
--- A period is heard: alignment follows it, and then comes what the line is. "One in F1 hears nothing."
+-- A period is heard: alignment follows it, and then comes what the line is. "One in F1 hears
+-- nothing."
 unfoldable pub heardAs : Downward → Followed → ℕ → Terminal → TerminalStep
 heardAs line f now t = happens (downwardEvent line f) now (aligned (f .alignment) t)
 

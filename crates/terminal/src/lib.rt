@@ -44,7 +44,8 @@ pub struct Terminal {
     pub alignment: Alignment,
 }
 
-// What a call gives: the record, the notes, and 0 or the number of the refusal with the record as it was.
+// What a call gives: the record, the notes, and 0 or the number of the refusal with the record as
+// it was.
 pub struct TerminalStep {
     pub terminal: Terminal,
     pub notes: Notes,
@@ -52,7 +53,7 @@ pub struct TerminalStep {
 }
 
 impl Terminal {
-    // F1, unaligned, with no timer running and both levels normal.
+    // Gives a terminal in F1, unaligned, with no timer running and both levels normal.
     pub fn fresh() -> Self
         ensures { λ r. ⌜ r ≡ spec.fresh ⌝ }
     {
@@ -64,7 +65,7 @@ impl Terminal {
         }
     }
 
-    // Whether every field is in its range.
+    // Tests whether every field is in its range.
     pub fn in_range(self) -> bool
         ensures { λ r. ⌜ r ≡ calls.terminalInRange self ⌝ }
     {
@@ -80,7 +81,7 @@ impl Terminal {
         self.alignment.in_range() && self.access.in_range()
     }
 
-    // Power on, barred with 5 outside F1; it finds the terminal unaligned.
+    // Switches power on: refused with 5 outside F1. It finds the terminal unaligned, with no run.
     pub fn switch_on(self, now: Periods) -> TerminalStep
         ensures { λ r. ⌜ r ≡ calls.switchOnCall now self ⌝ }
     {
@@ -95,21 +96,22 @@ impl Terminal {
         )
     }
 
-    // Power off, barred with 5 in F1; T3 is stopped.
+    // Switches power off: refused with 5 in F1. It stops T3.
     pub fn switch_off(self, now: Periods) -> TerminalStep
         ensures { λ r. ⌜ r ≡ calls.switchOffCall now self ⌝ }
     {
         self.when(self.state != F1, 5, 0, self.alignment, 0, OFF_ROW, now)
     }
 
-    // `ar`, the request for activation, barred with 5 where its cell is impossible or empty.
+    // Takes `ar`, the request for activation: refused with 5 where its cell is impossible or empty.
     pub fn request(self, now: Periods) -> TerminalStep
         ensures { λ r. ⌜ r ≡ calls.requestCall now self ⌝ }
     {
         self.when(true, 0, self.t3, self.alignment, 5, AR_ROW, now)
     }
 
-    // A frame of a class is handed over, in F7 (else 6); its image has so many bits.
+    // Hands over a frame of a class, whose image has `length` bits: refused with 6 outside F7, and
+    // else with 7 or 8 as the D access refuses it.
     pub fn hand_over(self, class: Class, length: u16) -> TerminalStep
         ensures { λ r. ⌜ r ≡ calls.handOverCall class length self ⌝ }
     {
@@ -127,14 +129,15 @@ impl Terminal {
         }
     }
 
-    // The start of a period: T3, where it is due, is spent.
+    // Starts a period: takes the event of T3 where it is due, and T3 is spent.
     pub fn timer_due(self, now: Periods) -> TerminalStep
         ensures { λ r. ⌜ r ≡ calls.timerCall now self ⌝ }
     {
         self.when(due(self.t3, now), 0, 0, self.alignment, 0, T3_ROW, now)
     }
 
-    // A period's downward line is heard; one in F1 hears nothing.
+    // Hears a period's downward line: takes the event that the line is. A terminal in F1 hears
+    // nothing.
     pub fn hear(self, line: Downward, now: Periods) -> TerminalStep
         ensures { λ r. ⌜ r ≡ calls.hearCall line now self ⌝ }
     {
@@ -150,7 +153,9 @@ impl Terminal {
         )
     }
 
-    // Where record and period are in range: an event at the record with another T3 and another alignment, if a test holds; else a reply.
+    // If `holds`, takes an event at the record with `t3` and `alignment` in the place of its own,
+    // and replies `barred` where the event's cell is impossible or empty; else changes nothing and
+    // replies `reply`. Where record or period is out of range, the call is refused with 1.
     fn when(
         self,
         holds: bool,
@@ -180,6 +185,7 @@ impl Terminal {
         }
     }
 
+    // Gives the record as it is, with no notes and a reply.
     fn unchanged(self, reply: u8) -> TerminalStep
         ensures { λ r. ⌜ r ≡ spec.unchanged reply self ⌝ }
     {
@@ -190,7 +196,7 @@ impl Terminal {
         }
     }
 
-    // The record as it is, with notes and a reply.
+    // Gives the record as it is, with notes and a reply.
     fn stays(self, notes: Notes, reply: u8) -> TerminalStep
         ensures { λ r. ⌜ r ≡ record { terminal = self; notes = notes; reply = reply } ⌝ }
     {
@@ -201,6 +207,7 @@ impl Terminal {
         }
     }
 
+    // Gives the record with these fields.
     fn of(t3: u64, access: Access, state: u8, alignment: Alignment) -> Self
         ensures { λ r. ⌜ r ≡ record { t3 = t3; access = access; state = state; alignment = alignment } ⌝ }
     {
@@ -212,7 +219,8 @@ impl Terminal {
         }
     }
 
-    // A cell's next state, timer action and notes, after the note of a dropped frame.
+    // Moves to a cell's next state, with the cell's timer action; its notes come after the note of
+    // a frame that is dropped on the way.
     fn moves(self, next: u8, action: u8, notes: Notes, now: Periods) -> TerminalStep
         requires { ⌜ packedNotes (noted notes) ≡ notes ⌝ }
         ensures { λ r. ⌜ r ≡ spec.acts (To next action notes) (now .0) self ⌝ }
@@ -225,7 +233,8 @@ impl Terminal {
         )
     }
 
-    // An event of table 6-2; the reply at a cell that is impossible or empty is barred.
+    // Takes an event of table 6-2: does what its cell says and replies 0; where the cell is
+    // impossible or empty, changes nothing and replies `barred`.
     fn happens(self, barred: u8, event: u8, now: Periods) -> TerminalStep
         ensures { λ r. ⌜ r ≡ cond (isVoid (cellOf table62 event (self .state)))
             (spec.unchanged barred self) (spec.happens event (now .0) self) ⌝ }
@@ -240,7 +249,8 @@ impl Terminal {
     }
 }
 
-// The D access on the way from a state to the next, and the class of the frame that is dropped there, 0 for none.
+// Gives the D access on the way from a state to the next, and the class of the frame that is
+// dropped there, 0 for none.
 fn access_after(from: u8, next: u8, access: Access) -> Left
     ensures { λ r. ⌜ r ≡ spec.accessAfter from next access ⌝ }
 {
@@ -260,7 +270,7 @@ fn access_after(from: u8, next: u8, access: Access) -> Left
     }
 }
 
-// The notes of a cell, after that of a dropped frame.
+// Gives the notes of a cell, after the note of a dropped frame of this class, 0 for none.
 fn after_dropped(class: u8, notes: Notes) -> Notes
     requires { ⌜ packedNotes (noted notes) ≡ notes ⌝ }
     ensures { λ r. ⌜ r ≡ packedNotes (spec.droppedNote class ++ noted notes) ⌝ }

@@ -6,7 +6,8 @@ use mathlib.Core.Logic.{_⊎_}
 use Prim.Native.Nat.{ℕ, _+_, _-_, _≤_, _<_}
 use lib.Dec.{ltb, leb}
 
--- A timer that is due at none of the next n periods' starts; `now` is the number of the coming period.
+-- What is to hold of a timer that is due at none of the next n periods' starts; `now` is the number
+-- of the coming period.
 abbrev pub Clear : ℕ → ℕ → ℕ → Type 0
 Clear now n timer = (timer ≤ now) ⊎ (now + n < timer)
 

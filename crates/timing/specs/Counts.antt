@@ -11,15 +11,15 @@ use Rattle.timing.specs.declared.counts.Opportunities.{Opportunities}
 abbrev pub mostPeriods : ℕ
 mostPeriods = 4000000
 
--- So many periods run: the period of that number is next.
+-- The count where n periods have been run: period n is next.
 abbrev pub atPeriod : ℕ → Periods
 atPeriod n = record { 0 = n }
 
 abbrev pub periodsInRange : Periods → Bool
 periodsInRange p = leb (p .0) mostPeriods
 
--- At most four opportunities for each period run: the one range that goes by another field, so that a period more leaves the count in
--- its range.
+-- Whether the opportunities are at most four for each period run: the one range that goes by
+-- another field, so that a period more leaves the count in its range.
 abbrev pub opportunitiesInRange : Periods → Opportunities → Bool
 opportunitiesInRange p o = leb (o .0) (4 * p .0)
 
@@ -31,6 +31,7 @@ allRun p = leb mostPeriods (p .0)
 unfoldable pub nextPeriod : Periods → Periods
 nextPeriod p = cond (allRun p) p (atPeriod (p .0 + 1))
 
--- "four for each period whose lines leave the network end in G3", for every count that a bus can have
+-- "four for each period whose lines leave the network end in G3", for every count that a bus can
+-- have
 unfoldable pub fourMore : Opportunities → Opportunities
 fourMore o = cond (leb (o .0) (4 * mostPeriods)) (record { 0 = o .0 + 4 }) o

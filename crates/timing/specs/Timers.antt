@@ -20,7 +20,8 @@ T3 = 120000
 unfoldable pub due : ℕ → ℕ → Bool
 due timer now = cond (eqb timer 0) false (eqb timer now)
 
--- A timer of length v after a cell's action in period now, where `start` is the action that starts it: "a new start replaces it".
+-- A timer of length v after a cell's action in period now, where `start` is the action that starts
+-- it: "a new start replaces it".
 unfoldable pub startedBy : ℕ → ℕ → ℕ → ℕ → ℕ → ℕ
 startedBy start v action now timer = cond (eqb action start) (now + v) timer
 

@@ -6,13 +6,14 @@ use super::counts::Periods;
 use notes_and_cells::cell::START;
 use notes_and_cells::cell::STOP;
 
+// The lengths of T1, T2 and T3 in periods.
 pub const T1: u32 = 120_000;
 
 pub const T2: u32 = 200;
 
 pub const T3: u32 = 120_000;
 
-// Whether a timer is due at the start of a period.
+// Tests whether a timer is due at the start of period `now`.
 pub fn due(timer: u64, now: Periods) -> bool
     ensures { λ r. ⌜ r ≡ due timer (now .0) ⌝ }
 {
@@ -22,7 +23,8 @@ pub fn due(timer: u64, now: Periods) -> bool
     timer == now.0 as u64
 }
 
-// A timer of a length after a cell's action, where `start` is the action that starts it.
+// Gives a timer after a cell's action in period `now`: where this is `start`, it is started with
+// `length`; else it stays.
 pub fn started_by(start: u8, length: u32, action: u8, now: Periods, timer: u64) -> u64
     ensures { λ r. ⌜ r ≡ startedBy start length action (now .0) timer ⌝ }
 {
@@ -33,7 +35,8 @@ pub fn started_by(start: u8, length: u32, action: u8, now: Periods, timer: u64) 
     }
 }
 
-// A timer that START starts and STOP stops: T1 in table 6-3, T3 in table 6-2.
+// Gives a timer after a cell's action in period `now`, where START starts it with `length` and STOP
+// stops it: T1 in table 6-3, T3 in table 6-2.
 pub fn timer_after(length: u32, action: u8, now: Periods, timer: u64) -> u64
     ensures { λ r. ⌜ r ≡ timerAfter length action (now .0) timer ⌝ }
 {
@@ -43,7 +46,8 @@ pub fn timer_after(length: u32, action: u8, now: Periods, timer: u64) -> u64
     started_by(START, length, action, now, timer)
 }
 
-// How many of the next periods' starts come before a timer is due, `most` at most; `now` is the coming period.
+// Gives how many of the next periods' starts come before a timer is due, `most` at most; `now` is
+// the coming period.
 pub fn clear(now: Periods, most: u32, timer: u64) -> u32
     ensures { λ r. ⌜ r ≡ clear (now .0) most timer ⌝ }
 {
