@@ -17,7 +17,7 @@ abbrev pub classNumber : Class → ℕ
 classNumber One = 1
 classNumber Two = 2
 
--- whether a number of bits is one that an image may have
+-- whether a number of bits is at least the shortest image's and at most the longest's
 unfoldable pub isImageLength : ℕ → Bool
 isImageLength n = leb shortestImage n && leb n longestImage
 
@@ -26,7 +26,7 @@ unfoldable pub takenUp : ℕ → ℕ → Access → Access
 takenUp k n a =
     record { length = n; sent = 0; count = a .count; held = k; low1 = a .low1; low2 = a .low2; last = true }
 
--- A frame whose image has n bits is handed over: refused by 7 where no body has such an image, by 8
+-- A frame whose image has n bits is handed over: refused by 7 where n is out of these bounds, by 8
 -- where one is held.
 unfoldable pub handed : Class → ℕ → Access → Handed
 handed class n a =

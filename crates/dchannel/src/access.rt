@@ -78,8 +78,9 @@ impl Access {
         }
     }
 
-    // Hands over a frame of a class, whose image has `length` bits. It is refused with 7 where no
-    // image has that length, and with 8 where a frame is held.
+    // Hands over a frame of a class, whose image has `length` bits. It is refused with 7 where that
+    // is less than the shortest image has or more than the longest, and with 8 where a frame is
+    // held.
     pub fn hand(self, class: Class, length: u16) -> Handed
         ensures { λ r. ⌜ r ≡ handed class length self ⌝ }
     {
