@@ -1,5 +1,5 @@
 -- Laws: what an answer of a call says of the book.
--- Interface: the statements, for the proofs of this crate. Assumes nothing.
+-- Interface: none outside this crate but for proofs. Assumes nothing.
 use mathlib.Core.Path.{_≡_}
 use mathlib.Core.Bool.{Bool, true, false}
 use mathlib.Core.List.{List, [], _∷_, _++_}

@@ -1,8 +1,8 @@
 -- How the code goes: the network end's side of a period: it reads D, hears the upward line, and
 -- then come the timers due at the next one's start. Crate `bus_call_specs`' law `step-shown` holds
 -- it to document 01's period.
--- Interface: `noNotes`, `leavesG3`, `readerAfter`, `networkListens`, `networkRests`, `countedAfter`,
--- `answerWith`, `answerAfter`, `octetsAfter`, `refusedRun`. Assumes nothing.
+-- Interface: `noNotes`, `leavesG3`, `readerAfter`, `networkListens`, `networkRests`,
+-- `countedAfter`, `answerWith`, `answerAfter`, `octetsAfter`, `refusedRun`. Assumes nothing.
 use mathlib.Core.Bool.{Bool, false, cond, not, _&&_, _||_}
 use mathlib.Core.List.{List}
 use Prim.Native.Nat.{ℕ}

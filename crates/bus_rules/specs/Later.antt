@@ -1,6 +1,6 @@
 -- Laws: nothing that comes later in a period changes what was taken from its lines: the statement.
 -- `proofs/Later.antt` proves it.
--- Interface: the statements, for the proofs of this crate. Assumes nothing.
+-- Interface: none outside this crate but for proofs. Assumes nothing.
 use mathlib.Core.Path.{_≡_}
 use Prim.Native.Nat.{ℕ, _<_}
 use Rattle.symbols.specs.Symbols.{levels}

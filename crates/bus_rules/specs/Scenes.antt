@@ -1,6 +1,6 @@
 -- Laws: scenes of the bus, computed by the definitions: lists of calls with what they hand back,
 -- and records that no list of calls leads to.
--- Interface: the statements, for the proofs of this crate. Assumes nothing.
+-- Interface: none outside this crate but for proofs. Assumes nothing.
 use mathlib.Core.Path.{_≡_, refl}
 use mathlib.Core.Bool.{Bool, true, false, cond}
 use mathlib.Core.List.{List, [], _∷_, _++_, map}

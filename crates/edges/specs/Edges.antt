@@ -1,6 +1,6 @@
 -- Laws: the cases marked ● in document 01, "Edges": one table, computed by the definitions, and a
 -- single fact that proves it.
--- Interface: the statements, for the proofs of this crate. Assumes nothing.
+-- Interface: none outside this crate but for proofs. Assumes nothing.
 use mathlib.Core.Path.{_≡_, refl}
 use mathlib.Core.Bool.{Bool, true, false, cond, not}
 use mathlib.Core.List.{List, [], _∷_, _++_}

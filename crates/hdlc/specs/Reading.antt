@@ -1,7 +1,7 @@
 -- Rules: the network end's reader of D, over the raw bits that it has read (document 01, "D access
 -- (6.1)", second paragraph; docs/DECISIONS.md, readings 7 to 9).
--- Interface: `Reading`, `Said`, `nothing`, `torn`, `heard`, `cleared`, `startsWith`, `unstuff`, `reversed`, `rest`, `contents`,
--- `between`, `aborted`, `says`, `said`, `next`. Assumes nothing.
+-- Interface: `Reading`, `Said`, `nothing`, `torn`, `heard`, `cleared`, `startsWith`, `unstuff`,
+-- `reversed`, `rest`, `contents`, `between`, `aborted`, `says`, `said`, `next`. Assumes nothing.
 use mathlib.Core.Bool.{Bool, true, false, cond}
 use mathlib.Core.List.{List, [], _∷_, _++_}
 use Prim.Native.Nat.{ℕ, suc, _*_, _/_, _%_}

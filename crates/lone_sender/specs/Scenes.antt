@@ -1,6 +1,6 @@
 -- Laws: scenes, each computed: a terminal that is found to send alone, and its next period;
 -- terminals among which none is.
--- Interface: the statements, for the proofs of this crate. Assumes nothing.
+-- Interface: none outside this crate but for proofs. Assumes nothing.
 use mathlib.Core.Bool.{true, false}
 use mathlib.Core.List.{List, [], _∷_}
 use mathlib.Core.Path.{_≡_, refl}

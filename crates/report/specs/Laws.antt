@@ -1,5 +1,5 @@
 -- Laws: what holds of every book's calls.
--- Interface: the statements, for the proofs of this crate. Assumes nothing.
+-- Interface: none outside this crate but for proofs. Assumes nothing.
 use mathlib.Core.List.{List, [], _∷_, _++_}
 use mathlib.Core.Path.{_≡_}
 use Prim.Native.Nat.{ℕ, _-_, _≤_}
