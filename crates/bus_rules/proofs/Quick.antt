@@ -17,7 +17,7 @@ use Rattle.frame.specs.Polarity.{alternate, symbols}
 use Rattle.frame.specs.Up.{upBits, upLine}
 use Rattle.frame.specs.Down.{eBits}
 use Rattle.frame.specs.declared.fields.Four.{Four}
-use Rattle.frame.proofs.Laws.{pick-and, pick-ones, pick-padded}
+use Rattle.frame.proofs.Laws.{pick-and, pick-ones, pick-filled}
 use Rattle.framed.specs.Framed.{firstPulse, framedIn, framedUp, hasPulse}
 use Rattle.info.specs.Info.{info1, info3, isInfo1}
 use Rattle.info.proofs.Laws.{e-info0, e-info2, e-info4, line-info1}
@@ -52,7 +52,7 @@ pub e-sent : (k state : ℕ) (es : List Bool) → k < 4 → pick k (eBits (level
 unfolding sentDown sentE
 e-sent k state es h =
     by-test (eqb (infoIn table63.infoSent state) 4)
-    (λ t. rw (t, e-info4 (filledWithOnes es), pick-padded k es h))
+    (λ t. rw (t, e-info4 (filledWithOnes es), pick-filled k es h))
     (λ t. rw t
     (by-test (eqb (infoIn table63.infoSent state) 2) (λ u. rw (u, e-info2, all-zero k h)) (λ u. rw (u, e-info0, pick-ones k))))
 
@@ -97,7 +97,7 @@ outside-1 e s h = rw h
 pub d-sent : (k : ℕ) (s : Sender) → k < 4 → pick k (sentD (sentOf s)) ≡ cond (eqb (infoOf (s .station)) 3) (getD (s .ds) k true) true
 unfolding sentOf sentUp
 d-sent k s h =
-    by-test (eqb (infoOf (s .station)) 3) (λ t. rw (t, pick-padded k (s .ds) h))
+    by-test (eqb (infoOf (s .station)) 3) (λ t. rw (t, pick-filled k (s .ds) h))
     (λ t. rw t (by-test (eqb (infoOf (s .station)) 1) (λ u. rw (u, pick-ones k)) (λ u. rw (u, pick-ones k))))
 
 d-new : (k : ℕ) (e : Bool) (s : Sender) → k < 4 → length (s .ds) ≡ k → pick k (sentD (sentOf (hearsE e s))) ≡ dOf e (s .station)

@@ -73,13 +73,13 @@ pick-ones (suc (suc zero)) = refl
 pick-ones (suc (suc (suc zero))) = refl
 pick-ones (suc (suc (suc (suc k)))) = refl
 
-pub pick-padded : Laws.PickPadded
+pub pick-filled : Laws.PickFilled
 unfolding pick filledWithOnes
-pick-padded zero bits h = refl
-pick-padded (suc zero) bits h = refl
-pick-padded (suc (suc zero)) bits h = refl
-pick-padded (suc (suc (suc zero))) bits h = refl
-pick-padded (suc (suc (suc (suc k)))) bits h = absurd (omega arith)
+pick-filled zero bits h = refl
+pick-filled (suc zero) bits h = refl
+pick-filled (suc (suc zero)) bits h = refl
+pick-filled (suc (suc (suc zero))) bits h = refl
+pick-filled (suc (suc (suc (suc k)))) bits h = absurd (omega arith)
 
 pub pick-d : Laws.PickD
 unfolding pick

@@ -64,8 +64,8 @@ PickAnd = (k : ℕ) (a b : Four) → pick k (andFour a b) ≡ (pick k a && pick 
 abbrev pub PickOnes : Type 0
 PickOnes = (k : ℕ) → pick k (allFour true) ≡ true
 
-abbrev pub PickPadded : Type 0
-PickPadded = (k : ℕ) (bits : List Bool) → k < 4 → pick k (filledWithOnes bits) ≡ getD bits k true
+abbrev pub PickFilled : Type 0
+PickFilled = (k : ℕ) (bits : List Bool) → k < 4 → pick k (filledWithOnes bits) ≡ getD bits k true
 
 abbrev pub PickD : Type 0
 PickD = (k : ℕ) (l : List ℕ) → k < 4 → pick k (dBits (levels l)) ≡ level (getD l (dIndex k) none)
