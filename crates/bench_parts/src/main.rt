@@ -1,13 +1,14 @@
-// The bench in parts, for tests: the book is read in parts of at most so many octets as the first argument says, and the room holds the
-// notes of one period, so that calls stop for text and for room as often as they can. The report is the same.
+// The bench in parts, for tests: the first argument is the most octets of the book that are read at
+// a time, and the room holds the notes of one period, so that calls stop for text and for room as
+// often as they can. The report is the same.
 use book_go_on::progress::PERIOD_ROOM;
 use book_line::number::Number;
 use book_line::number::digits;
 
-// What a part is, where the argument is missing or no number.
+// The most octets of a part, where the argument is missing or no number.
 const ONE: u32 = 1;
 
-// The number that the first argument writes.
+// Gives the number that the first argument writes.
 fn part() -> u32 {
     let mut word = io::buffer();
     let n = os::arg(1, &mut word);

@@ -18,14 +18,16 @@ pub record GoesOn (p : Progress) (images octets letters text room : List ℕ) (w
   pub refused : (r .reply ≡ 0 → ⊥)
       → (r ≡ record { progress = p; taken = 0; wrote = 0; why = 0; reply = r .reply })
       × (images′ ≡ images) × (octets′ ≡ octets) × (letters′ ≡ letters) × (room′ ≡ room)
-  -- else it has gone on until it needs text or room, or is finished (crate `report`, specs/Ahead.antt): every lent octet is in what it left
+  -- else it has gone on until it needs text or room, or is finished (crate `report`,
+  -- specs/Ahead.antt): every lent octet is in what it left
   pub stops : r .reply ≡ 0
       → Stopped (bookStateOf p images octets letters) text room whole
       (bookStateOf (r .progress) images′ octets′ letters′) (r .taken) (r .wrote) (r .why) room′
 
--- ---- A book from its beginning stands where crate `report` has a fresh one, so that its theorems on drivers (specs/Ahead.antt there) speak of
--- these calls; and no call on a sound stand is refused: the fresh one is sound, and each call leaves one that is (proofs/Driving.antt there).
--- Proved in proofs/Going.antt.
+-- ---- A book from its beginning is in the state that crate `report` has for a fresh one, so that
+-- its theorems on drivers (specs/Ahead.antt there) speak of these calls; and no call from a sound
+-- state is refused: the fresh one is sound, and each call leaves one that is (proofs/Driving.antt
+-- there). Proved in proofs/Going.antt.
 abbrev pub FreshBookState : Type 0
 FreshBookState = (images octets letters : List ℕ) → bookStateOf freshProgress images octets letters ≡ fresh images octets letters
 

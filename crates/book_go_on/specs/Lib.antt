@@ -1,4 +1,5 @@
--- How far a book has come (Progress), what running to a period and giving an event do (Until), one step (Steps), the call (GoOn).
+-- How far a book has come (Progress), what running to a period and giving an event do (RunTo), one
+-- step (Steps), the call (GoOn).
 pub mod Progress
 pub mod RunTo
 pub mod Steps

@@ -18,7 +18,7 @@ use Rattle.book_go_on.specs.declared.progress.Progress.{Progress}
 use Rattle.book_go_on.specs.declared.progress.GoneOn.{GoneOn}
 use Rattle.book_go_on.specs.declared.run_to.BusAndRoom.{BusAndRoom}
 
--- of which nothing has been read, on a fresh bus
+-- a book of which nothing has been read, on a fresh bus
 unfoldable pub freshProgress : Progress
 freshProgress =
     record { bus = freshRecord; terminals = replicate terminals terminal.fresh; stage = BEFORE-FIRST-LINE; begun = false; over = false }
@@ -27,11 +27,11 @@ abbrev pub bookStateOf : Progress → List ℕ → List ℕ → List ℕ → Boo
 bookStateOf p images octets letters =
     record { kept = found (p .bus) (p .terminals) images octets letters; stage = p .stage; begun = p .begun; over = p .over }
 
--- The first of the reasons 1 and 2 that holds, or 0: as for a run of no period.
+-- The first of the reasons 1 and 2 that holds, or 0: as for a run of no periods.
 unfoldable pub reason : BookState → ℕ
 reason s = runReply 0 (s .kept)
 
--- Before the first step, and after the last one, with the octets taken of the text.
+-- Before the first step; and after the last one, with `taken` octets of the text taken.
 abbrev pub untaken : Progress → GoneOn
 untaken p = record { progress = p; taken = 0; wrote = 0; why = 0; reply = 0 }
 
@@ -60,7 +60,8 @@ reached w u stage taken why =
       reply = 0;
     }
 
--- What a step is for: the record and what is lent are in order, and the room reaches as far as is written.
+-- What a step is for: the record and what is lent are in order, and the room reaches as far as is
+-- written.
 pub record Goes (w : GoneOn) (images octets letters room : List ℕ) : Type 0 where
   pub ready : Ready (found (w .progress .bus) (w .progress .terminals) images octets letters)
   pub fits : w .wrote ≤ length room

@@ -13,11 +13,11 @@ use Rattle.note_text.specs.Room.{Put}
 use Rattle.note_text.specs.NoteText.{notesText}
 use Rattle.report.specs.Told.{done, doneAll, bookTold, allBookTold}
 
--- the periods run from one to the other
+-- the periods run from what k has run to what k′ has
 abbrev pub periodsTo : Kept → Kept → List Call
 periodsTo k k′ = replicate (k′ .bus .periods .0 - k .bus .periods .0) period
 
--- Their notes stand in the room, all of them.
+-- Some or all of the periods before period `to` are run, and all their notes stand in the room.
 pub record RunsTo (k : Kept) (to : ℕ) (room : List ℕ) (wrote : ℕ) (k′ : Kept) (wrote′ : ℕ) (room′ : List ℕ) : Type 0 where
   pub from : k .bus .periods .0 ≤ k′ .bus .periods .0
   pub up-to : k′ .bus .periods .0 ≤ to
@@ -25,7 +25,7 @@ pub record RunsTo (k : Kept) (to : ℕ) (room : List ℕ) (wrote : ℕ) (k′ : 
   pub put : Put room wrote (notesText (allBookTold k (periodsTo k k′))) wrote′ room′
   pub fits : wrote + length (notesText (allBookTold k (periodsTo k k′))) ≤ length room
 
--- the call of a line's event, whose value stands so in the book
+-- the call of a line's event, whose value stands in the book as `value`
 abbrev pub given : ℕ → ℕ → List ℕ → Call
 given unit number value = event unit number (valueOctets number value)
 

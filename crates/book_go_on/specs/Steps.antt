@@ -1,5 +1,5 @@
--- How the code goes: what steps do, from a place in the text and so many octets written to others:
--- as `Advanced` of crate `report` (specs/Ahead.antt) says it of a call.
+-- How the code goes: what steps do, from a place in the text and a number of octets written to
+-- others: as `Advanced` of crate `report` (specs/Ahead.antt) says it of a call.
 -- Interface: `IsRead`, `StepsBy`. Assumes nothing.
 use mathlib.Core.Bool.{Bool, true, false, cond}
 use mathlib.Core.List.{List, [], _++_}
@@ -45,14 +45,14 @@ pub record Steps (text : List ℕ) (whole : Bool) (s : BookState) (at : ℕ) (ro
   pub over-said : s′ .over ≡ true → why ≡ OVER
   pub listed : why ≤ OVER
 
--- ---- A step is told what the book's reader has read, and the value of the line. It does with them what `Steps` says, of every text and
--- every place in it where a reader would read just that.
+-- ---- A step is told what the book's reader has read, and the value of the line. It does with them
+-- what `Steps` says, of every text and every place in it where a reader would read just that.
 pub record Reads (text : List ℕ) (at : ℕ) (whole : Bool) (s : BookState) (said : Step) (value : List ℕ) : Type 0 where
   pub within : at ≤ length text
   pub says : stepAt text at (s .stage) (s .kept .bus .periods .0) whole ≡ said
   pub value-is : valueAt text at said ≡ value
 
--- it was read of some text
+-- it was read from some text
 pub record IsRead (s : BookState) (said : Step) (value : List ℕ) : Type 0 where
   pub text : List ℕ
   pub at : ℕ

@@ -5,7 +5,7 @@ ghost use Rattle.book_go_on.specs.Progress as spec;
 use super::progress::GoneOn;
 use super::progress::Progress;
 
-// Before the first step.
+// Starts before the first step: nothing is taken or written yet.
 pub(crate) fn untaken(progress: Progress) -> GoneOn
     ensures { λ r. ⌜ r ≡ spec.untaken progress ⌝ }
 {
@@ -18,35 +18,35 @@ pub(crate) fn untaken(progress: Progress) -> GoneOn
     }
 }
 
-// How far the book's reader has come.
+// Gives how far the book's reader has come.
 pub(crate) fn stage_of(w: GoneOn) -> u8
     ensures { λ r. ⌜ r ≡ w .progress .stage ⌝ }
 {
     w.progress.stage
 }
 
-// The periods run: the last line's period.
+// Gives the number of periods run: the last line's period.
 pub(crate) fn periods_of(w: GoneOn) -> u32
     ensures { λ r. ⌜ r ≡ w .progress .bus .periods .0 ⌝ }
 {
     w.progress.bus.periods.0
 }
 
-// The octets that the last step has taken.
+// Gives how many octets the last step has taken.
 pub(crate) fn taken_of(w: GoneOn) -> usize
     ensures { λ r. ⌜ r ≡ w .taken ⌝ }
 {
     w.taken
 }
 
-// Whether there is another step to come.
+// Tests whether there is another step to come.
 pub(crate) fn goes_on(w: GoneOn) -> bool
     ensures { λ r. ⌜ r ≡ eqb (w .why) 0 ⌝ }
 {
     w.why == 0
 }
 
-// After the last step, so many octets of the text being taken in all.
+// Ends after the last step: `taken` octets of the text are taken in all.
 pub(crate) fn ended(w: GoneOn, taken: usize) -> GoneOn
     ensures { λ r. ⌜ r ≡ spec.ended w taken ⌝ }
 {

@@ -1,4 +1,4 @@
-// An event of a line is given to the bus, and its notes go into the room.
+// Giving the bus the event of a line; its notes go into the room.
 ghost use mathlib.Core.List.{List};
 ghost use Prim.Native.Nat.{ℕ, _+_, _≤_};
 ghost use lib.ListN.{length};
@@ -12,7 +12,8 @@ use book_line::value;
 use book_line::value::VALUE_ROOM;
 use period_text::event::put_event;
 
-// Gives a line's event to the bus and puts its notes, or `refused`, into the room; the value is as it stands in the line.
+// Gives a line's event to the bus and puts its notes, or `refused`, into the room; the value is as
+// it stands in the line.
 pub(crate) fn give(
     u: BusAndRoom,
     images: &mut [u8],

@@ -6,7 +6,8 @@ use super::progress::GoneOn;
 use super::progress::Progress;
 use super::reading::read_on;
 
-// The first of the reasons 1 and 2 that holds, or 0: as for a run of no period, which changes nothing.
+// Gives the first of the reasons 1 and 2 that holds, or 0: as for a run of no periods, which
+// changes nothing.
 fn reason(progress: Progress, images: &[u8], octets: &mut [u8], letters: &[u8]) -> u8
     ensures { λ r. ⌜ r ≡ spec.reason (spec.bookStateOf progress (now (images .entry)) (now (octets .entry)) (now (letters .entry))) ⌝ }
     ensures { λ _. ⌜ now (octets .exit) ≡ now (octets .entry) ⌝ }
@@ -16,8 +17,9 @@ fn reason(progress: Progress, images: &[u8], octets: &mut [u8], letters: &[u8]) 
     g.answer.reply
 }
 
-// Goes on with a book in lent text, its report in lent room, until it needs more text or room, or is finished; `whole` says that the text
-// reaches to the book's end. Room for less than PERIOD_ROOM octets is never enough. A refused call changes nothing.
+// Goes on with a book in lent text, its report in lent room, until it needs more text or room, or
+// is finished; `whole` says that the text reaches to the book's end. Room for less than PERIOD_ROOM
+// octets is never enough. A refused call changes nothing.
 pub fn go_on(
     progress: Progress,
     images: &mut [u8],

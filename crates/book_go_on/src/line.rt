@@ -20,7 +20,7 @@ use book_line::event::is_end;
 use book_reader::step::AFTER_END;
 use book_reader::step::AT_LINES;
 
-// The book at a stage, with the bus and what was written as they are now.
+// Gives the book at `stage`, with the bus and what was written as they are now.
 fn reached(w: GoneOn, u: BusAndRoom, stage: u8, taken: usize, why: u8) -> GoneOn
     ensures { λ r. ⌜ r ≡ spec.reached w u stage taken why ⌝ }
 {
@@ -41,8 +41,9 @@ fn reached(w: GoneOn, u: BusAndRoom, stage: u8, taken: usize, why: u8) -> GoneOn
     }
 }
 
-// The periods before the line's own are run; then, where there is room, comes its event, or the end of the book's lines.
-// The line has `size` octets, its LF included, and its value is as it stands in it.
+// Runs the periods before the line's own; then, where there is room, gives the line's event, or
+// ends the book's lines. The line has `size` octets, its LF included, and its value is as it stands
+// in it.
 pub(crate) fn line(
     w: GoneOn,
     images: &mut [u8],

@@ -16,8 +16,9 @@ pub struct Progress {
     pub over: bool,
 }
 
-// What a call gives back: how far the book has come, the octets taken of the text and written into the room, why it stopped (0: it goes
-// on), and 0 or the number of the refusal. Between the steps of a call it is kept so, too; there `taken` is what the last step has taken.
+// What a call gives back: how far the book has come, the octets taken of the text and written into
+// the room, why it stopped (0: it goes on), and 0 or the number of the refusal. Between the steps
+// of a call it is kept so, too; there `taken` is what the last step has taken.
 pub struct GoneOn {
     pub progress: Progress,
     pub taken: usize,
@@ -37,7 +38,7 @@ pub const OVER: u8 = 3;
 pub const PERIOD_ROOM: usize = 4248;
 
 impl Progress {
-    // A book of which nothing has been read, on a fresh bus.
+    // Gives a book of which nothing has been read, on a fresh bus.
     pub fn fresh() -> Self
         ensures { λ r. ⌜ r ≡ spec.freshProgress ⌝ }
     {

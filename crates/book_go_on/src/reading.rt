@@ -1,4 +1,5 @@
-// The book's lines: a reader of the lent text goes from one to the next, and a step does what it has read.
+// The book's lines: a reader of the lent text goes from one to the next, and a step does what it
+// has read.
 ghost use mathlib.Core.Path.{_≡_};
 ghost use Rattle.report.specs.Ahead.{Stopped};
 ghost use Rattle.book_go_on.specs.Progress as spec;
@@ -13,7 +14,8 @@ use super::progress::Progress;
 use super::step::step;
 use book_reader::lent;
 
-// Reads on until a step needs text or room, or the book is over. How much of the text is taken is how far the reader has come.
+// Reads on until a step needs text or room, or the book is over. How much of the text is taken is
+// how far the reader has come.
 pub(crate) fn read_on(
     progress: Progress,
     images: &mut [u8],

@@ -1,4 +1,4 @@
-// Periods are run up to a line's, as long as there is room for the notes of one.
+// Running the periods up to a line's, as long as there is room for the notes of one.
 ghost use mathlib.Core.Path.{_≡_};
 ghost use Prim.Native.Nat.{_+_, _≤_, _<_};
 ghost use lib.Dec.{leb};
@@ -22,7 +22,7 @@ pub(crate) struct BusAndRoom {
     pub(crate) wrote: usize,
 }
 
-// Whether so much room, so many octets of it written, holds the notes of one more period.
+// Tests whether `room` octets, of which `wrote` are written, hold the notes of one more period.
 pub(crate) fn has_room(room: usize, wrote: usize) -> bool
     ensures { λ r. ⌜ r ≡ leb (wrote + periodRoom) room ⌝ }
 {
@@ -32,7 +32,8 @@ pub(crate) fn has_room(room: usize, wrote: usize) -> bool
     wrote <= room - PERIOD_ROOM
 }
 
-// One run of periods, up to the one of number `to` at most, and its notes as text.
+// Runs periods before the one of number `to` by one call, one of them at least, and puts the notes
+// into the room as text.
 fn advance(
     u: BusAndRoom,
     images: &[u8],

@@ -19,7 +19,7 @@ use book_reader::step::octets_of;
 use note_text::note::put_heading;
 use note_text::note::put_stopped;
 
-// The same bus, at another stage of the book and of its report.
+// Gives the same bus, at another stage of the book and of its report.
 fn turned(
     w: GoneOn,
     stage: u8,
@@ -49,7 +49,7 @@ fn turned(
     }
 }
 
-// The same bus at another place of the text, with nothing written.
+// Gives the same bus at another place of the text, with nothing written.
 fn stays(w: GoneOn, stage: u8, taken: usize, why: u8) -> GoneOn
     ensures { λ r. ⌜ r ≡ spec.turned w stage (w .progress .begun) (w .progress .over) taken (w .wrote) why ⌝ }
 {
@@ -64,7 +64,7 @@ fn stays(w: GoneOn, stage: u8, taken: usize, why: u8) -> GoneOn
     )
 }
 
-// What the reader has read is done; the value is that of the line.
+// Carries out what the reader has read; the value is that of the line.
 fn carry_out(
     w: GoneOn,
     images: &mut [u8],
@@ -115,8 +115,9 @@ fn carry_out(
     }
 }
 
-// One step: the report's first line, or what the reader has read. Room for the notes of a period is asked for first, so that nothing is
-// ever pending. What it gives back says how many octets of the text this step has taken.
+// Takes one step: the report's first line, or what the reader has read. Room for the notes of a
+// period is asked for first, so that nothing is ever pending. What it gives back says how many
+// octets of the text this step has taken.
 pub(crate) fn step(
     w: GoneOn,
     images: &mut [u8],

@@ -19,8 +19,8 @@ numberOf f = cond (isNumber f) (Number.Is (number f)) (Number.Refused 12)
 unfoldable pub judged : List ℕ → Judged
 judged line = cond (formed line) (Judged.Entry (periodOf line) (unitOf line) (eventOf line) (endsOf line)) (Judged.Refused 12)
 
--- What four fields with these ends say. This is how the code goes: it is `judged` where they are the fields of a line of
--- right length (proofs/Judging.antt `four-judged`).
+-- What four fields with these ends say. This is how the code goes: it is `judged` where they are
+-- the fields of a line of right length (proofs/Judging.antt `four-judged`).
 unfoldable pub judgedFields : List ℕ → List ℕ → List ℕ → List ℕ → Ends → Judged
 judgedFields period unit name value ends =
     cond (isNumber period && isNumber unit && (not (eqb (eventNamed name) 0) && valueFits (eventNamed name) value))

@@ -16,7 +16,7 @@ use Rattle.text.specs.Text.{fields, field, same, all, isDigit, isHex, isLetter,
 
 -- ---- Events.
 
--- The number of the event that a name names.
+-- The number of the event that a name names, 0 where it names none.
 unfoldable pub eventNamed : List ℕ → ℕ
 eventNamed name =
     cond (same name (ascii "on")) ON
@@ -45,7 +45,8 @@ isNumber f = leb 1 (length f) && leb (length f) mostDigits && all isDigit f
 unfoldable pub isAbsent : List ℕ → Bool
 isAbsent v = same v (ascii "-")
 
--- "value the body in lower-case hexadecimal, `-` an empty one"; "an odd number of hexadecimal digits" is of the wrong form.
+-- "value the body in lower-case hexadecimal, `-` an empty one"; "an odd number of hexadecimal
+-- digits" is of the wrong form.
 unfoldable pub isBody : List ℕ → Bool
 isBody v = isAbsent v || (leb 1 (length v) && eqb (length v % 2) 0 && all isHex v)
 
@@ -76,7 +77,8 @@ valueOf line = field 3 line
 abbrev pub longestLine : ℕ
 longestLine = 600
 
--- 12: "A line is too long, .. has not four fields, or has a field of the wrong form"; its LF is the reader's matter.
+-- 12: "A line is too long, .. has not four fields, or has a field of the wrong form"; its LF is the
+-- reader's matter.
 unfoldable pub formed : List ℕ → Bool
 formed line =
     ltb (length line) longestLine

@@ -13,8 +13,8 @@ use lib.ListN.{length, take, drop}
 use Rattle.book_line.specs.Line.{isAbsent}
 use Rattle.notes_and_cells.specs.Events.{D1, D2, HIT}
 
--- The number that a hexadecimal digit stands for, by its code's low four bits: 0 to 9 have the codes 48 to 57, a to f the codes 97 to 102.
--- Some number below 16 for any other octet.
+-- The number that a hexadecimal digit stands for, by its code's low four bits: 0 to 9 have the
+-- codes 48 to 57, a to f the codes 97 to 102. Some number below 16 for any other octet.
 unfoldable pub hexDigit : ℕ → ℕ
 hexDigit c = cond (leb c (code "9")) (c % 16) ((c % 16 + 9) % 16)
 
@@ -36,11 +36,13 @@ letterCode c = cond (eqb c (code "k")) 0 (cond (eqb c (code "p")) 1 (cond (eqb c
 unfoldable pub valueOctets : ℕ → List ℕ → List ℕ
 valueOctets event v = cond (eqb event D1 || eqb event D2) (bodyOf v) (cond (eqb event HIT) (map letterCode v) [])
 
--- Room for the octets of the value of any line of right form: two characters an octet, of fewer than 600.
+-- Room for the octets of the value of any line of right form: two characters an octet, of fewer
+-- than 600.
 abbrev pub valueRoom : ℕ
 valueRoom = 300
 
--- Octets laid into lent room from its front, as many as there is room for; what lies behind them stays. Their number is handed back.
+-- Octets laid into lent room from its front, as many as there is room for; what lies behind them
+-- stays. Their number is handed back.
 pub record Laid (octets room : List ℕ) (laid : ℕ) (room′ : List ℕ) : Type 0 where
   pub count : laid ≡ min (length octets) (length room)
   pub lies : room′ ≡ take (length room) octets ++ drop (length octets) room

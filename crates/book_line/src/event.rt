@@ -13,14 +13,14 @@ ghost use mathlib.Core.Path.{_≡_};
 ghost use Rattle.text.specs.Text as text;
 ghost use Rattle.book_line.specs.Line as spec;
 
-// An event where a name is the one that it has, else another.
+// Gives `event` where `name` is `wanted`, else `other`.
 fn if_named(name: &[u8], wanted: &[u8], event: u8, other: u8) -> u8
     ensures { λ r. ⌜ r ≡ cond (text.same (now (name .entry)) (now (wanted .entry))) event other ⌝ }
 {
     if same(name, wanted) { event } else { other }
 }
 
-// The number of the event that a name names, or 0.
+// Gives the number of the event that a name names, or 0.
 pub fn event_named(name: &[u8]) -> u8
     ensures { λ r. ⌜ r ≡ spec.eventNamed (now (name .entry)) ⌝ }
 {
@@ -34,7 +34,7 @@ pub fn event_named(name: &[u8]) -> u8
     if_named(name, b"on", ON, event)
 }
 
-// Whether an event is an `end` that is accepted.
+// Tests whether an event is an `end` that is accepted.
 pub fn is_end(unit: u32, event: u8) -> bool
     ensures { λ r. ⌜ r ≡ spec.isEnd unit event ⌝ }
 {

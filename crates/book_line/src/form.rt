@@ -9,28 +9,28 @@ use text::same::same;
 ghost use mathlib.Core.Path.{_≡_};
 ghost use Rattle.book_line.specs.Line as spec;
 
-// No value.
+// Tests whether a value is absent.
 pub fn is_absent(v: &[u8]) -> bool
     ensures { λ r. ⌜ r ≡ spec.isAbsent (now (v .entry)) ⌝ }
 {
     same(v, b"-")
 }
 
-// A body in hexadecimal.
+// Tests whether a value is a body in hexadecimal.
 pub fn is_body(v: &[u8]) -> bool
     ensures { λ r. ⌜ r ≡ spec.isBody (now (v .entry)) ⌝ }
 {
     is_absent(v) | ((1 <= v.len()) & (v.len() % 2 == 0) & all_hex(v))
 }
 
-// The letters of a hit, one for each symbol of a line.
+// Tests whether a value is the letters of a hit, one for each symbol of a line.
 pub fn is_hit(v: &[u8]) -> bool
     ensures { λ r. ⌜ r ≡ spec.isHit (now (v .entry)) ⌝ }
 {
     (v.len() == LINE_LENGTH) & all_letters(v)
 }
 
-// Whether a value is of the form that the event wants.
+// Tests whether a value is of the form that the event wants.
 pub fn value_fits(event: u8, v: &[u8]) -> bool
     ensures { λ r. ⌜ r ≡ spec.valueFits event (now (v .entry)) ⌝ }
 {

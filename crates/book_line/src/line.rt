@@ -34,7 +34,7 @@ pub enum Judged {
     Refused(u8),
 }
 
-// What four fields with these ends say.
+// Judges four fields with these ends.
 fn judge_fields(period: &[u8], unit: &[u8], name: &[u8], value: &[u8], ends: Ends) -> Judged
     ensures { λ r. ⌜ r ≡ spec.judgedFields (now (period .entry)) (now (unit .entry)) (now (name .entry)) (now (value .entry)) ends ⌝ }
 {
@@ -56,7 +56,7 @@ fn judge_fields(period: &[u8], unit: &[u8], name: &[u8], value: &[u8], ends: End
     }
 }
 
-// What a line says, its LF left off: each of its four fields is taken from the splitter.
+// Judges a line, its LF left off, by the four fields into which it is split.
 pub fn judge(line: &[u8]) -> Judged
     ensures { λ r. ⌜ r ≡ spec.judged (now (line .entry)) ⌝ }
 {

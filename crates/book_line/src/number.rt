@@ -14,7 +14,7 @@ pub enum Number {
     Refused(u8),
 }
 
-// The number that a field writes in decimal.
+// Reads the number that a field writes in decimal.
 pub fn digits(f: &[u8]) -> Number
     ensures { λ r. ⌜ r ≡ spec.numberOf (now (f .entry)) ⌝ }
 {

@@ -11,14 +11,14 @@ ghost use Rattle.book_line.specs.Value as spec;
 // Room for the octets of the value of any line of right form.
 pub const VALUE_ROOM: usize = 300;
 
-// The number that a hexadecimal digit stands for.
+// Gives the number that a hexadecimal digit stands for.
 pub fn hex_digit(c: u8) -> u8
     ensures { λ r. ⌜ r ≡ spec.hexDigit c ⌝ }
 {
     if c <= b'9' { c % 16 } else { (c % 16 + 9) % 16 }
 }
 
-// The code of a hit letter.
+// Gives the code of a hit letter.
 pub fn letter_code(c: u8) -> u8
     ensures { λ r. ⌜ r ≡ spec.letterCode c ⌝ }
 {
@@ -30,14 +30,14 @@ pub fn letter_code(c: u8) -> u8
     }
 }
 
-// The octet that two hexadecimal digits write, the high one first.
+// Gives the octet that two hexadecimal digits write, the high one first.
 fn octet(high: u8, low: u8) -> u8
     ensures { λ r. ⌜ r ≡ spec.hexDigit high * 16 + spec.hexDigit low ⌝ }
 {
     hex_digit(high) * 16 + hex_digit(low)
 }
 
-// The octets of a body.
+// Writes the octets of a body into `out`, as many as there is room for, and gives their number.
 fn body(value: &[u8], out: &mut [u8]) -> usize
     ensures { λ r. ⌜ spec.Laid (spec.pairs (now (value .entry))) (now (out .entry)) r (now (out .exit)) ⌝ }
 {
@@ -50,7 +50,8 @@ fn body(value: &[u8], out: &mut [u8]) -> usize
     n
 }
 
-// The codes of a hit's letters.
+// Writes the codes of a hit's letters into `out`, as many as there is room for, and gives their
+// number.
 fn letters(value: &[u8], out: &mut [u8]) -> usize
     ensures { λ r. ⌜ spec.Laid (map spec.letterCode (now (value .entry))) (now (out .entry)) r (now (out .exit)) ⌝ }
 {
@@ -63,7 +64,8 @@ fn letters(value: &[u8], out: &mut [u8]) -> usize
     n
 }
 
-// The octets of an event's value, laid into lent room from its front, as many as there is room for; their number comes back.
+// Writes the octets of an event's value into `out`, from its front, as many as there is room for,
+// and gives their number.
 pub fn octets(event: u8, value: &[u8], out: &mut [u8]) -> usize
     ensures { λ r. ⌜ spec.Laid (spec.valueOctets event (now (value .entry))) (now (out .entry)) r (now (out .exit)) ⌝ }
 {

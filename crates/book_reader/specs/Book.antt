@@ -10,7 +10,8 @@ use Rattle.notes_and_cells.specs.Names.{ascii}
 use Rattle.text.specs.Text.{LF, split, same}
 use Rattle.book_line.specs.Line.{formed, inOrder, isEnd, periodOf, unitOf, eventOf, valueOf}
 
--- A line answers an entry, its period, unit, event and value, or the number of the fault that stops the book at it.
+-- A line answers an entry, its period, unit, event and value, or the number of the fault that stops
+-- the book at it.
 pub data Answer : Type 0 where
   entry : (period unit event : ℕ) → (value : List ℕ) → Answer
   fault : ℕ → Answer
@@ -19,18 +20,20 @@ pub data Answer : Type 0 where
 abbrev pub firstLine : List ℕ
 firstLine = ascii "period unit event value\n"
 
--- What is left of a book is given as its pieces between LFs, one or more: the last piece lacks its LF, and is empty where the text ends in LF.
--- Whether nothing is left: one piece, and no octet in it.
+-- What is left of a book is given as its pieces between LFs, one or more: the last piece lacks its
+-- LF, and is empty where the text ends in LF. Whether nothing is left: one piece, and no octet in
+-- it.
 unfoldable pub nothing : List (List ℕ) → Bool
 nothing [] = true
 nothing (piece ∷ []) = eqb (length piece) 0
 nothing (piece ∷ next ∷ more) = false
 
--- 14: "The book has no accepted `end` line, or something after it", the second half. Any octet whatever is something (reading 17).
+-- 14: "The book has no accepted `end` line, or something after it", the second half. Any octet
+-- whatever is something (reading 17).
 unfoldable pub closing : List (List ℕ) → List Answer
 closing pieces = cond (nothing pieces) [] (fault 14 ∷ [])
 
--- The answers of what is left after a line with the period last.
+-- The answers of what is left behind a line whose period is `last`.
 -- 12: "A line is too long, lacks its LF, has not four fields, or has a field of the wrong form".
 -- 13: "A line's period is before the last one's, or above 4,000,000"; judged after 12 (reading 16).
 -- 14, the first half: no line is left.
@@ -45,7 +48,7 @@ lines last (line ∷ next ∷ more) =
     (fault 13 ∷ []))
     (fault 12 ∷ [])
 
--- The answers of a book of which nothing is taken, where no line may have a period before last.
+-- The answers of a book of which nothing is taken, where no line may have a period before `last`.
 -- 11: "The book does not begin with its first line and LF".
 unfoldable pub answersFrom : ℕ → List ℕ → List Answer
 answersFrom last book =

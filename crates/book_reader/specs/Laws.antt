@@ -15,7 +15,8 @@ use Rattle.book_reader.specs.Parts.{Place, begun, past, toCome}
 use Rattle.book_reader.specs.declared.step.Step.{Step}
 use Rattle.book_reader.specs.declared.step.Step.the-variants.{Begun, Entry, Done, Fault, More}
 
--- The text is taken up to at, and later is what comes after it: what the answer takes, and what is then still to come, is what was to come.
+-- The text is taken up to `at`, and `later` is what comes behind it: what the answer takes, and
+-- what is then still to come, is what was to come.
 module _ (p : Place) (text : List ℕ) (at : ℕ) (whole : Bool) (later : List ℕ) where
   pub record First : Type 0 where
     pub within : at + length firstLine ≤ length text
@@ -28,7 +29,8 @@ module _ (p : Place) (text : List ℕ) (at : ℕ) (whole : Bool) (later : List �
     pub said : toCome p (drop at text ++ later)
         ≡ entry period unit event (valueOf (lineAt text at octets)) ∷ toCome (past period unit event) (drop (at + octets) text ++ later)
 
-  -- The text is cut, and less than a longest line is at hand: a buffer of that length has room for more.
+  -- The text is cut, and less than a longest line is at hand: a buffer of that length has room for
+  -- more.
   pub record Short : Type 0 where
     pub cut : whole ≡ false
     pub few : length (drop at text) < longestLine
@@ -40,7 +42,8 @@ module _ (p : Place) (text : List ℕ) (at : ℕ) (whole : Bool) (later : List �
   Law (Fault n) = toCome p (drop at text ++ later) ≡ fault n ∷ []
   Law More = Short
 
--- An entry: its line lies in the text, is of right form and says just that, and its period may stand after last.
+-- An entry: its line lies in the text, is of right form and says just that, and its period may
+-- stand after `last`.
 pub record Entered (text : List ℕ) (at stage last period unit event : ℕ) (ends : Ends) (octets : ℕ) : Type 0 where
   pub lines : stage ≡ AT-LINES
   pub within : at + octets ≤ length text

@@ -41,8 +41,9 @@ unfoldable pub joined : List (List ℕ) → List ℕ
 joined [] = []
 joined (part ∷ parts) = part ++ joined parts
 
--- A caller that holds text, has taken it up to at, and has these parts of the book yet to be handed: the answers that it gets.
--- `whole` is the flag that it passes. Where more text is needed it may move what is left wherever it likes: only what is left counts.
+-- A caller that holds text, has taken it up to `at`, and has these parts of the book yet to be
+-- handed: the answers that it gets. `whole` is the flag that it passes. Where more text is needed
+-- it may move what is left wherever it likes: only what is left counts.
 pub data Handed : Place → List ℕ → ℕ → Bool → List (List ℕ) → List Answer → Type 0 where
   first : {p : Place} {text : List ℕ} {at : ℕ} {whole : Bool} {parts : List (List ℕ)} {got : List Answer}
       → stepAt text at (p .stage) (p .last) whole ≡ Step.Begun

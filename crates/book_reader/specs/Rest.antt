@@ -4,7 +4,7 @@ use mathlib.Core.List.{List, _++_}
 use Prim.Native.Nat.{ℕ}
 use lib.ListN.{length, take, drop}
 
--- The octets from `from` to end, as far as they are there.
+-- The octets from `from` to `end`, as far as they are there.
 abbrev pub restOf : ℕ → ℕ → List ℕ → List ℕ
 restOf from end buf = drop from (take end buf)
 

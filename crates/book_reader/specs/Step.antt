@@ -16,7 +16,8 @@ use Rattle.book_line.specs.declared.line.Judged.{Judged}
 use Rattle.book_reader.specs.Book.{firstLine}
 use Rattle.book_reader.specs.declared.step.Step.{Step}
 
--- How far a book has come: its first line is to come; its lines; its `end` has been accepted (so every number that is none of the first two).
+-- The stage of a book: its first line is to come, its lines are to come, or its `end` has been
+-- accepted (so says every number but the first two).
 abbrev pub BEFORE-FIRST-LINE : ℕ
 BEFORE-FIRST-LINE = 0
 
@@ -32,12 +33,13 @@ headStep t whole =
     cond (ltb (length t) (length firstLine)) (cond whole (Step.Fault 11) Step.More)
     (cond (same (take (length firstLine) t) firstLine) Step.Begun (Step.Fault 11))
 
--- A line of so many octets, its LF included (12, then 13).
+-- A line of `octets` octets, its LF included (12, then 13).
 unfoldable pub ruled : ℕ → ℕ → Judged → Step
 ruled last octets (Judged.Refused k) = Step.Fault k
 ruled last octets (Judged.Entry p u e ends) = cond (inOrder last p) (Step.Entry p u e ends octets) (Step.Fault 13)
 
--- n octets without LF: too long a line (12); or the book ends here, after a LF (14) or without one (12); or the line is cut.
+-- n octets without LF: too long a line (12); or the book ends here, after a LF (14) or without one
+-- (12); or the line is cut.
 unfoldable pub unended : ℕ → Bool → Step
 unended n whole = cond (ltb n longestLine) (cond whole (Step.Fault (cond (eqb n 0) 14 12)) Step.More) (Step.Fault 12)
 
@@ -55,13 +57,13 @@ lineStep t last whole =
 unfoldable pub tailStep : ℕ → Bool → Step
 tailStep n whole = cond (eqb n 0) (cond whole Step.Done Step.More) (Step.Fault 14)
 
--- What these octets say, where the book has come so far and last is the last line's period.
+-- What these octets say, where the book is at `stage` and `last` is the last line's period.
 unfoldable pub stepOf : List ℕ → ℕ → ℕ → Bool → Step
 stepOf t stage last whole =
     cond (eqb stage BEFORE-FIRST-LINE) (headStep t whole)
     (cond (eqb stage AT-LINES) (lineStep t last whole) (tailStep (length t) whole))
 
--- What the text says from at on.
+-- What the text says from `at` on.
 abbrev pub stepAt : List ℕ → ℕ → ℕ → ℕ → Bool → Step
 stepAt text at stage last whole = stepOf (drop at text) stage last whole
 
@@ -73,11 +75,13 @@ takenBy Step.Done = 0
 takenBy (Step.Fault n) = 0
 takenBy Step.More = 0
 
--- The line of so many octets, its LF included, that stands at `at` of the text: its LF is left off.
+-- The line of `octets` octets, its LF included, that stands at `at` of the text: its LF is left
+-- off.
 abbrev pub lineAt : List ℕ → ℕ → ℕ → List ℕ
 lineAt text at octets = take (octets - 1) (drop at text)
 
--- Where the value of the line that was read begins and ends, from the line's beginning. Where no line was read it is empty.
+-- Where the value of the line that was read begins and ends, from the line's beginning. Where no
+-- line was read it is empty.
 unfoldable pub valueFrom : Step → ℕ
 valueFrom Step.Begun = 0
 valueFrom (Step.Entry p u e ends octets) = fieldFrom 3 ends
@@ -92,10 +96,11 @@ valueTo Step.Done = 0
 valueTo (Step.Fault n) = 0
 valueTo Step.More = 0
 
--- its octets, where the line stands at `at` of the text: the line's fourth field (proofs/RunOn.antt `entered`)
+-- its octets, where the line stands at `at` of the text: the line's fourth field (proofs/RunOn.antt
+-- `entered`)
 abbrev pub valueAt : List ℕ → ℕ → Step → List ℕ
 valueAt text at said = take (valueTo said - valueFrom said) (drop (at + valueFrom said) text)
 
--- A reader goes on by the octets of what it has read, at most to the text's end.
+-- A reader moves on by `octets` octets, at most to the text's end.
 abbrev pub movedOn : ℕ → ℕ → ℕ → ℕ
 movedOn at octets length = min (at + octets) length

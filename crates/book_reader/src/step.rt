@@ -1,5 +1,5 @@
-// One call on lent text from a position on: the first line, a line's entry, a fault, or that more text is needed.
-// An answer says how many octets it takes, not where they stand.
+// One call on lent text from a position on: the first line, a line's entry, a fault, or that more
+// text is needed. An answer says how many octets it takes, not where they stand.
 ghost use mathlib.Core.Path.{_≡_};
 ghost use Prim.Native.Nat.{_+_};
 ghost use Rattle.text.specs.Part.{IsPart};
@@ -18,7 +18,8 @@ use text::piece::long_piece_end;
 use text::same::same;
 use timing::counts::MOST_PERIODS;
 
-// How far a book has come: its first line is to come; its lines; its `end` has been accepted.
+// The stage of a book: its first line is to come, its lines are to come, or its `end` has been
+// accepted.
 pub const BEFORE_FIRST_LINE: u8 = 0;
 
 pub const AT_LINES: u8 = 1;
@@ -35,7 +36,8 @@ const FIRST_LINE_LENGTH: usize = 24;
 pub enum Step {
     // The book's first line has been read.
     Begun,
-    // A line of so many octets, its LF included, and where its fields end: the value is the last of them.
+    // A line of `octets` octets, its LF included, and where its fields end: the value is the last
+    // of them.
     Entry {
         period: u32,
         unit: u32,
@@ -51,7 +53,7 @@ pub enum Step {
     More,
 }
 
-// The octets that an answer takes.
+// Gives how many octets an answer takes.
 pub fn octets_of(step: Step) -> usize
     ensures { λ r. ⌜ r ≡ spec.takenBy step ⌝ }
 {
@@ -70,7 +72,8 @@ pub fn octets_of(step: Step) -> usize
     }
 }
 
-// At the book's first line: it is looked at once all its octets are there, or the book has ended.
+// Reads the book's first line: it is looked at once all its octets are there, or the book has
+// ended.
 fn head_step(t: &[u8], whole: bool) -> Step
     ensures { λ r. ⌜ r ≡ spec.headStep (now (t .entry)) whole ⌝ }
 {
@@ -86,14 +89,14 @@ fn head_step(t: &[u8], whole: bool) -> Step
     Step::Fault(11)
 }
 
-// Whether a period may stand after the last line's.
+// Tests whether a period may stand after the last line's.
 fn in_order(last: u32, period: u32) -> bool
     ensures { λ r. ⌜ r ≡ inOrder last period ⌝ }
 {
     (last <= period) & (period <= MOST_PERIODS)
 }
 
-// A line of so many octets, its LF included: go on with the entry, else stop with 12 or 13.
+// Judges a line of `octets` octets, its LF included: gives its entry, or stops with 12 or 13.
 fn rule(line: &[u8], octets: usize, last: u32) -> Step
     ensures { λ r. ⌜ r ≡ spec.ruled last octets (judged (now (line .entry))) ⌝ }
 {
@@ -118,7 +121,7 @@ fn rule(line: &[u8], octets: usize, last: u32) -> Step
     }
 }
 
-// n octets without LF: too long a line, a cut one, or the book's end.
+// Judges n octets without LF: too long a line, a cut one, or the book's end.
 fn unended(n: usize, whole: bool) -> Step
     ensures { λ r. ⌜ r ≡ spec.unended n whole ⌝ }
 {
@@ -134,7 +137,7 @@ fn unended(n: usize, whole: bool) -> Step
     Step::Fault(12)
 }
 
-// At a line: its LF is looked for among the first 600 octets.
+// Reads a line: its LF is looked for among the first 600 octets.
 fn line_step(t: &[u8], last: u32, whole: bool) -> Step
     ensures { λ r. ⌜ r ≡ spec.lineStep (now (t .entry)) last whole ⌝ }
 {
@@ -146,7 +149,7 @@ fn line_step(t: &[u8], last: u32, whole: bool) -> Step
     unended(t.len(), whole)
 }
 
-// n octets after `end`.
+// Judges n octets after `end`: there may be none.
 fn tail_step(n: usize, whole: bool) -> Step
     ensures { λ r. ⌜ r ≡ spec.tailStep n whole ⌝ }
 {
@@ -159,7 +162,7 @@ fn tail_step(n: usize, whole: bool) -> Step
     Step::More
 }
 
-// What the text says from `at` on; `whole` says that it reaches to the book's end.
+// Reads what the text says from `at` on; `whole` says that it reaches to the book's end.
 pub fn step_at(text: &[u8], at: usize, stage: u8, last: u32, whole: bool) -> Step
     ensures { λ r. ⌜ r ≡ spec.stepAt (now (text .entry)) at stage last whole ⌝ }
 {
@@ -174,7 +177,8 @@ pub fn step_at(text: &[u8], at: usize, stage: u8, last: u32, whole: bool) -> Ste
     tail_step(t.len(), whole)
 }
 
-// The value of the line at `at` that was read, `said` being its entry, as the part of the text that it is; empty where no line was read.
+// Gives the value of the line read at `at`, whose entry `said` is, as the part of the text that it
+// is; empty where no line was read.
 pub fn value_at(text: &[u8], at: usize, said: Step) -> &[u8]
     ensures { λ r. ⌜ IsPart (text .entry) (at + spec.valueFrom said) (at + spec.valueTo said) r ⌝ }
 {
@@ -186,7 +190,7 @@ pub fn value_at(text: &[u8], at: usize, said: Step) -> &[u8]
     field(rest, ends, VALUE)
 }
 
-// So many octets further on, at most at the text's end.
+// Gives the place `octets` octets further on, at most the text's end.
 pub fn moved_on(at: usize, octets: usize, length: usize) -> usize
     ensures { λ r. ⌜ r ≡ spec.movedOn at octets length ⌝ }
 {

@@ -1,4 +1,5 @@
-// The calls over terminals held by value: who has the eight records in an array hands it over and has it back, and lends no terminal.
+// The calls over terminals held by value: a caller that has the eight records in an array hands it
+// over and gets it back, and lends no terminal.
 ghost use mathlib.Core.Path.{_≡_};
 ghost use Rattle.exchange.specs.Opportunities as opportunities;
 ghost use Rattle.bus_call_specs.specs.Event as events;
@@ -36,7 +37,7 @@ const NONE: UnitNotes = UnitNotes {
     timers: NO_NOTES,
 };
 
-// One D opportunity.
+// Runs one D opportunity.
 pub fn opportunity(before: [Terminal; 8], images: &[u8], tally: Tally) -> HeldTally
     ensures { λ r. ⌜ r .tally ≡ opportunities.tallyAfter (now (images .entry)) tally before ⌝ }
     ensures { λ r. ⌜ r .terminals ≡ opportunities.terminalsAfter (now (images .entry)) tally before ⌝ }
@@ -72,7 +73,7 @@ pub fn event(
     HeldEvent { told, terminals }
 }
 
-// Runs periods until so many are run or one hands back notes.
+// Runs periods until `most` of them are run or one hands back notes.
 pub fn run(
     bus: BusRecord,
     before: [Terminal; 8],

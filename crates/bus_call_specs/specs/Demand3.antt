@@ -17,18 +17,21 @@ use Rattle.bus_event.specs.Event.{imagesRoom, areLetters}
 use Rattle.bus_call_specs.specs.Kept.{Kept}
 use Rattle.bus_call_specs.specs.Lists.{LentCall, Same, freshFound, made, leftAll, notesOfCalls, AllAdmitted}
 
--- What is claimed of a stretch `during` of the list `before`, `during`, `after` of calls, the first of which finds k. Calls that are not
--- lent what they must be stand in the list, too: the rules refuse them with 1 or 2, and then there are no notes and no change, so that the
--- sentences are about the others (specs/Lists.antt `replyTo`, `made`).
+-- What is claimed of a stretch `during` of the list `before`, `during`, `after` of calls, the first
+-- of which finds k. Calls that are not lent what they must be stand in the list, too: the rules
+-- refuse them with 1 or 2, and then there are no notes and no change, so that the sentences are
+-- about the others (specs/Lists.antt `replyTo`, `made`).
 pub record ClaimedOnCalls (k : Kept) (before during after : List LentCall) : Type 0 where
   -- the sentences of demand 3, of the bus that document 01's rules give for the same calls
   pub claims : Claimed (made before) (made during) (made after)
-  -- each call of the whole list gives the reply and the notes of those rules, and what it leaves stands for the bus after it
+  -- each call of the whole list gives the reply and the notes of those rules, and what it leaves
+  -- stands for the bus after it
   pub carried : Same k freshBus (before ++ (during ++ after))
   -- "the calls in it hand back exactly the notes that those rules give"
   pub notes-of-stretch : notesOfCalls (leftAll k before) during ≡ notesOfAll (afterAll freshBus (made before)) (made during)
 
--- For whatever is lent with the fresh record, and every list of calls whose values are octets (proofs/Demand3.antt).
+-- For whatever is lent with the fresh record, and every list of calls whose values are octets
+-- (proofs/Demand3.antt).
 abbrev pub Demand3OnCalls : Type 0
 Demand3OnCalls =
     (images octets letters : List ℕ) (before during after : List LentCall)

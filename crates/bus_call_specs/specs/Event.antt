@@ -16,9 +16,9 @@ use Rattle.bus_record.specs.declared.record.BusRecord.{BusRecord}
 use Rattle.bus_event.specs.declared.event.Told.{Told}
 use Rattle.bus_call_specs.specs.Ready.{eightInRange}
 
--- An event of a unit, with a value, on a record, terminals, images and letters.
+-- An event of unit `unit`, with a value, on a record, terminals, images and letters.
 module _ (unit event : ℕ) (value : List ℕ) (bus : BusRecord) (ts : List Terminal) (images letters : List ℕ) where
-  -- the first of the reasons 1 to 4, or 0
+  -- the first of the reasons 1 to 4 that holds, or 0
   abbrev pub reason : ℕ
   reason = firstReason (eightInRange ts) bus (length images) letters unit event value
 

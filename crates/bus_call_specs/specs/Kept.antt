@@ -25,10 +25,10 @@ abbrev pub kept : BusRecord → List Terminal → List ℕ → List ℕ → List
 kept bus terminals images octets letters notes =
     record { bus = bus; terminals = terminals; images = images; octets = octets; letters = letters; notes = notes }
 
--- what is found where nobody has kept the notes of the last period: those of none
+-- what is found where nobody has kept the notes of the last period: eight places that hold none
 abbrev pub found : BusRecord → List Terminal → List ℕ → List ℕ → List ℕ → Kept
 found bus ts images octets letters = kept bus ts images octets letters (replicate rules.terminals noNotes)
 
--- the notes of the last period are taken
+-- the same once the notes of the last period have been taken
 unfoldable pub settled : Kept → Kept
 settled k = found (k .bus) (k .terminals) (k .images) (k .octets) (k .letters)

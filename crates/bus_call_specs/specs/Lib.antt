@@ -1,6 +1,7 @@
--- The calls on a bus. What a call finds (Kept) and the bus that it shows (Shown); a period as document 01 has it (Period) and as the code goes
--- through it (Step); refusals 1, 2 and 9 (Ready); runs (Run); events (Event); lists of calls (Lists) and demand 3 of them
--- (Demand3); calls that are turned down (Refused).
+-- The calls on a bus. What a call finds (Kept) and the bus that it shows (Shown); a period as
+-- document 01 has it (Period) and as the code takes it (Step); refusals 1, 2 and 9 (Ready); runs
+-- (Run); events (Event); lists of calls (Lists) and demand 3 of them (Demand3); calls that are
+-- turned down (Refused).
 pub mod Kept
 pub mod Shown
 pub mod Period

@@ -58,8 +58,8 @@ unfoldable pub replied : Kept → Call → ℕ
 replied k (event unit number value) = told unit number value k .reply
 replied k period = runAnswer 1 k .reply
 
--- ---- The notes that it hands back, in the order that the rules have for a period (crate `bus_rules`,
--- specs/Order.antt).
+-- ---- The notes that it hands back, in the order that the rules have for a period
+-- (crate `bus_rules`, specs/Order.antt).
 
 -- of the reader: `heard` with the octets of the body, or `torn`
 unfoldable pub readerTold : ℕ → RunAnswer → List ℕ → List Note
@@ -70,7 +70,7 @@ readerTold now r octets =
 abbrev pub doneNotes : Bool → Bool → List ℕ
 doneNotes one two = cond one (DONE1 ∷ []) [] ++ cond two (DONE2 ∷ []) []
 
--- the codes of each terminal's hearing, from index i on, and of its timer
+-- the codes of each terminal's hearing, from index i on; and of its timer
 unfoldable pub terminalsHeard : RunAnswer → ℕ → List UnitNotes → List (List ℕ)
 terminalsHeard r i [] = []
 terminalsHeard r i (n ∷ ns) =
@@ -79,7 +79,7 @@ terminalsHeard r i (n ∷ ns) =
 abbrev pub terminalsTimed : List UnitNotes → List (List ℕ)
 terminalsTimed ns = map (λ (n : UnitNotes). noted (n .timers)) ns
 
--- what is heard, and what comes of the timers
+-- the notes of what is heard, and those of the timers
 abbrev pub heardTold : ℕ → RunAnswer → List UnitNotes → List ℕ → ByUnit
 heardTold now r ns octets =
     record { reader = readerTold now r octets; network = noted (r .network .hearing); terminals = terminalsHeard r 0 ns }
@@ -123,9 +123,9 @@ pub record Carries (k : Kept) (b : Bus) : Type 0 where
   pub letters-fit : areLetters (k .letters) ≡ true
   pub notes-fit : length (k .notes) ≡ terminals
 
--- ---- Lists. Each call gets the record, the terminals, the images, the octets and the letters that the one before left: "nobody else
--- writes record or slice between". The places for notes are the caller's own, and each call that runs a period is lent some: of any
--- number, with any contents.
+-- ---- Lists. Each call gets the record, the terminals, the images, the octets and the letters that
+-- the one before left: "nobody else writes record or slice between". The places for notes are the
+-- caller's own, and each call that runs a period is lent some: of any number, with any contents.
 
 pub data LentCall : Type 0 where
   -- an event: a unit, a number and a value; no places for notes are lent with it
@@ -135,50 +135,53 @@ pub data LentCall : Type 0 where
   -- any call that is lent other terminals and slices than those that are kept, which do not fit it
   amiss : (c : Call) (ts : List Terminal) (images octets letters : List ℕ) (places : List UnitNotes) → LentCall
 
--- what it asks for
+-- what a call asks for
 unfoldable pub callOf : LentCall → Call
 callOf (gives unit number value) = event unit number value
 callOf (runs places) = period
 callOf (amiss c ts images octets letters places) = c
 
--- what it finds
+-- what it finds where k is kept
 unfoldable pub finds : Kept → LentCall → Kept
 finds k (gives unit number value) = k
 finds k (runs places) = kept (k .bus) (k .terminals) (k .images) (k .octets) (k .letters) places
 finds k (amiss c ts images octets letters places) = kept (k .bus) ts images octets letters places
 
--- what it leaves for the next one: what was lent otherwise is none of what is kept (a refused call leaves it, too, as it was: Refused.antt)
+-- what it leaves for the next one: what was lent in place of what is kept is no part of it (a
+-- refused call leaves that, too, as it was: Refused.antt)
 unfoldable pub leftBy : Kept → LentCall → Kept
 leftBy k (gives unit number value) = settled (called k (event unit number value))
 leftBy k (runs places) = settled (called (finds k (runs places)) period)
 leftBy k (amiss c ts images octets letters places) =
     found (called (finds k (amiss c ts images octets letters places)) c .bus) (k .terminals) (k .images) (k .octets) (k .letters)
 
--- Whether it is lent what it must be, with what is kept: a period eight places.
+-- whether it is lent what it must be, with what is kept: a period eight places
 unfoldable pub isLent : LentCall → Bool
 isLent (gives unit number value) = true
 isLent (runs places) = eqb (length places) terminals
 isLent (amiss c ts images octets letters places) = false
 
--- whether such slices would fit a call (refusal 2); of the terminals that is `eightInRange` (refusal 1)
+-- whether such slices would fit a call (refusal 2); of the terminals that is `eightInRange`
+-- (refusal 1)
 unfoldable pub wouldFit : Call → List ℕ → List ℕ → List ℕ → List UnitNotes → Bool
 wouldFit (event unit number value) images octets letters places = eqb (length images) imagesRoom && areLetters letters
 wouldFit period images octets letters places = lentFits (length images) (length octets) letters (length places)
 
--- values are octets
+-- the value of an event holds octets
 abbrev pub OctetValue : Call → Type 0
 OctetValue (event unit number value) = (i : ℕ) → getD value i 0 < 256
 OctetValue period = Unit
 
--- What a list may hold: events whose values are octets, periods with whatever places, and calls that are lent what does not fit them:
--- terminals that are not eight in their range, or slices.
+-- What a list may hold: events whose values are octets, periods with whatever places, and calls
+-- that are lent what does not fit them: terminals that are not eight in their range, or slices.
 abbrev pub Admitted : LentCall → Type 0
 Admitted (gives unit number value) = OctetValue (event unit number value)
 Admitted (runs places) = Unit
 Admitted (amiss c ts images octets letters places) = (eightInRange ts && wouldFit c images octets letters places) ≡ false
 
--- ---- What document 01's rules have for it: where it is lent what it must be, what crate `bus_rules` has for the call; else refusal 1 or 2, no
--- notes and no change. "The first that holds gives the number": 1, of the terminals, before 2, of the other slices.
+-- ---- What document 01's rules have for it: where it is lent what it must be, what
+-- crate `bus_rules` has for the call; else refusal 1 or 2, no notes and no change. "The first that
+-- holds gives the number": 1, of the terminals, before 2, of the other slices.
 abbrev pub replyTo : Bus → LentCall → ℕ
 replyTo b (gives unit number value) = reply b (event unit number value)
 replyTo b (runs places) = cond (isLent (runs places)) (reply b period) 2
@@ -190,7 +193,8 @@ notesTo b x = cond (isLent x) (notes b (callOf x)) []
 abbrev pub busAfter : Bus → LentCall → Bus
 busAfter b x = cond (isLent x) (after b (callOf x)) b
 
--- each call of a list, where it comes, gives that reply and those notes, and what it leaves stands for the bus after it
+-- each call of a list, in its turn, gives that reply and those notes, and what it leaves stands for
+-- the bus after it
 unfoldable pub Same : Kept → Bus → List LentCall → Type 0
 Same k b [] = Carries k b
 Same k b (x ∷ more) =
@@ -199,8 +203,8 @@ Same k b (x ∷ more) =
     → (replied (finds k x) (callOf x) ≡ replyTo b x) × (notesTold (finds k x) (callOf x) ≡ notesTo b x)
     × Same (leftBy k x) (busAfter b x) more)
 
--- A fresh record with eight fresh terminals. In `ListsCarried` what is lent with it has the lengths that it must have, and the letters are
--- letters; else they are any octets.
+-- A fresh record with eight fresh terminals. In `ListsCarried` what is lent with it has the lengths
+-- that it must have, and the letters are letters; else they are any octets.
 abbrev pub freshFound : List ℕ → List ℕ → List ℕ → Kept
 freshFound images octets letters = found freshRecord (replicate terminals terminal.fresh) images octets letters
 
@@ -210,7 +214,8 @@ ListsCarried =
     → length images ≡ imagesRoom → longestBody ≤ length octets → areLetters letters ≡ true
     → Same (freshFound images octets letters) freshBus calls
 
--- ---- All notes of a list together are those that the rules give for the calls in it that are lent what they must be.
+-- ---- All notes of a list together are those that the rules give for the calls in it that are lent
+-- what they must be.
 unfoldable pub made : List LentCall → List Call
 made [] = []
 made (x ∷ more) = cond (isLent x) (callOf x ∷ made more) (made more)
@@ -242,7 +247,7 @@ pub nine-places : replyTo freshBus (runs (replicate 9 noNotes)) ≡ 2
 unfolding isLent
 nine-places = refl
 
--- It may stand in a list, and is refused with n.
+-- it may stand in a list, and is refused with n
 abbrev Refused : ℕ → LentCall → Type 0
 Refused n x = Admitted x × (replyTo freshBus x ≡ n)
 
@@ -311,9 +316,11 @@ unfoldable pub OctetValues : List Call → Type 0
 OctetValues [] = Unit
 OctetValues (c ∷ more) = OctetValue c × OctetValues more
 
--- ---- Runs. A run hands back the notes of its last period; the periods before it, as single calls, have none (proofs/QuietRuns.antt).
+-- ---- Runs. A run hands back the notes of its last period; the periods before it, as single calls,
+-- have none (proofs/QuietRuns.antt).
 
--- the calls that a run of at most so many periods makes, each with the places for notes as the one before left them
+-- the single calls that a run of at most n periods makes, each with the places for notes as the one
+-- before left them
 unfoldable pub callsIn : ℕ → Kept → List LentCall
 callsIn zero k = []
 callsIn (suc n) k = runs (k .notes) ∷ cond (goesOn (runAnswer 1 k) n) (callsIn n (keptAfter 1 k)) []
@@ -325,7 +332,7 @@ runTold most k =
     (periodTold (runAnswer most k .bus .periods .0 - 1) (runAnswer most k) (keptAfter most k .notes) (keptAfter most k .octets)) []
 
 pub record RunIsCalls (n : ℕ) (k : Kept) : Type 0 where
-  -- the first is refused or none
+  -- the reply is that of the first single call: that one is refused, or none is
   pub replies : runAnswer (suc n) k .reply ≡ replied k period
   pub leaves : settled (keptAfter (suc n) k) ≡ leftAll k (callsIn (suc n) k)
   pub tells : runTold (suc n) k ≡ notesOfCalls k (callsIn (suc n) k)
@@ -333,8 +340,8 @@ pub record RunIsCalls (n : ℕ) (k : Kept) : Type 0 where
 abbrev pub RunsAreCalls : Type 0
 RunsAreCalls = (n : ℕ) (k : Kept) → RunIsCalls n k
 
--- Such a run is the rules' (crate `bus_rules`, specs/Calls.antt `runCalls`), of whatever stands for a bus
--- that a list of calls leads to (proofs/RunCarried.antt).
+-- Such a run is the rules' (crate `bus_rules`, specs/Calls.antt `runCalls`), of whatever stands for
+-- a bus that a list of calls leads to (proofs/RunCarried.antt).
 pub record RunOfRules (most : ℕ) (k : Kept) (b : Bus) : Type 0 where
   pub replies : runAnswer most k .reply ≡ rules.runReply most b
   pub tells : runTold most k ≡ rules.runNotes most b
@@ -363,7 +370,8 @@ NoPeriodsCarried =
     (calls : List Call) (k : Kept) → Carries k (rules.afterAll freshBus calls)
     → runAnswer 0 k .reply ≡ rules.runReply 0 (rules.afterAll freshBus calls)
 
--- The codes that notes have stand in an octet and are not 0, which as an octet ends the notes of a call (proofs/Codes.antt).
+-- The codes that notes have stand in an octet and are not 0, which as an octet ends the notes of a
+-- call (proofs/Codes.antt).
 abbrev pub isCode : ℕ → Bool
 isCode code = cond (eqb code 0) false (ltb code 256)
 
@@ -378,7 +386,8 @@ NotesCoded = (k : Kept) (c : Call) → coded (notesTold k c) ≡ true
 abbrev pub RunNotesCoded : Type 0
 RunNotesCoded = (n : ℕ) (k : Kept) → coded (runTold (suc n) k) ≡ true
 
--- A run that hands back no notes has run as many periods as were asked for, or has come to 4,000,000 (proofs/QuietEnds.antt).
+-- A run that hands back no notes has run as many periods as were asked for, or has come to
+-- 4,000,000 (proofs/QuietEnds.antt).
 abbrev pub QuietRunEnds : Type 0
 QuietRunEnds =
     (most : ℕ) (k : Kept) → runAnswer most k .reply ≡ 0 → runTold most k ≡ []

@@ -17,7 +17,7 @@ use Rattle.bus_record.specs.declared.record.BusRecord.{BusRecord}
 use Rattle.bus_record.specs.declared.side.RunAnswer.{RunAnswer}
 use Rattle.bus_call_specs.specs.Kept.{Kept}
 
--- 1: "or the slice of terminal records is not eight long"; each in its range
+-- 1: "or the slice of terminal records is not eight long"; and each of them is in its range
 unfoldable pub eightInRange : List Terminal → Bool
 eightInRange ts = eqb (length ts) terminals && allInRange ts
 
@@ -34,6 +34,6 @@ unfoldable pub runReply : ℕ → Kept → ℕ
 runReply most k =
     runReason (eightInRange (k .terminals)) (k .bus) (length (k .images)) (length (k .octets)) (k .letters) (length (k .notes)) most
 
--- whether a run goes on with so many periods left
+-- whether a run goes on with `left` periods left
 unfoldable pub goesOn : RunAnswer → ℕ → Bool
 goesOn last left = ((eqb (last .reply) 0 && not (last .told)) && ltb 0 left) && not (allRun (last .bus .periods))

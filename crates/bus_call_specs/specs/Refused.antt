@@ -30,7 +30,8 @@ abbrev pub RefusedRunAlone : Type 0
 RefusedRunAlone =
     (most : ℕ) (k : Kept) → (runAnswer most k .reply ≡ 0 → ⊥) → runAnswer most k ≡ refusedRun (runAnswer most k .reply) (k .bus)
 
--- ---- The number is one of those listed for a bus, 1 to 9; the reply is 0 where the call is not refused.
+-- ---- The number is one of those listed for a bus, 1 to 9; the reply is 0 where the call is not
+-- refused.
 abbrev pub RepliesListed : Type 0
 RepliesListed = (k : Kept) (c : Call) → replied k c ≤ 9
 

@@ -1,6 +1,6 @@
--- How the code goes: a period as the code goes through it: the exchange in a few values, the
--- terminals' hearing, the network end's side. The law `step-shown` says that this is document 01's
--- period (Period.antt).
+-- How the code goes: a period as the code takes it: the exchange in a few values, the terminals'
+-- hearing, the network end's side. The law `step-shown` says that this is document 01's period
+-- (Period.antt).
 -- Interface: `stepTerminals`, `stepNotes`, `stepAnswer`, `stepOctets`. Assumes nothing.
 use mathlib.Core.Bool.{Bool, false}
 use mathlib.Core.List.{List}

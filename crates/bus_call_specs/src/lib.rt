@@ -1,1 +1,2 @@
-// What the calls on a bus do, one by one and in lists: definitions (specs/) and theorems (proofs/) alone, no code.
+// What the calls on a bus do, one by one and in lists: definitions (specs/) and theorems (proofs/)
+// alone, no code.

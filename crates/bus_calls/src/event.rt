@@ -1,4 +1,4 @@
-// An event of the book is given to the bus.
+// Giving the bus an event of the book.
 ghost use mathlib.Core.Path.{_≡_};
 ghost use mathlib.Core.List.{[]};
 ghost use Prim.Native.Nat.{_-_};
@@ -18,21 +18,21 @@ use notes_and_cells::cell::NO_NOTES;
 use terminal::Terminal;
 use terminal::TerminalStep;
 
-// The call turned down.
+// Turns the call down: the record as it is, no note, and the number of the refusal.
 fn refused(bus: BusRecord, reply: u8) -> Told
     ensures { λ r. ⌜ r ≡ told bus (packedNotes []) reply ⌝ }
 {
     replied(bus, NO_NOTES, reply)
 }
 
-// The record as it is, with the notes and the reply of a terminal's step.
+// Gives the record as it is, with the notes and the reply of a terminal's step.
 fn replied_by(bus: BusRecord, step: TerminalStep) -> Told
     ensures { λ r. ⌜ r ≡ told bus (step .notes) (step .reply) ⌝ }
 {
     replied(bus, step.notes, step.reply)
 }
 
-// The index of a terminal, from its unit.
+// Gives the index of a terminal, from its unit.
 fn index_of(unit: u32) -> usize
     ensures { λ r. ⌜ r ≡ unit - 1 ⌝ }
 {

@@ -1,4 +1,5 @@
-// An event of unit 0, where the call has looked at it (event): no other crate gives one.
+// An event of unit 0, once the call `event` has looked at the reasons to turn it down: no other
+// crate gives one.
 ghost use mathlib.Core.Path.{_≡_};
 ghost use Rattle.bus_event.specs.Event as spec;
 use bus_event::event::Told;
@@ -10,7 +11,7 @@ use notes_and_cells::events::AR;
 use notes_and_cells::events::HIT;
 use table_6_3::G3;
 
-// The letters of a hit are taken over, where they are as many as the letters lent.
+// Takes over the letters of a hit, where they are as many as the letters lent.
 fn take_over(value: &[u8], letters: &mut [u8])
     ensures { λ _. ⌜ now (letters .exit) ≡ spec.takenOver (now (value .entry)) (now (letters .entry)) ⌝ }
 {
@@ -23,7 +24,7 @@ fn take_over(value: &[u8], letters: &mut [u8])
     }
 }
 
-// The record with a hit pending.
+// Gives the record with a hit pending.
 fn with_hit(bus: BusRecord) -> BusRecord
     ensures { λ r. ⌜ r ≡ spec.withHit bus ⌝ }
 {
@@ -41,7 +42,8 @@ fn with_hit(bus: BusRecord) -> BusRecord
     }
 }
 
-// A request to the network end: `ar`, and every other number as `dr`: the event has been looked at.
+// Makes a request to the network end: `ar`, and `dr` for every other number, since the event has
+// been looked at.
 fn request(bus: BusRecord, event: u8) -> Told
     ensures { λ r. ⌜ r ≡ spec.networkAsked event bus ⌝ }
 {
@@ -67,7 +69,7 @@ fn request(bus: BusRecord, event: u8) -> Told
     replied(after, notes, step.reply)
 }
 
-// An event of unit 0.
+// Gives unit 0 an event.
 pub(crate) fn network_event(bus: BusRecord, letters: &mut [u8], event: u8, value: &[u8]) -> Told
     ensures { λ r. ⌜ r ≡ spec.networkTold event bus ⌝ }
     ensures { λ _. ⌜ now (letters .exit) ≡ spec.lettersAfter event (now (value .entry)) (now (letters .entry)) ⌝ }

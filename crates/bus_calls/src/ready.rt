@@ -1,4 +1,5 @@
-// The checks before a run: refusals 1, 2 and 9; and whether a run goes on. `in_range` serves `event` too.
+// The checks before a run: refusals 1, 2 and 9; and whether a run goes on. `in_range` serves
+// `event` too.
 ghost use mathlib.Core.Path.{_≡_};
 ghost use Rattle.bus_call_specs.specs.Ready.{eightInRange, runReason, goesOn};
 use bus_event::event::IMAGES_ROOM;
@@ -11,7 +12,7 @@ use symbols::LINE_LENGTH;
 use symbols::fits;
 use terminal::Terminal;
 
-// Whether the slice has eight terminals, each in its range.
+// Tests whether the slice has eight terminals, each in its range.
 pub fn in_range(terminals: &[Terminal]) -> bool
     ensures { λ r. ⌜ r ≡ eightInRange (now (terminals .entry)) ⌝ }
 {
@@ -25,8 +26,9 @@ pub fn in_range(terminals: &[Terminal]) -> bool
     ok
 }
 
-// The first of the reasons 1, 2 and 9 that holds for a run of at most so many periods, or 0: `ready` is whether the slice of terminals is
-// in order; `images`, `octets` and `notes` are the lengths of what is lent.
+// Gives the first of the reasons 1, 2 and 9 that holds for a run of at most `most` periods, or 0:
+// `ready` is whether the slice of terminals is in order; `images`, `octets` and `notes` are the
+// lengths of what is lent.
 pub fn run_reason(
     ready: bool,
     bus: BusRecord,
@@ -52,7 +54,8 @@ pub fn run_reason(
     }
 }
 
-// Whether a run goes on with so many periods left: the last one has no note, and one more can be run.
+// Tests whether a run goes on with `left` periods left: the last one has no note, and one more can
+// be run.
 pub fn goes_on(last: RunAnswer, left: u32) -> bool
     ensures { λ r. ⌜ r ≡ goesOn last left ⌝ }
 {

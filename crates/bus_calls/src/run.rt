@@ -1,4 +1,4 @@
-// Periods are run.
+// Running periods.
 ghost use mathlib.Core.Path.{_≡_};
 ghost use Rattle.bus_call_specs.specs.Kept.{kept};
 ghost use Rattle.bus_call_specs.specs.Run.{runAnswer, keptAfter};
@@ -15,8 +15,9 @@ use bus_record::side::refused_run;
 use period_hearing::hears::UnitNotes;
 use terminal::Terminal;
 
-// Runs periods until so many are run or one hands back notes: as many single calls of `period`. The images are of the frames that are
-// held, and the octets keep what is read of a body: a caller lends the same ones to every call.
+// Runs periods until `most` of them are run or one hands back notes: as many single calls of
+// `period`. The images are of the frames that are held, and the octets keep what is read of a body:
+// a caller lends the same ones to every call.
 pub fn run(
     bus: BusRecord,
     terminals: &mut [Terminal],

@@ -16,7 +16,7 @@ use period_hearing::hears::UnitNotes;
 use period_hearing::listen::listen;
 use terminal::Terminal;
 
-// What all powered terminals hear after this exchange.
+// Gives what all powered terminals hear after the exchange.
 fn line_after(bus: BusRecord, tally: Tally, letters: &[u8]) -> Downward
     ensures { λ r. ⌜ r ≡ heardDown bus (tally .ds) (now (letters .entry)) ⌝ }
 {

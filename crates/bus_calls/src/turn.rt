@@ -1,4 +1,6 @@
-// A turn of a run's loop: the shortest way from here that a lemma allows.
+// A turn of a run's loop: as many periods at once as a lemma allows. Where one terminal sends alone
+// these are the periods in which it does; else those in which the bus is still, if any, and one
+// more.
 ghost use mathlib.Core.Path.{_≡_};
 ghost use Prim.Native.Nat.{_-_};
 ghost use lib.Dec.{eqb};
@@ -22,13 +24,13 @@ use period_hearing::hears::UnitNotes;
 use period_hearing::silence::silence;
 use terminal::Terminal;
 
-// What the last period of a turn gives, and how many were run before it.
+// What a turn gives: the answer of its last period, and how many periods were run before that one.
 pub struct Turn {
     pub answer: RunAnswer,
     pub over: u32,
 }
 
-// A turn of these two.
+// Makes a turn of these two.
 fn turned(answer: RunAnswer, over: u32) -> Turn
     ensures { λ r. ⌜ r .answer ≡ answer ⌝ }
     ensures { λ r. ⌜ r .over ≡ over ⌝ }
@@ -36,14 +38,15 @@ fn turned(answer: RunAnswer, over: u32) -> Turn
     Turn { answer, over }
 }
 
-// Whether no period was run alone.
+// Tests whether no period was run alone.
 fn none_run(alone: Alone) -> bool
     ensures { λ r. ⌜ r ≡ eqb (alone .over) 0 ⌝ }
 {
     alone.over == 0
 }
 
-// A run alone as a turn: its last period, and how many were run before it.
+// Gives a run alone as a turn: the answer of its last period, and how many were run before that
+// one.
 fn turn_alone(alone: Alone) -> Turn
     ensures { λ r. ⌜ r .answer ≡ alone .answer ⌝ }
     ensures { λ r. ⌜ r .over ≡ alone .over - 1 ⌝ }
@@ -54,7 +57,8 @@ fn turn_alone(alone: Alone) -> Turn
     turned(alone.answer, alone.over - 1)
 }
 
-// With so many periods left to run: a step over those of a still bus, and one more.
+// Steps over the periods in which the bus is still, with `left` periods left to run, and runs one
+// more.
 fn leap_on(
     bus: BusRecord,
     terminals: &mut [Terminal],
@@ -76,7 +80,8 @@ fn leap_on(
     turned(answer, over)
 }
 
-// With so many periods left to run: where one terminal sends alone, the periods in which it does; else a leap.
+// Runs one turn, with `left` periods left to run: where one terminal sends alone, the periods in
+// which it does; else what `leap_on` runs.
 pub(crate) fn advance(
     bus: BusRecord,
     terminals: &mut [Terminal],

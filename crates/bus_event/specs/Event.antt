@@ -43,7 +43,7 @@ told r notes k = record { bus = r; notes = notes; reply = k }
 abbrev pub areLetters : List ℕ → Bool
 areLetters letters = fits lineLength noneLetter letters
 
--- the reasons 1 to 4
+-- the first of the reasons 1 to 4 that holds, or 0
 unfoldable pub firstReason : Bool → BusRecord → ℕ → List ℕ → ℕ → ℕ → List ℕ → ℕ
 firstReason ready r images letters unit event value =
     cond (ready && recordInRange r)
@@ -54,7 +54,7 @@ firstReason ready r images letters unit event value =
 
 -- ---- Unit 0.
 
--- the letters of a hit are taken over
+-- the letters of a hit are taken over, where they are as many as the letters lent
 unfoldable pub takenOver : List ℕ → List ℕ → List ℕ
 takenOver value letters = cond (eqb (length value) (length letters)) value letters
 
@@ -94,7 +94,8 @@ imagePut i body images =
     take (i * imageRoom) images
     ++ (imagedOctets body (take imageRoom (drop (i * imageRoom) images)) ++ drop imageRoom (drop (i * imageRoom) images))
 
--- the first reason for which terminal i is not given a frame of so many octets: 1 and 2 by what is lent, 6, 7, 8
+-- the first reason for which terminal i is not given a frame of `octets` octets, or 0: 1 for the
+-- terminal's range, 2 for what is lent, then 6, 7 and 8
 unfoldable pub frameReason : ℕ → ℕ → ℕ → Terminal → ℕ
 frameReason images i octets t =
     cond (terminalCalls.terminalInRange t)

@@ -1,5 +1,5 @@
-// An event of the book: the reasons for which it is turned down, and what it does to one terminal. What it does to the network end stands
-// in crate `bus_calls`, which has looked at those reasons.
+// An event of the book: the reasons for which it is turned down, and what it does to one terminal.
+// What it does to the network end stands in crate `bus_calls`, which has looked at those reasons.
 ghost use mathlib.Core.Path.{_≡_};
 ghost use Prim.Native.Nat.{_*_, _<_, _≤_};
 ghost use lib.ListN.{length};
@@ -32,7 +32,7 @@ use terminal::Terminal;
 use terminal::TerminalStep;
 use timing::counts::Periods;
 
-// The highest unit number: a terminal's.
+// The highest unit number: that of the last terminal.
 const LAST_UNIT: u32 = TERMINALS as u32;
 
 // The octets of the rooms of all images.
@@ -45,14 +45,14 @@ pub struct Told {
     pub reply: u8,
 }
 
-// The record as it is, with notes and a reply.
+// Gives the record as it is, with notes and a reply.
 pub fn replied(bus: BusRecord, notes: Notes, reply: u8) -> Told
     ensures { λ r. ⌜ r ≡ spec.told bus notes reply ⌝ }
 {
     Told { bus, notes, reply }
 }
 
-// Whether an event is one for a unit.
+// Tests whether `event` is an event of unit `unit`.
 fn event_for(unit: u32, event: u8) -> bool
     ensures { λ r. ⌜ r ≡ eventFor unit event ⌝ }
 {
@@ -62,8 +62,8 @@ fn event_for(unit: u32, event: u8) -> bool
     (event == ON) | (event == OFF) | (event == AR) | (event == D1) | (event == D2)
 }
 
-// The first of the reasons 1 to 4 that holds, or 0: `ready` is whether the slice of terminals is in order, `images` the number of octets
-// lent for images.
+// Gives the first of the reasons 1 to 4 that holds, or 0: `ready` is whether the slice of terminals
+// is in order, `images` the number of octets lent for images.
 pub fn first_reason(
     ready: bool,
     bus: BusRecord,
@@ -89,7 +89,7 @@ pub fn first_reason(
     if event_for(unit, event) { 0 } else { 4 }
 }
 
-// The image of a body goes to the room of terminal i; its length in bits.
+// Writes the image of a body into the room of terminal i, and gives its length in bits.
 fn put_image(images: &mut [u8], i: usize, value: &[u8]) -> u16
     requires { ⌜ i < terminals ⌝ }
     requires { ⌜ length (now images) ≡ terminals * imageRoom ⌝ }
@@ -106,7 +106,7 @@ fn put_image(images: &mut [u8], i: usize, value: &[u8]) -> u16
     }
 }
 
-// The first of the reasons for which terminal i is not given a frame, or 0.
+// Gives the first reason for which terminal i is not given a frame of `octets` octets, or 0.
 fn frame_reason(terminal: Terminal, images: usize, i: usize, octets: usize) -> u8
     ensures { λ r. ⌜ r ≡ spec.frameReason images i octets terminal ⌝ }
 {
@@ -125,7 +125,7 @@ fn frame_reason(terminal: Terminal, images: usize, i: usize, octets: usize) -> u
     if terminal.access.held == 0 { 0 } else { 8 }
 }
 
-// The terminal as it is.
+// Gives the terminal as it is, with a reply.
 fn turned_down(terminal: Terminal, reply: u8) -> TerminalStep
     ensures { λ r. ⌜ r ≡ spec.turnedDown reply terminal ⌝ }
 {
@@ -136,7 +136,7 @@ fn turned_down(terminal: Terminal, reply: u8) -> TerminalStep
     }
 }
 
-// `d1` or `d2` of terminal i: nothing is written before all reasons are looked at.
+// Gives terminal i a frame (`d1`, `d2`): nothing is written before all reasons have been looked at.
 fn give_frame(
     terminal: Terminal,
     images: &mut [u8],
@@ -155,7 +155,7 @@ fn give_frame(
     terminal.hand_over(class, length)
 }
 
-// An event of terminal i.
+// Gives terminal i an event.
 pub fn terminal_event(
     terminal: Terminal,
     images: &mut [u8],

@@ -13,7 +13,8 @@ use Rattle.bus_call_specs.specs.Ready.{runReply}
 use Rattle.bus_call_specs.specs.Kept.{found}
 use Rattle.bus_octets.specs.Layout.{busOctets, shown, busLength, isBus}
 
--- What is in its range and of its length is stored as a bus, and read back as it was; the notes of its last period are no part of it.
+-- What is in its range and of its length is stored as a bus, and read back as it was; the notes of
+-- its last period are no part of it.
 pub record StoredAndShown (k : Kept) : Type 0 where
   pub is-bus : isBus (busOctets k) ≡ true
   pub shown-is : shown (busOctets k) ≡ found (k .bus) (k .terminals) (k .images) (k .octets) (k .letters)
@@ -21,7 +22,8 @@ pub record StoredAndShown (k : Kept) : Type 0 where
 abbrev pub RoundTrip : Type 0
 RoundTrip = (k : Kept) → runReply 0 k ≡ 0 → length (k .octets) ≡ longestBody → StoredAndShown k
 
--- Whatever is taken for a bus is what it stands for, stored; and that is in its range and of its length, so that refusals 1 and 2 are none of it.
+-- Whatever is taken for a bus is what it stands for, stored; and that is in its range and of its
+-- length, so that refusals 1 and 2 are none of it.
 pub record ShownAndStored (s : List ℕ) : Type 0 where
   pub long : length s ≡ busLength
   pub stored-is : busOctets (shown s) ≡ s

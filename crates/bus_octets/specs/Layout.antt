@@ -1,4 +1,5 @@
--- Calls: a bus as octets: its layout, version 1. Numbers stand with the low-order octet first (`half` two octets, `word` four), a yes is 1 and a no is 0.
+-- Calls: a bus as octets: its layout, version 1. Numbers stand with the low-order octet first
+-- (`half` two octets, `word` four), a yes is 1 and a no is 0.
 --   0   the record, 32 octets
 --   32  the eight terminals, 16 octets each, terminal 1 first
 --   160 the letters of the hit, 48
@@ -37,7 +38,8 @@ flag false = 0
 
 -- ---- Records as octets.
 
--- The record: four letters, the version, the counts, the network end, its reader, the last D heard, whether a hit is pending.
+-- The record: four letters, the version, the counts, the network end, its reader, the last D heard,
+-- whether a hit is pending.
 unfoldable pub recordOctets : BusRecord → List ℕ
 recordOctets r =
     ascii "SBUS"
@@ -56,7 +58,8 @@ recordOctets r =
     ∷ flag (r .hit)
     ∷ []))))))))
 
--- A terminal: T3, the held frame's bits and how many have left, C, the class held, the two levels, the bit that left last, the state, alignment.
+-- A terminal: T3, the bits of the held frame and how many of them have left, C, the class held, the
+-- two levels, the bit that left last, the state, alignment.
 unfoldable pub terminalOctets : Terminal → List ℕ
 terminalOctets t =
     word (t .t3)
@@ -102,7 +105,7 @@ recordIn s =
       hit = flagAt s 31;
     }
 
--- the terminal whose octets begin at an index
+-- the terminal whose octets begin at index `at`
 unfoldable pub terminalAt : List ℕ → ℕ → Terminal
 terminalAt s at =
     record {
@@ -139,7 +142,7 @@ imagesAt = octetsAt + longestBody
 abbrev pub busLength : ℕ
 busLength = imagesAt + imagesRoom
 
--- so many terminals, from an index on
+-- n terminals; the octets of the first begin at index `at`
 unfoldable pub terminalsFrom : ℕ → List ℕ → ℕ → List Terminal
 terminalsFrom zero s at = []
 terminalsFrom (suc n) s at = terminalAt s at ∷ terminalsFrom n s (at + terminalLength)
@@ -163,11 +166,12 @@ lettersRead s = cond (eqb (length s) busLength) (lettersIn s) (replicate lineLen
 unfoldable pub octetsOf : List ℕ → List ℕ
 octetsOf s = cond (eqb (length s) busLength) (octetsIn s) (replicate longestBody 0)
 
--- what the octets of a bus stand for; the notes of no period yet
+-- what the octets of a bus stand for; there are no notes of a period yet
 unfoldable pub shown : List ℕ → Kept
 shown s = found (recordIn s) (terminalsIn s) (imagesIn s) (octetsIn s) (lettersIn s)
 
--- ---- Octets are a bus where they have the length of one, the records that they stand for are written as them, and every field is in its range.
+-- ---- Octets are a bus where they have the length of one, the records that they stand for are
+-- written as them, and every field is in its range.
 unfoldable pub headOctets : BusRecord → List Terminal → List ℕ
 headOctets r ts = recordOctets r ++ terminalsOctets ts
 

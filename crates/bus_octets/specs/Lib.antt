@@ -1,4 +1,5 @@
--- A bus as octets: numbers (Numbers) and the layout (Layout).
+-- A bus as octets: numbers (Numbers), the layout (Layout), and that what is stored is read back
+-- (Laws).
 pub mod Numbers
 pub mod Layout
 pub mod Laws

@@ -9,7 +9,7 @@ use note_text::room::put;
 use terminal::Terminal;
 use text::length::least;
 
-// The record.
+// Puts the record.
 fn put_record(room: &mut [u8], wrote: usize, bus: BusRecord) -> usize
     ensures { λ r. ⌜ Put (now (room .entry)) wrote (recordOctets bus) r (now (room .exit)) ⌝ }
 {
@@ -57,7 +57,7 @@ fn put_record(room: &mut [u8], wrote: usize, bus: BusRecord) -> usize
     )
 }
 
-// A terminal.
+// Puts a terminal.
 fn put_terminal(room: &mut [u8], wrote: usize, terminal: Terminal) -> usize
     ensures { λ r. ⌜ Put (now (room .entry)) wrote (terminalOctets terminal) r (now (room .exit)) ⌝ }
 {
@@ -86,7 +86,7 @@ fn put_terminal(room: &mut [u8], wrote: usize, terminal: Terminal) -> usize
     )
 }
 
-// The terminals, one behind the other.
+// Puts the terminals, one behind the other.
 fn put_terminals(room: &mut [u8], wrote: usize, terminals: [Terminal; 8]) -> usize
     ensures { λ r. ⌜ Put (now (room .entry)) wrote (terminalsOctets terminals) r (now (room .exit)) ⌝ }
 {
@@ -100,7 +100,7 @@ fn put_terminals(room: &mut [u8], wrote: usize, terminals: [Terminal; 8]) -> usi
     at
 }
 
-// The record and the terminals.
+// Puts the record and the terminals.
 pub fn put_head(room: &mut [u8], bus: BusRecord, terminals: [Terminal; 8]) -> usize
     ensures { λ r. ⌜ Put (now (room .entry)) 0 (headOctets bus terminals) r (now (room .exit)) ⌝ }
 {
@@ -108,7 +108,8 @@ pub fn put_head(room: &mut [u8], bus: BusRecord, terminals: [Terminal; 8]) -> us
     put_terminals(room, wrote, terminals)
 }
 
-// All of a bus but its images: the record, the terminals, the letters of the hit and the reader's octets go over its first octets.
+// Writes all of a bus but its images over its first octets: the record, the terminals, the letters
+// of the hit and the reader's octets.
 pub fn lay(s: &mut [u8], bus: BusRecord, terminals: [Terminal; 8], letters: &[u8], octets: &[u8])
     ensures { λ _. ⌜ now (s .exit) ≡ laid (now (s .entry)) 0 (headOctets bus terminals ++ (now (letters .entry) ++ now (octets .entry))) ⌝ }
 {

@@ -3,7 +3,8 @@
 // The layout's version.
 pub const VERSION: u8 = 1;
 
-// The letters of the hit, the reader's octets and the images, behind the record and the terminals; the length of all.
+// Where the letters of the hit, the reader's octets and the images begin, behind the record and the
+// terminals; and the length of all.
 pub const LETTERS_AT: usize = 160;
 
 pub const OCTETS_AT: usize = 208;

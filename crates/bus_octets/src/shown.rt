@@ -22,7 +22,7 @@ use terminal::Terminal;
 use timing::counts::Opportunities;
 use timing::counts::Periods;
 
-// The record.
+// Reads the record.
 pub fn record_in(s: &[u8]) -> BusRecord
     ensures { λ r. ⌜ r ≡ recordIn (now (s .entry)) ⌝ }
 {
@@ -50,7 +50,7 @@ pub fn record_in(s: &[u8]) -> BusRecord
     }
 }
 
-// The terminal whose octets begin at an index.
+// Reads the terminal whose octets begin at index `at`.
 fn terminal_at(s: &[u8], at: u8) -> Terminal
     ensures { λ r. ⌜ r ≡ terminalAt (now (s .entry)) at ⌝ }
 {
@@ -75,7 +75,7 @@ fn terminal_at(s: &[u8], at: u8) -> Terminal
     }
 }
 
-// The eight terminals.
+// Reads the eight terminals.
 pub fn terminals_in(s: &[u8]) -> [Terminal; 8]
     ensures { λ r. ⌜ r ≡ terminalsIn (now (s .entry)) ⌝ }
 {
@@ -91,7 +91,8 @@ pub fn terminals_in(s: &[u8]) -> [Terminal; 8]
     ]
 }
 
-// The letters of the hit; nothing but 0 where the octets are not as many as those of a bus.
+// Reads the letters of the hit; gives nothing but 0 where the octets are not as many as those of a
+// bus.
 pub fn letters_in(s: &[u8]) -> [u8; LINE_LENGTH]
     ensures { λ r. ⌜ r ≡ lettersRead (now (s .entry)) ⌝ }
 {
@@ -102,7 +103,8 @@ pub fn letters_in(s: &[u8]) -> [u8; LINE_LENGTH]
     letters
 }
 
-// The reader's octets; nothing but 0 where the octets are not as many as those of a bus.
+// Reads the reader's octets; gives nothing but 0 where the octets are not as many as those of a
+// bus.
 pub fn octets_in(s: &[u8]) -> [u8; LONGEST_BODY]
     ensures { λ r. ⌜ r ≡ octetsOf (now (s .entry)) ⌝ }
 {

@@ -15,7 +15,7 @@ use symbols::fits;
 use terminal::Terminal;
 use text::same::same;
 
-// Whether all terminals are in their range.
+// Tests whether all terminals are in their range.
 fn all_in_range(terminals: [Terminal; 8]) -> bool
     ensures { λ r. ⌜ r ≡ eightInRange terminals ⌝ }
 {
@@ -29,7 +29,7 @@ fn all_in_range(terminals: [Terminal; 8]) -> bool
     ok
 }
 
-// Whether a record and terminals are written as the octets given.
+// Tests whether a record and terminals are written as the octets given.
 fn is_head(bus: BusRecord, terminals: [Terminal; 8], octets: &[u8]) -> bool
     ensures { λ r. ⌜ r ≡ isHead bus terminals (now (octets .entry)) ⌝ }
 {
@@ -38,7 +38,8 @@ fn is_head(bus: BusRecord, terminals: [Terminal; 8], octets: &[u8]) -> bool
     same(&back, octets)
 }
 
-// Whether octets are a bus: as many as one has, written as the records that they stand for are, with every field in its range.
+// Tests whether octets are a bus: as many as one has, written as the records that they stand for
+// are, with every field in its range.
 pub fn is_bus(s: &[u8]) -> bool
     ensures { λ r. ⌜ r ≡ isBus (now (s .entry)) ⌝ }
 {

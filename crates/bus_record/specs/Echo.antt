@@ -32,15 +32,15 @@ hitIn pending letters = cond pending (Hit.given letters) Hit.none
 unfoldable pub firstTally : BusRecord → List ℕ → Tally
 firstTally r letters = exchange.firstTally (r .network .state) (lettersAtE (hitIn (r .hit) letters)) (r .echo)
 
--- the line that is sent, into a line that is lent
+-- the line that a network end in `state` sends, written into a line that is lent
 unfoldable pub builtDown : ℕ → Four → List ℕ → List ℕ
 builtDown state es line = leaves (hasLineLength line) (sentDown state es) line
 
--- the E that were sent: each the D heard before it
+-- the four E that were sent: each echoes the D heard before it
 abbrev pub sentEs : BusRecord → Four → Four
 sentEs r ds = record { first = r .echo; second = ds .first; third = ds .second; fourth = ds .third }
 
--- what is heard of the line, with the four D of the exchange
+-- what is heard of the line, where `ds` are the four D heard in the exchange
 unfoldable pub heardDown : BusRecord → Four → List ℕ → Downward
 heardDown r ds letters =
     let line = sentDown (r .network .state) (sentEs r ds) in

@@ -1,4 +1,5 @@
--- The bus record, and what a period does beside the walks over the terminals; it stays in its range (RecordKept).
+-- The bus record, and what a period does beside what it does to each terminal; the record stays in
+-- its range (RecordKept).
 pub mod Record
 pub mod Echo
 pub mod Reading

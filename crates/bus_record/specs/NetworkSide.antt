@@ -52,8 +52,8 @@ networkListens line period n =
           || leavesG3 (hearingStep line period n .network .state) (timerStep line period n .network .state);
     }
 
--- whether it hears what it has heard before, so that nothing happens: in G1 and G2 unaligned no pulse, in G3 aligned INFO 3, in G4 unaligned
--- INFO 1 (proofs/NetworkRests.antt)
+-- whether it hears what it heard before, so that nothing happens: in G1 and G2 unaligned no pulse,
+-- in G3 aligned INFO 3, in G4 unaligned INFO 1 (proofs/NetworkRests.antt)
 abbrev pub restsInG3 : Upward → Bool → Bool
 restsInG3 line al = ((al && line .pulse) && line .framed) && not (line .info1)
 
@@ -69,7 +69,8 @@ networkRests line n =
 unfoldable pub countedAfter : ℕ → Opportunities → Opportunities
 countedAfter state o = cond (eqb state G3) (fourMore o) o
 
--- whether there is a note: of the terminals, of the reader, of a frame completed, of the network end
+-- whether there is a note: of the terminals, of the reader, of a frame completed, of the network
+-- end
 unfoldable pub periodHasNote : Bool → Tally → Spoken → UnitNotes → Bool
 periodHasNote told m spoken notes =
     ((((told || not (eqb (spoken .note) 0)) || not (eqb (m .done1) 0)) || not (eqb (m .done2) 0)) || ltb 0 (notes .hearing .0))
@@ -95,7 +96,8 @@ answerWith r m spoken side told =
       reply = 0;
     }
 
--- the network end's side of a period, after the exchange m and the terminals' hearing; and the reader's octets then
+-- the network end's side of a period, after the exchange that left tally m and the terminals'
+-- hearing; and the reader's octets then
 unfoldable pub answerAfter : BusRecord → Tally → List ℕ → Bool → RunAnswer
 answerAfter r m buf told =
     answerWith r m (readIn (r .network .state) (m .ds) buf (r .reader))
@@ -104,6 +106,6 @@ answerAfter r m buf told =
 unfoldable pub octetsAfter : BusRecord → Tally → List ℕ → List ℕ
 octetsAfter r m buf = octetsIn (r .network .state) (m .ds) (r .reader) buf
 
--- nothing is run: the record as it is, with a reply
+-- nothing is run: the record as it is, with reply k
 unfoldable pub refusedRun : ℕ → BusRecord → RunAnswer
 refusedRun k r = record { bus = r; network = noNotes; body = 0; said = 0; done1 = 0; done2 = 0; told = false; reply = k }

@@ -54,8 +54,8 @@ octetsToFour ds s buf =
     let buf3 = octetsTo (ds .third) s2 buf2 in
     octetsTo (ds .fourth) s3 buf3
 
--- a reader that waits for a flag, after seven 1s or more or with nothing read: exactly `freshReader`. Further 1s change nothing (SpokenLaws
--- `four-ones`)
+-- a reader that waits for a flag, after seven 1s or more or with nothing read: exactly
+-- `freshReader`. Further 1s change nothing (SpokenLaws `four-ones`)
 unfoldable pub readerWaits : Reader → Bool
 readerWaits r = (((eqb (r .bits) 0 && eqb (r .ones) 7) && eqb (r .octet) 0) && not (r .opened)) && not (r .zero)
 

@@ -14,7 +14,8 @@ use Rattle.bus_record.specs.declared.record.BusRecord.{BusRecord}
 abbrev pub FreshInRange : Type 0
 FreshInRange = recordInRange freshRecord ≡ true
 
--- a period more, where one can be run: whatever the exchange, the reader's octets and the terminals' notes
+-- a period more, where one can be run: whatever the exchange, the reader's octets and the
+-- terminals' notes
 abbrev pub PeriodKeeps : Type 0
 PeriodKeeps =
     (bus : BusRecord) (m : Tally) (buf : List ℕ) (told : Bool) → recordInRange bus ≡ true → allRun (bus .periods) ≡ false

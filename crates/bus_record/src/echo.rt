@@ -1,4 +1,5 @@
-// What of the downward line the exchange and the terminals' hearing need: a line is built under a hit alone.
+// What of the downward line the exchange and the terminals' hearing need: a line is built under a
+// hit alone.
 ghost use mathlib.Core.Path.{_≡_};
 ghost use Rattle.bus_rules.specs.Quick.{shownBy};
 ghost use Rattle.exchange.specs.Shown.{lettersAtE};
@@ -19,7 +20,7 @@ use symbols::LINE_LENGTH;
 use symbols::NONE;
 use table_6_3::info_sent;
 
-// The letter at an index, keep past the end.
+// Gives the letter at index i, the keep letter past the end.
 fn letter_at(letters: &[u8], i: usize) -> u8
     ensures { λ r. ⌜ r ≡ letterAt (now (letters .entry)) i ⌝ }
 {
@@ -30,7 +31,7 @@ fn letter_at(letters: &[u8], i: usize) -> u8
     }
 }
 
-// The letters at E11, E24, E35 and E46, keep where there is no hit.
+// Gives the letters at E11, E24, E35 and E46, the keep letter where there is no hit.
 fn letters_at_e(hit: bool, letters: &[u8]) -> Letters
     ensures { λ r. ⌜ r ≡ lettersAtE (hitIn hit (now (letters .entry))) ⌝ }
 {
@@ -51,14 +52,14 @@ fn letters_at_e(hit: bool, letters: &[u8]) -> Letters
     }
 }
 
-// The exchange as its first E comes.
+// Gives the tally as the first E of a period comes.
 pub fn first_tally(bus: BusRecord, letters: &[u8]) -> Tally
     ensures { λ r. ⌜ r ≡ firstTally bus (now (letters .entry)) ⌝ }
 {
     Tally::first(bus.network.state, letters_at_e(bus.hit, letters), bus.echo)
 }
 
-// What a line that the network end sends in a state shows.
+// Gives what a line that the network end sends in `state` shows.
 pub fn shown_by(state: u8) -> Downward
     ensures { λ r. ⌜ r ≡ shownBy state ⌝ }
 {
@@ -71,7 +72,7 @@ pub fn shown_by(state: u8) -> Downward
     }
 }
 
-// The line that a network end sends in a state, with these E.
+// Builds the line that a network end in `state` sends, with the four E `es`.
 fn build_down(state: u8, es: Four, line: &mut [u8])
     ensures { λ _. ⌜ now (line .exit) ≡ builtDown state es (now (line .entry)) ⌝ }
 {
@@ -85,7 +86,8 @@ fn build_down(state: u8, es: Four, line: &mut [u8])
     }
 }
 
-// What all powered terminals hear of the line, with the four D heard in the exchange.
+// Gives what all powered terminals hear of the line, where `ds` are the four D heard in the
+// exchange.
 pub fn heard_down(bus: BusRecord, ds: Four, letters: &[u8]) -> Downward
     ensures { λ r. ⌜ r ≡ heardDown bus ds (now (letters .entry)) ⌝ }
 {

@@ -1,4 +1,4 @@
-// The bus record, and what a period does beside the walks over the terminals.
+// The bus record, and what a period does beside what it does to each terminal.
 pub mod echo;
 pub mod reading;
 pub mod record;

@@ -9,14 +9,15 @@ use notes_and_cells::notes::HEARD;
 use notes_and_cells::notes::TORN;
 use table_6_3::G3;
 
-// The reader, and what it has said in this period: the note's code, 0 for none, and how many lent octets are the heard body.
+// The reader, and what it has said in this period: the note's code, 0 for none, and how many of the
+// lent octets are the heard body.
 pub struct Spoken {
     pub reader: Reader,
     pub body: u16,
     pub note: u8,
 }
 
-// Nothing read yet.
+// Starts a period: the reader has read nothing in it yet.
 fn quiet(reader: Reader) -> Spoken
     ensures { λ r. ⌜ r ≡ quietReading reader ⌝ }
 {
@@ -28,7 +29,7 @@ fn quiet(reader: Reader) -> Spoken
 }
 
 impl Spoken {
-    // One bit more.
+    // Reads one bit more.
     fn read_on(self, bit: bool, octets: &mut [u8]) -> Self
         ensures { λ r. ⌜ r ≡ spokenTo bit (now (octets .entry)) self ⌝ }
         ensures { λ _. ⌜ now (octets .exit) ≡ octetsTo bit self (now (octets .entry)) ⌝ }
@@ -56,14 +57,14 @@ impl Spoken {
     }
 }
 
-// Whether a reader waits for a flag, after seven 1s or more: further 1s change nothing.
+// Tests whether a reader waits for a flag, after seven 1s or more: further 1s change nothing.
 pub fn waits(reader: Reader) -> bool
     ensures { λ r. ⌜ r ≡ readerWaits reader ⌝ }
 {
     (reader.bits == 0) & (reader.ones == 7) & (reader.octet == 0) & !reader.opened & !reader.zero
 }
 
-// The four D of a period.
+// Reads the four D of a period.
 fn read_four(start: Spoken, ds: Four, octets: &mut [u8]) -> Spoken
     ensures { λ r. ⌜ r ≡ spokenToFour ds (now (octets .entry)) start ⌝ }
     ensures { λ _. ⌜ now (octets .exit) ≡ octetsToFour ds start (now (octets .entry)) ⌝ }
@@ -74,7 +75,7 @@ fn read_four(start: Spoken, ds: Four, octets: &mut [u8]) -> Spoken
     third.read_on(ds.fourth, octets)
 }
 
-// In G3 the four D of a period are read.
+// Reads the four D of a period, where the network end is in G3; elsewhere nothing.
 pub fn read_in(state: u8, reader: Reader, ds: Four, octets: &mut [u8]) -> Spoken
     ensures { λ r. ⌜ r ≡ readIn state ds (now (octets .entry)) reader ⌝ }
     ensures { λ _. ⌜ now (octets .exit) ≡ octetsIn state ds reader (now (octets .entry)) ⌝ }

@@ -12,14 +12,14 @@ pub struct BusRecord {
     pub periods: Periods,
     pub opportunities: Opportunities,
     pub reader: Reader,
-    // The last combined D that the network end heard.
+    // The last combined D that the network end heard, which the next E echoes.
     pub echo: bool,
     // Whether a hit is given for the coming exchange; its letters are lent.
     pub hit: bool,
 }
 
 impl BusRecord {
-    // G1, unaligned, no timer running, nothing run and nothing read.
+    // Gives a fresh bus: G1, unaligned, no timer running, nothing run and nothing read.
     pub fn fresh() -> Self
         ensures { λ r. ⌜ r ≡ freshRecord ⌝ }
     {
@@ -33,7 +33,7 @@ impl BusRecord {
         }
     }
 
-    // Whether every field is in its range.
+    // Tests whether every field is in its range.
     pub fn in_range(self) -> bool
         ensures { λ r. ⌜ r ≡ recordInRange self ⌝ }
     {

@@ -1,4 +1,5 @@
-// The network end's side of a period: it reads D, hears the upward line, and then come the timers due at the next one's start.
+// The network end's side of a period: it reads D, hears the upward line, and then come the timers
+// due at the next one's start.
 ghost use mathlib.Core.Path.{_≡_};
 ghost use Rattle.bus_rules.specs.Quick.{shownFrom};
 ghost use Rattle.bus_record.specs.NetworkSide.{readerAfter, networkRests, networkListens, countedAfter};
@@ -20,8 +21,9 @@ use timing::counts::Opportunities;
 use timing::counts::Periods;
 use timing::timers::due;
 
-// What a run of periods gives: the record; the last period's notes of unit 0, of the reader (its code, 0 for none, and the length of the
-// heard body) and of frames completed (bit i for terminal i + 1); whether that period has a note; and 0 or the number of the refusal.
+// What a run of periods gives: the record; the last period's notes of unit 0, of the reader (its
+// code, 0 for none, and the length of the heard body) and of frames completed (bit i for
+// terminal i + 1); whether that period has a note; and 0 or the number of the refusal.
 pub struct RunAnswer {
     pub bus: BusRecord,
     pub network: UnitNotes,
@@ -41,7 +43,8 @@ pub struct NetworkHeard {
     pub left: bool,
 }
 
-// What the terminals' line shows: any terminal that sends INFO 1, any that sends INFO 3.
+// Gives what the terminals' line shows, where any terminal sends INFO 1 (`info1`), any INFO 3
+// (`info3`).
 pub fn shown_from(info1: bool, info3: bool) -> Upward
     ensures { λ r. ⌜ r ≡ shownFrom info1 info3 ⌝ }
 {
@@ -52,7 +55,8 @@ pub fn shown_from(info1: bool, info3: bool) -> Upward
     }
 }
 
-// Whether the network end hears what it has heard before: in G1 and G2 unaligned no pulse, in G3 aligned INFO 3, in G4 unaligned INFO 1.
+// Tests whether the network end hears what it heard before, so that nothing happens: in G1 and G2
+// unaligned no pulse, in G3 aligned INFO 3, in G4 unaligned INFO 1.
 pub fn network_rests(network: Network, line: Upward) -> bool
     ensures { λ r. ⌜ r ≡ networkRests line network ⌝ }
 {
@@ -70,7 +74,8 @@ pub fn network_rests(network: Network, line: Upward) -> bool
     !aligned & ((state == G1) | (state == G2))
 }
 
-// The network end hears the line of a period; then comes the start of the next.
+// Lets the network end hear the line of a period, and then takes its timers at the next one's
+// start.
 fn network_listens(network: Network, line: Upward, period: Periods) -> NetworkHeard
     ensures { λ r. ⌜ r ≡ networkListens line period network ⌝ }
 {
@@ -103,14 +108,14 @@ fn network_listens(network: Network, line: Upward, period: Periods) -> NetworkHe
     }
 }
 
-// Leaving G3 clears the reader.
+// Clears the reader where G3 has been left.
 pub fn reader_after(left: bool, reader: Reader) -> Reader
     ensures { λ r. ⌜ r ≡ readerAfter left reader ⌝ }
 {
     if left { Reader::fresh() } else { reader }
 }
 
-// Four D opportunities for a period in G3.
+// Counts four D opportunities more for a period in G3, elsewhere none.
 fn counted(state: u8, opportunities: Opportunities) -> Opportunities
     ensures { λ r. ⌜ r ≡ countedAfter state opportunities ⌝ }
 {
@@ -121,7 +126,8 @@ fn counted(state: u8, opportunities: Opportunities) -> Opportunities
     }
 }
 
-// All that a period gives, from what the reader said, the network end heard and the exchange left.
+// Gathers all that a period gives: from what the reader said, the network end heard and the
+// exchange left.
 fn ran_with(
     bus: BusRecord,
     tally: Tally,
@@ -157,7 +163,7 @@ fn ran_with(
     }
 }
 
-// The network end's side of a period, after the exchange and the terminals' hearing.
+// Runs the network end's side of a period, after the exchange and the terminals' hearing.
 pub fn network_side(bus: BusRecord, tally: Tally, octets: &mut [u8], told: bool) -> RunAnswer
     ensures { λ r. ⌜ r ≡ answerAfter bus tally (now (octets .entry)) told ⌝ }
     ensures { λ _. ⌜ now (octets .exit) ≡ octetsAfter bus tally (now (octets .entry)) ⌝ }
@@ -171,7 +177,7 @@ pub fn network_side(bus: BusRecord, tally: Tally, octets: &mut [u8], told: bool)
     ran_with(bus, tally, spoken, side, told)
 }
 
-// Nothing is run: the record as it is, with a reply.
+// Gives the record as it is, with a reply: nothing is run.
 pub fn refused_run(bus: BusRecord, reply: u8) -> RunAnswer
     ensures { λ r. ⌜ r ≡ refusedRun reply bus ⌝ }
 {

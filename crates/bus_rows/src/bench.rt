@@ -1,4 +1,4 @@
-// A bus with its terminals, as a book goes over it.
+// A bus with its terminals, as a book is run on it.
 use super::row::event;
 use super::row::exchange;
 use super::row::said;
@@ -10,7 +10,7 @@ pub(crate) struct Bench {
     pub(crate) terminals: [Terminal; 8],
 }
 
-// The row of an event; the bus after it.
+// Prints the row of an event, and gives the bus after it.
 pub(crate) fn given(
     bus: BusRecord,
     before: [Terminal; 8],
@@ -39,7 +39,8 @@ pub(crate) fn given(
     }
 }
 
-// The rows of the periods before one; the bus then. The octets keep what is read of a body from one period to the next.
+// Prints the rows of the periods before period `end`, and gives the bus then. The octets keep what
+// is read of a body from one period to the next.
 pub(crate) fn until(
     mut bus: BusRecord,
     mut terminals: [Terminal; 8],

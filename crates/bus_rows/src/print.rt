@@ -6,13 +6,13 @@ pub(crate) fn say(text: &[u8]) {
     io::write_all(STDOUT_FILENO, text);
 }
 
-// A text and a number.
+// Prints a text and a number.
 pub(crate) fn number(text: &[u8], n: u32) {
     say(text);
     io::print_decimal(STDOUT_FILENO, n as u64);
 }
 
-// A text and a number in two places.
+// Prints a text and a number in two places.
 pub(crate) fn two(text: &[u8], n: u32) {
     say(text);
     if n < 10 {
@@ -21,7 +21,7 @@ pub(crate) fn two(text: &[u8], n: u32) {
     io::print_decimal(STDOUT_FILENO, n as u64);
 }
 
-// The first octets of some in hexadecimal.
+// Prints the first `count` octets in hexadecimal.
 pub(crate) fn octets(o: &[u8], count: usize) {
     let mut i: usize = 0;
     while i < o.len() {
@@ -32,7 +32,7 @@ pub(crate) fn octets(o: &[u8], count: usize) {
     }
 }
 
-// The word of a code, from 1 on; each word stands behind a comma.
+// Prints the word of a code, from 1 on; in `words` each word stands behind a comma.
 pub(crate) fn word(words: &[u8], code: u8) {
     let mut at: usize = 0;
     let mut i: usize = 0;
@@ -47,7 +47,7 @@ pub(crate) fn word(words: &[u8], code: u8) {
     }
 }
 
-// A note of a unit by its code, 0 for none.
+// Prints a note of a unit by its code, 0 for none.
 pub(crate) fn note(unit: u32, code: u8) {
     if code == 0 {
         return;
@@ -60,7 +60,7 @@ pub(crate) fn note(unit: u32, code: u8) {
     );
 }
 
-// The notes of a unit: those of completed frames by their codes, and others.
+// Prints the notes of a unit: those of completed frames by their codes, and others.
 pub(crate) fn notes(unit: u32, first: u8, second: u8, n: Notes) {
     note(unit, first);
     note(unit, second);

@@ -1,4 +1,5 @@
-// What the row of an event has, and that of a period. A row begins with the end of the line before it.
+// What the row of an event has, and that of a period. A row begins with the end of the line before
+// it.
 use super::print::note;
 use super::print::notes;
 use super::print::number;
@@ -19,7 +20,7 @@ use table_6_2::F7;
 use table_6_3::G3;
 use terminal::Terminal;
 
-// The row of an event, with its octet from D1 on, and what the call gives.
+// Prints the row of an event, with its octet from D1 on, and what the call gives.
 pub(crate) fn event(period: u32, unit: u32, code: u8, octet: u8, g: HeldEvent) {
     two(b"\n", period);
     number(b" ", unit);
@@ -31,8 +32,8 @@ pub(crate) fn event(period: u32, unit: u32, code: u8, octet: u8, g: HeldEvent) {
     notes(unit, 0, 0, g.told.notes);
 }
 
-// The four opportunities of a period without a hit: the states after them, and the pairs of E and D. Each E in G3 is counted by the D
-// before it.
+// Runs the four opportunities of a period without a hit, and prints the states after them and the
+// pairs of E and D. Counts each E in G3 by the D before it.
 pub(crate) fn exchange(
     bus: BusRecord,
     before: [Terminal; 8],
@@ -61,7 +62,7 @@ pub(crate) fn exchange(
     say(&pairs);
 }
 
-// The period, unit 0 and the terminals in use.
+// Prints the period, unit 0 and the terminals in use.
 fn states(period: u32, network: u8, terminals: [Terminal; 8], used: usize) {
     two(b"\n", period);
     number(b" G", network as u32);
@@ -77,7 +78,8 @@ fn states(period: u32, network: u8, terminals: [Terminal; 8], used: usize) {
     say(b" ");
 }
 
-// A terminal: state, INFO, and in F7 its C, X1 and X2: 8 and 10 are even, and the low level is one more.
+// Prints a terminal: state, INFO, and in F7 its C, X1 and X2: 8 and 10 are even, and the low level
+// is one more.
 fn terminal(state: u8, count: u8, low1: bool, low2: bool) {
     number(b"  F", state as u32);
     number(b" I", table_6_2::info_sent(state) as u32);
@@ -91,7 +93,8 @@ fn terminal(state: u8, count: u8, low1: bool, low2: bool) {
     two(b" ", 10 | low2 as u32);
 }
 
-// The notes of a period: unit 0 with the octets of a heard body, the terminals, then those of timers due at the next one's start.
+// Prints the notes of a period: unit 0 with the octets of a heard body, the terminals, then those
+// of timers due at the next one's start.
 pub(crate) fn said(p: HeldRun, body: &[u8]) {
     let ns = p.notes;
     note(0, p.answer.said);
@@ -102,7 +105,8 @@ pub(crate) fn said(p: HeldRun, body: &[u8]) {
     of_terminals(ns, 0, 0, true);
 }
 
-// The notes of the terminals: of completed frames, bit i for terminal i + 1, and of their hearing or their timers.
+// Prints the notes of the terminals: of completed frames, bit i for terminal i + 1, and of their
+// hearing or their timers.
 fn of_terminals(ns: [UnitNotes; 8], done1: u8, done2: u8, timed: bool) {
     let mut first = done1;
     let mut second = done2;

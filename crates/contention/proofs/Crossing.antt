@@ -28,7 +28,7 @@ crossed true false s = leaving s
 crossed false true s = entering s
 crossed false false s = s
 
--- all terminals take a step, the first of the list being at the index: `was` and `is` are each one's station before and after it
+-- all terminals take a step, the first of the list being at the index: `was` and `is` are each contender before and after it
 unfoldable pub crossings : {A : Type 0} → (A → Contender) → (A → Contender) → ℕ → List A → List Action
 crossings was is i [] = []
 crossings was is i (x ∷ xs) = crossing i (was x .active) (is x .active) ++ crossings was is (suc i) xs

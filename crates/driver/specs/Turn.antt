@@ -17,8 +17,9 @@ use Rattle.report.specs.Report.{report}
 use Rattle.book_go_on.specs.Progress.{bookStateOf, freshProgress}
 use Rattle.driver.specs.declared.turn.Held.{Held}
 
--- The octets of the book in hand are those at the text's front. A part of the book, of at most `most` octets, comes behind them, where the last
--- call has stopped for text; where nothing comes, the book ends there.
+-- The octets of the book in hand are those at the text's front. A part of the book, of at most
+-- `most` octets, comes behind them, where the last call has stopped for text; where nothing comes,
+-- the book ends there.
 pub record Fills (most : ℕ) (text : List ℕ) (have why : ℕ) (whole : Bool) (text′ : List ℕ) (have′ : ℕ) (whole′ : Bool) : Type 0 where
   pub part : List ℕ
   pub few : length part ≤ most
@@ -45,8 +46,8 @@ pub record Turned (most : ℕ) (h : Held) (text room images octets letters : Lis
   pub rest : take (r .have) text′ ≡ drop taken (take (h .have) text ++ part)
   pub within : r .have ≤ length text′
 
--- What holds before every turn: no call will be refused, what is in hand is there, and where text is needed less than a line is in hand, so
--- that a read is offered room.
+-- What holds before every turn: no call will be refused, what is in hand is there, and where text
+-- is needed less than a line is in hand, so that a read is offered room.
 pub record Going (h : Held) (text images octets letters : List ℕ) : Type 0 where
   pub sound : Sound (heldState h images octets letters)
   pub within : h .have ≤ length text
@@ -57,8 +58,9 @@ pub record Going (h : Held) (text images octets letters : List ℕ) : Type 0 whe
 abbrev pub Due : Held → Type 0
 Due h = (h .failed ≡ false) × (h .why ≡ OVER → ⊥)
 
--- The turns so far, from what was held and lent at first to what is now. Each starts where the one before has ended, and finds what that one
--- has left: nobody else writes between. The parts read, one in each turn and none longer than `most`, and the octets written out.
+-- The turns so far, from what was held and lent at first to what is now. Each starts where the one
+-- before has ended, and finds what that one has left: nobody else writes between. The parts read,
+-- one in each turn and none longer than `most`, and the octets written out.
 pub data Chain (most : ℕ) (h₀ : Held) (text₀ room₀ images₀ octets₀ letters₀ : List ℕ)
     : Held → (text room images octets letters : List ℕ) → (parts : List (List ℕ)) → (out : List ℕ) → Type 0 where
   none : Chain most h₀ text₀ room₀ images₀ octets₀ letters₀ h₀ text₀ room₀ images₀ octets₀ letters₀ [] []
@@ -84,7 +86,7 @@ pub record Drives (most : ℕ) (text room images octets letters text′ room′ 
   pub chain : Chain most first text room images octets letters held text′ room′ images′ octets′ letters′ parts out
   pub ended : Due held → length parts ≡ mostTurns
 
--- The same with own text, images, octets and letters, which are in order for the first call.
+-- The same with text, images, octets and letters of its own, which are in order for the first call.
 pub record DrivesIn (most : ℕ) (room room′ : List ℕ) : Type 0 where
   pub text : List ℕ
   pub images : List ℕ
@@ -99,13 +101,14 @@ pub record DrivesIn (most : ℕ) (room room′ : List ℕ) : Type 0 where
   pub letters′ : List ℕ
   pub drives : Drives most text room images octets letters text′ room′ images′ octets′ letters′
 
--- Where the room may not hold the notes of a period there is no turn, and the room is as it was. 0 for `most` counts as 1.
+-- Where the room may not hold the notes of a period there is no turn, and the room is as it was. 0
+-- for `most` counts as 1.
 pub record Runs (most : ℕ) (room room′ : List ℕ) : Type 0 where
   pub idle : length room < periodRoom → room′ ≡ room
   pub driven : periodRoom ≤ length room → DrivesIn (cond (eqb most 0) 1 most) room room′
 
--- Whatever parts the reads give: once the book is over, what the turns have written out, taken together, is the report of the book, whatever of
--- it is unread (proofs/AllTurns.antt).
+-- Whatever parts the reads give: once the book is over, what the turns have written out, taken
+-- together, is the report of the book, whatever of it is unread (proofs/AllTurns.antt).
 abbrev pub TurnsRight : Type 0
 TurnsRight =
     (most : ℕ) (text room images octets letters : List ℕ) (h : Held) (text′ room′ images′ octets′ letters′ : List ℕ)
@@ -121,8 +124,8 @@ RunRight =
     → r .drives .held .why ≡ OVER → (r .drives .held .whole ≡ true → unread ≡ [])
     → r .drives .out ≡ report (joined (r .drives .parts) ++ unread)
 
--- ---- The count is not used up. Where the room holds the notes of a period, there is at most one turn more than there are octets read and
--- written (proofs/Ending.antt),
+-- ---- The count is not used up. Where the room holds the notes of a period, there is at most one
+-- turn more than there are octets read and written (proofs/Ending.antt),
 abbrev pub FewTurns : Type 0
 FewTurns =
     (most : ℕ) (text room images octets letters : List ℕ) (h : Held) (text′ room′ images′ octets′ letters′ : List ℕ)
@@ -131,7 +134,8 @@ FewTurns =
     → Chain most first text room images octets letters h text′ room′ images′ octets′ letters′ parts out
     → length parts ≤ 1 + length (joined parts) + length out
 
--- so that a run goes on until the book is over or a write has failed, unless it reads and writes as many octets as no run does.
+-- so that a run goes on until the book is over or a write has failed, unless it reads and writes as
+-- many octets as no run does.
 abbrev pub RunEnds : Type 0
 RunEnds =
     (most : ℕ) (room room′ : List ℕ) (r : DrivesIn most room room′) → periodRoom ≤ length room

@@ -1,4 +1,4 @@
-// Text comes from standard input.
+// Reading text from standard input.
 ghost use mathlib.Core.Path.{_≡_};
 ghost use Prim.Native.Nat.{_≤_, _<_};
 ghost use lib.ListN.{length};
@@ -14,7 +14,7 @@ pub(crate) struct Filled {
     pub(crate) whole: bool,
 }
 
-// Where the last call has stopped for text, reads at most `most` octets behind those in hand. A
+// Reads at most `most` octets behind those in hand, where the last call has stopped for text. A
 // read that gives nothing ends the book there, and so does one that fails, once that is said: a
 // read is offered one octet at least.
 pub(crate) fn fill(text: &mut [u8], have: usize, why: u8, whole: bool, most: usize) -> Filled

@@ -17,9 +17,10 @@ use bus_event::event::IMAGES_ROOM;
 use packing::image::LONGEST_BODY;
 use symbols::LINE_LENGTH;
 
-// Nothing says that the input ends, so the turns are counted down, from a number that no run uses
-// up (`RunEnds`). The first turn stands before the loop: where the compiler sees a fresh book go
-// into the loop, it copies the book's fields one by one, at every turn.
+// Takes turns until the book is over or a write has failed. Nothing says that the input ends, so
+// the turns are counted down, from a number that no run uses up (`RunEnds`). The first turn stands
+// before the loop: where the compiler sees a fresh book go into the loop, it copies the book's
+// fields one by one, at every turn.
 fn drive(
     text: &mut [u8],
     room: &mut [u8],
@@ -51,8 +52,9 @@ fn drive(
     }
 }
 
-// The book on standard input, read in parts of at most `most` octets (0 counts as 1), and its report on standard output, through lent room.
-// With less room than the notes of a period may take a call does nothing: there is nothing to drive.
+// Reads the book from standard input, in parts of at most `most` octets (0 counts as 1), and writes
+// its report to standard output, through lent room. With less room than the notes of a period may
+// take a call does nothing: there is nothing to drive.
 pub fn run(room: &mut [u8], most: usize)
     ensures { λ r. ⌜ Runs most (now (room .entry)) (now (room .exit)) ⌝ }
 {

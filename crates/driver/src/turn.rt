@@ -9,8 +9,8 @@ use book_go_on::progress::Progress;
 use book_reader::rest::keep;
 use streams::write::write_out;
 
-// What is kept between turns: how far the book has come, the octets of it in hand, why the last call has stopped, whether no more of the
-// book comes, and whether a write has failed.
+// What is kept between turns: how far the book has come, how many octets of it are in hand, why the
+// last call has stopped, whether no more of the book comes, and whether a write has failed.
 pub(crate) struct Held {
     pub(crate) progress: Progress,
     pub(crate) have: usize,
@@ -19,8 +19,9 @@ pub(crate) struct Held {
     pub(crate) failed: bool,
 }
 
-// Reads where text is needed, calls, writes out what stands in the room, and keeps the text not yet taken. Whether the write has failed is
-// what `write_out` answers: no statement speaks of it. No call is refused here (`Going`), so the reply, which is 0, is not looked at.
+// Reads where text is needed, calls, writes out what stands in the room, and keeps the text not yet
+// taken. Whether the write has failed is what `write_out` answers: no statement speaks of it. No
+// call is refused here (`Going`), so the reply, which is 0, is not looked at.
 pub(crate) fn turn(
     h: Held,
     text: &mut [u8],

@@ -38,15 +38,15 @@ eqb-turned : (a b : ℕ) → eqb a b ≡ eqb b a
 eqb-turned a b =
     by-test (eqb a b) (λ t. t ∙ sym (eq-eqb b a (sym (eqb-true a b t)))) (λ t. t ∙ sym (ne-eqb b a (λ z. eqb-false a b t (sym z))))
 
--- ---- All terminals gone through.
--- whether a seat completes a frame of a class at an E
+-- ---- All terminals added.
+-- whether a station completes a frame of a class at an E
 abbrev newly : ℕ → Bool → Station → Bool
 newly class e s = eqb (cond (inF7 s) (accessStepOf e s .done) 0) class
 
 abbrev stationsFrom : List ℕ → ℕ → List Terminal → List Station
 stationsFrom images i ts = mapFrom (stationIn images) i ts
 
--- the exchange with seats gone through
+-- the exchange with stations added
 abbrev through : List Station → Tally → Tally
 through ss m =
     record {
@@ -68,7 +68,7 @@ unfolding foldFrom mapFrom allD anySends goneThrough also completedClass
 gone-through images i m [] = rw (and-true (m .d), or-false (m .info1), or-false (m .info3))
 gone-through images i m (t ∷ ts) = gone-through images (suc i) (goneThrough images i m t) ts ∙ simp (and-assoc, or-assoc)
 
--- ---- The seats.
+-- ---- The stations.
 station-turned : (images : List ℕ) (e : Bool) (i : ℕ) (t : Terminal) → stationAfterE e (stationIn images i t) ≡ stationIn images i (terminalAfterE images e i t)
 unfolding terminalAfterE stationAfterE
 station-turned images e i t = by-test (inF7 (stationIn images i t)) (λ h. rw (terminalAfterE, h)) (λ h. rw (terminalAfterE, h))

@@ -31,7 +31,7 @@ low-bit false t = ne-eqb ((0 + 2 * numberLowFirst t) % 2) 1 (λ z. omega arith)
 turned-one : (x : Bool) (t : List Bool) (b : Bool) → length t ≡ 7 → rotatedBit (numberLowFirst (x ∷ t)) b ≡ numberLowFirst (t ++ ((x || b) ∷ []))
 turned-one x t b l = rw (low-bit x t) (sym (shift-in x t (x || b) l))
 
--- those gone through stand behind those to come
+-- those added stand behind those to come
 turn-part : (xs bs gone : List Bool) → length xs ≡ length bs → length xs + length gone ≡ 8 → turnAll (numberLowFirst (xs ++ gone)) bs ≡ numberLowFirst (gone ++ eitherAll xs bs)
 turn-part [] [] gone e l = rw (append-nil gone)
 turn-part [] (b ∷ bs) gone e l = absurd (omega arith)

@@ -18,7 +18,7 @@ use Rattle.exchange.specs.declared.part.Part.{Part}
 abbrev pub imageBits : ℕ
 imageBits = 8 * imageRoom
 
--- n bits of packed octets from a place on
+-- n bits of packed octets from bit `at` on
 unfoldable pub bitsFrom : List ℕ → ℕ → ℕ → List Bool
 bitsFrom images at zero = []
 bitsFrom images at (suc n) = packedBit images at ∷ bitsFrom images (suc at) n
@@ -27,7 +27,7 @@ bitsFrom images at (suc n) = packedBit images at ∷ bitsFrom images (suc at) n
 unfoldable pub imageOf : List ℕ → ℕ → List Bool
 imageOf images i = cond (ltb i terminals) (bitsFrom images (i * imageBits) imageBits) []
 
--- bit number `sent` of them, 1 where there is none
+-- bit number `sent` of them, from 0; 1 where there is none
 unfoldable pub imageBit : List ℕ → ℕ → ℕ → Bool
 imageBit images i sent = cond (ltb i terminals) (cond (ltb sent imageBits) (packedBit images (i * imageBits + sent)) true) true
 
@@ -39,11 +39,11 @@ stationIn images i t = record { terminal = t; image = imageOf images i; body = [
 unfoldable pub terminalAfterE : List ℕ → Bool → ℕ → Terminal → Terminal
 terminalAfterE images e i t = stationAfterE e (stationIn images i t) .terminal
 
--- the class of the frame that it completes, 0 for none
+-- the class of the frame that it completes at this E, 0 for none
 unfoldable pub completedClass : List ℕ → Bool → ℕ → Terminal → ℕ
 completedClass images e i t = cond (inF7 (stationIn images i t)) (accessStepOf e (stationIn images i t) .done) 0
 
--- the exchange with it gone through
+-- the tally with terminal i added
 unfoldable pub goneThrough : List ℕ → ℕ → Tally → Terminal → Tally
 goneThrough images i m t = also (t .state) (dOf (m .e) (stationIn images i t)) (completedClass images (m .e) i t) m
 

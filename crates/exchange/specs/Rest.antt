@@ -24,7 +24,7 @@ use Rattle.exchange.specs.declared.tally.Letters.{Letters}
 use Rattle.exchange.specs.declared.tally.Tally.{Tally}
 use Rattle.exchange.specs.declared.rest.Rest.{Rest}
 
--- whether an E changes nothing in a terminal, and a 1 leaves it for D
+-- whether an E changes nothing in a terminal, which then sends 1 as its D
 unfoldable pub partRests : Bool → Terminal → Bool
 partRests e t = cond (eqb (t .state) F7) (atRest normal2 (t .access) && e) true
 
@@ -32,12 +32,12 @@ unfoldable pub allRest : Bool → List Terminal → Bool
 allRest e [] = true
 allRest e (t ∷ ts) = partRests e t && allRest e ts
 
--- the states of terminals, from which it is known whether any sends INFO 1, or INFO 3
+-- the states of terminals: they say whether any sends INFO 1, or INFO 3
 abbrev pub statesOf : List Terminal → List ℕ
 statesOf ts = map (λ (t : Terminal). t .state) ts
 
 -- ---- As the code gathers it, for an E of 1 and where none sends INFO 1.
--- no terminal gone through
+-- no terminal looked at yet
 abbrev pub noneGone : Rest
 noneGone = record { still = true; info3 = false }
 
@@ -51,7 +51,7 @@ alsoRests i r t =
 unfoldable pub restOf : List Terminal → Rest
 restOf ts = foldFrom alsoRests 0 noneGone ts
 
--- the E that terminals hear after a hit's letter, where this was the last D heard
+-- the E that the terminals hear, a hit's letter applied to it, where `heardD` is the last D heard
 abbrev pub eSent : ℕ → ℕ → Bool → Bool
 eSent state letter heardD = struckBit letter (sentE state heardD)
 
@@ -62,18 +62,18 @@ onesSent m =
     && eSent (m .state) (m .letters .third) true)
     && eSent (m .state) (m .letters .fourth) true
 
--- whether this is an exchange as its first E comes
+-- whether this is the tally as the first E of a period comes
 unfoldable pub isFirst : Tally → Bool
 isFirst m =
     (((((((((m .ds .first && m .ds .second) && m .ds .third) && m .ds .fourth) && eqb (m .place) 0) && eqb (m .done1) 0)
     && eqb (m .done2) 0)
     && m .e) && m .d) && not (m .info1)) && not (m .info3)
 
--- whether it is enough to look at the terminals
+-- whether it is enough to look whether the terminals rest
 unfoldable pub mayRest : Tally → Bool
 mayRest m = isFirst m && onesSent m
 
--- what it leaves, with whether any terminal sends INFO 1, and INFO 3
+-- what such an exchange leaves, with whether any terminal sends INFO 1, and INFO 3
 abbrev pub restTally : ℕ → Letters → Bool → Bool → Tally
 restTally state letters info1 info3 =
     record {
@@ -90,7 +90,8 @@ restTally state letters info1 info3 =
       info3 = info3;
     }
 
--- ---- The four opportunities, where all terminals rest at each of the four E (proofs/Resting.antt).
+-- ---- The four opportunities, where all terminals rest at each of the four E
+-- (proofs/Resting.antt).
 pub record RestsThrough (state : ℕ) (letters : Letters) (heardD : Bool) (ts : List Terminal) : Type 0 where
   pub first : allRest (eSent state (letters .first) heardD) ts ≡ true
   pub second : allRest (eSent state (letters .second) true) ts ≡ true

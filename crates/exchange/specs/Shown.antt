@@ -34,11 +34,12 @@ lettersAtE (given letters) =
       fourth = getD letters (eIndex 3) keepLetter;
     }
 
--- which terminals have completed a frame of a class in the exchange, as an octet: bit i for terminal i + 1
+-- which terminals have completed a frame of a class in the exchange, as an octet: bit i for
+-- terminal i + 1
 unfoldable pub doneOctet : ℕ → List Sender → ℕ
 doneOctet class ss = numberLowFirst (map (λ (s : Sender). among class (s .done)) ss)
 
--- the exchange of a bus as its first E comes
+-- the tally of a bus as the first E of its period comes
 abbrev pub firstTallyOf : Bus → Tally
 firstTallyOf b = firstTally (b .network .state) (lettersAtE (b .hit)) (b .heardD)
 

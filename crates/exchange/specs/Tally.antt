@@ -1,6 +1,6 @@
--- How the code goes: the exchange of a period as an E comes, in the few values that it takes. Crate
--- `bus_rules` has it by lines (specs/Exchange.antt), and the laws (specs/Quick.antt) by which no
--- line need be built. The law `exchange-shown` (Shown.antt) holds it to crate `bus_rules`.
+-- How the code goes: the exchange of a period as an E comes, in the few values of struct `Tally`.
+-- Crate `bus_rules` has it by lines (specs/Exchange.antt), and the laws (specs/Quick.antt) by which
+-- no line need be built. The law `exchange-shown` (Shown.antt) holds it to crate `bus_rules`.
 -- Interface: `noLetters`, `firstTally`, `begun`, `also`, `dHeard`, `ended`. Assumes nothing.
 use mathlib.Core.Bool.{Bool, true, false, cond, not, _&&_, _||_}
 use Prim.Native.Nat.{ℕ, _+_, _%_}
@@ -18,7 +18,8 @@ use Rattle.exchange.specs.declared.tally.Tally.{Tally}
 abbrev pub noLetters : Letters
 noLetters = record { first = keepLetter; second = keepLetter; third = keepLetter; fourth = keepLetter }
 
--- the exchange as its first E comes
+-- the tally as the first E of a period comes: the network end's state, the letters of a hit at the
+-- four E, and the last D heard
 abbrev pub firstTally : ℕ → Letters → Bool → Tally
 firstTally state letters heardD =
     record {
@@ -35,7 +36,7 @@ firstTally state letters heardD =
       info3 = false;
     }
 
--- the E has come, and no terminal has been gone through
+-- an opportunity begins: its E has come, and no terminal has been added yet
 unfoldable pub begun : Tally → Tally
 begun m =
     record {
@@ -52,11 +53,14 @@ begun m =
       info3 = false;
     }
 
--- a bit for one terminal more: the oldest of eight falls out as the lowest, and comes back on top, 1 if it was or if `now`
+-- an octet with a bit for each terminal, turned by one bit for one terminal more: its lowest bit
+-- comes back on top, as 1 if it was 1 or if `now`. After eight terminals every bit is in its place
+-- again.
 abbrev pub rotatedBit : ℕ → Bool → ℕ
 rotatedBit octet now = shifted octet (eqb (octet % 2) 1 || now)
 
--- one terminal more: its state, its D, and the class of the frame that it has completed at this E, 0 for none
+-- one terminal added: its state, its D, and the class of the frame that it has completed at this E,
+-- 0 for none
 unfoldable pub also : ℕ → Bool → ℕ → Tally → Tally
 also state d done m =
     record {
@@ -77,7 +81,7 @@ also state d done m =
 unfoldable pub dHeard : Tally → Bool
 dHeard m = cond (eqb (m .place) 1 && m .info1) (not (m .d)) (m .d)
 
--- all terminals have been gone through
+-- an opportunity ends: all terminals have been added
 unfoldable pub ended : Tally → Tally
 ended m =
     record {

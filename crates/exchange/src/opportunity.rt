@@ -6,7 +6,7 @@ use super::rest::rest_of;
 use super::tally::Tally;
 use terminal::Terminal;
 
-// One D opportunity: an E that all terminals in F7 hear, and the D after it.
+// Runs one D opportunity: an E that all terminals in F7 hear, and the D after it.
 pub fn opportunity(terminals: &mut [Terminal], images: &[u8], before: Tally) -> Tally
     ensures { λ r. ⌜ r ≡ tallyAfter (now (images .entry)) before (now (terminals .entry)) ⌝ }
     ensures { λ _. ⌜ now (terminals .exit) ≡ terminalsAfter (now (images .entry)) before (now (terminals .entry)) ⌝ }
@@ -23,7 +23,7 @@ pub fn opportunity(terminals: &mut [Terminal], images: &[u8], before: Tally) -> 
     tally.ended()
 }
 
-// The four D opportunities of a period, one after the other.
+// Runs the four D opportunities of a period one after the other.
 fn four_opportunities(terminals: &mut [Terminal], images: &[u8], first: Tally) -> Tally
     ensures { λ r. ⌜ r ≡ tallyAfterFour (now (images .entry)) first (now (terminals .entry)) ⌝ }
     ensures { λ _. ⌜ now (terminals .exit) ≡ terminalsAfterFour (now (images .entry)) first (now (terminals .entry)) ⌝ }
@@ -34,7 +34,8 @@ fn four_opportunities(terminals: &mut [Terminal], images: &[u8], first: Tally) -
     opportunity(terminals, images, fourth)
 }
 
-// The four D opportunities of a period. Where the E are 1 and no terminal takes part, nothing changes.
+// Runs the four D opportunities of a period. Where all E are 1 and no terminal takes part, no
+// terminal changes and D is 1 each time: they are not run one by one.
 pub fn exchange(terminals: &mut [Terminal], images: &[u8], first: Tally) -> Tally
     ensures { λ r. ⌜ r ≡ tallyAfterFour (now (images .entry)) first (now (terminals .entry)) ⌝ }
     ensures { λ _. ⌜ now (terminals .exit) ≡ terminalsAfterFour (now (images .entry)) first (now (terminals .entry)) ⌝ }

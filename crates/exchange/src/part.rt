@@ -8,16 +8,17 @@ use packing::image::packed_bit;
 use table_6_2::F7;
 use terminal::Terminal;
 
-// The bits of one image's room: eight images are lent one after the other, each in octets for the longest.
+// The bits of one image's room: eight images are lent one after the other, each in octets for the
+// longest.
 const IMAGE_BITS: u16 = 8 * IMAGE_ROOM as u16;
 
-// A terminal after its part, and the exchange with it gone through.
+// A terminal after its part, and the tally with it added.
 pub struct Part {
     pub terminal: Terminal,
     pub tally: Tally,
 }
 
-// Bit number `sent` of the image lent with terminal i, from 0; 1 where there is none.
+// Gives bit number `sent`, from 0, of the image lent with terminal i; 1 where there is none.
 pub fn image_bit(images: &[u8], i: usize, sent: u16) -> bool
     ensures { λ r. ⌜ r ≡ imageBit (now (images .entry)) i sent ⌝ }
 {
@@ -29,7 +30,7 @@ pub fn image_bit(images: &[u8], i: usize, sent: u16) -> bool
     true
 }
 
-// Terminal i's part at the E that has come: outside F7 it sends 1.
+// Takes terminal i through the E that has come and adds it to the tally: outside F7 it sends 1.
 pub fn one_part(terminal: Terminal, images: &[u8], i: usize, tally: Tally) -> Part
     ensures { λ r. ⌜ r ≡ taken (now (images .entry)) i tally terminal ⌝ }
 {

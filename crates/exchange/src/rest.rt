@@ -6,13 +6,14 @@ use table_6_2::F7;
 use table_6_2::info_sent;
 use terminal::Terminal;
 
-// Whether no terminal gone through so far takes part in an exchange whose E are 1 nor sends INFO 1, and whether any sends INFO 3.
+// What is known of the terminals looked at so far: `still` is whether none of them takes part in an
+// exchange whose E are 1 and none sends INFO 1, `info3` whether any sends INFO 3.
 pub struct Rest {
     pub still: bool,
     pub info3: bool,
 }
 
-// Whether an E of 1 changes nothing in a terminal, and a 1 leaves it for D.
+// Tests whether an E of 1 changes nothing in a terminal, which then sends 1 as its D.
 pub fn part_rests(terminal: Terminal) -> bool
     ensures { λ r. ⌜ r ≡ partRests true terminal ⌝ }
 {
@@ -21,7 +22,7 @@ pub fn part_rests(terminal: Terminal) -> bool
 }
 
 impl Rest {
-    // No terminal gone through.
+    // Starts with no terminal looked at.
     fn start() -> Self
         ensures { λ r. ⌜ r ≡ noneGone ⌝ }
     {
@@ -31,7 +32,7 @@ impl Rest {
         }
     }
 
-    // One terminal more.
+    // Adds one terminal.
     pub fn also(self, terminal: Terminal) -> Self
         ensures { λ r. ⌜ r ≡ alsoRests 0 self terminal ⌝ }
     {
@@ -43,7 +44,7 @@ impl Rest {
     }
 }
 
-// All terminals.
+// Looks at all terminals.
 pub fn rest_of(terminals: &[Terminal]) -> Rest
     ensures { λ r. ⌜ r ≡ restOf (now (terminals .entry)) ⌝ }
 {

@@ -1,4 +1,5 @@
-// The exchange of a period as an E comes, in the few values that it takes: no symbol is built.
+// What has been gathered of the terminals at a D opportunity, in the few values that the exchange
+// of a period takes: no symbol is built.
 ghost use mathlib.Core.Path.{_≡_};
 ghost use mathlib.Core.Bool.{false, not};
 ghost use Rattle.combining.specs.Hit.{struckBit};
@@ -12,7 +13,7 @@ use frame::fields::Four;
 use packing::bits::shifted;
 use table_6_2::info_sent;
 
-// The letters of a hit at the E that come, keep where there is no hit.
+// The letters of a hit at the four coming E; the keep letter where there is no hit.
 pub struct Letters {
     pub first: u8,
     pub second: u8,
@@ -28,20 +29,21 @@ pub struct Tally {
     pub state: u8,
     // Which of the four opportunities this is, from 0.
     pub place: u8,
-    // Which terminals have completed a frame of class 1 in this period, and of class 2: bit i for terminal i + 1.
+    // Which terminals have completed a frame of class 1 in this period, and of class 2: bit i for
+    // terminal i + 1.
     pub done1: u8,
     pub done2: u8,
-    // The last combined D that the network end heard.
+    // The last combined D that the network end heard, which the next E echoes.
     pub echo: bool,
     // The E that comes, and the AND of the D sent after it so far.
     pub e: bool,
     pub d: bool,
-    // Whether a terminal gone through so far sends INFO 1, and INFO 3.
+    // Whether any terminal added so far sends INFO 1, and INFO 3.
     pub info1: bool,
     pub info3: bool,
 }
 
-// The E that a network end sends in a state, where the last D heard is d.
+// Gives the E that a network end in `state` sends, where `d` is the last D heard.
 fn sent_e(state: u8, d: bool) -> bool
     ensures { λ r. ⌜ r ≡ sentE state d ⌝ }
 {
@@ -49,7 +51,7 @@ fn sent_e(state: u8, d: bool) -> bool
     if info == 4 { d } else { info != 2 }
 }
 
-// A hit's letter applied to a bit.
+// Applies a hit's letter to a bit.
 fn struck_bit(letter: u8, bit: bool) -> bool
     ensures { λ r. ⌜ r ≡ struckBit letter bit ⌝ }
 {
@@ -61,7 +63,8 @@ fn struck_bit(letter: u8, bit: bool) -> bool
 }
 
 impl Tally {
-    // The exchange as its first E comes: the network end's state, the letters at the four E, and the last D heard.
+    // Gives the tally as the first E of a period comes: from the network end's state, the letters
+    // at the four E, and `echo`, the last D heard.
     pub fn first(state: u8, letters: Letters, echo: bool) -> Self
         ensures { λ r. ⌜ r ≡ spec.firstTally state letters echo ⌝ }
     {
@@ -86,7 +89,7 @@ impl Tally {
         }
     }
 
-    // The E has come, and no terminal has been gone through.
+    // Begins an opportunity: its E has come, and no terminal has been added yet.
     pub fn begun(self) -> Self
         ensures { λ r. ⌜ r ≡ spec.begun self ⌝ }
     {
@@ -107,8 +110,9 @@ impl Tally {
         }
     }
 
-    // One terminal more: its state, its D, and the class of the frame that it has completed at this E, 0 for none.
-    // The octets turn by one bit at each terminal: after eight, bit i is terminal i + 1's again.
+    // Adds one terminal: its state, its D, and the class of the frame that it has completed at this
+    // E, 0 for none. The octets turn by one bit at each terminal: after eight, bit i is
+    // terminal i + 1's again.
     pub fn also(self, state: u8, d: bool, done: u8) -> Self
         ensures { λ r. ⌜ r ≡ spec.also state d done self ⌝ }
     {
@@ -130,14 +134,14 @@ impl Tally {
         }
     }
 
-    // The D that the network end hears: INFO 1 inverts that of the second opportunity, D25.
+    // Gives the D that the network end hears: INFO 1 inverts that of the second opportunity, D25.
     fn d_heard(self) -> bool
         ensures { λ r. ⌜ r ≡ spec.dHeard self ⌝ }
     {
         self.d ^ ((self.place == 1) & self.info1)
     }
 
-    // All terminals have been gone through.
+    // Ends an opportunity: all terminals have been added.
     pub fn ended(self) -> Self
         ensures { λ r. ⌜ r ≡ spec.ended self ⌝ }
     {
@@ -170,8 +174,8 @@ impl Tally {
         }
     }
 
-    // Whether the four opportunities must be gone through: one has gone already, or some E is 0, be it for the last D heard, the network
-    // end's state or a hit.
+    // Tests whether the four opportunities must be run one by one: one has been run already, or
+    // some E is 0, be it for the last D heard, the network end's state or a hit.
     pub fn must_exchange(self) -> bool
         ensures { λ r. ⌜ r ≡ not (rest.mayRest self) ⌝ }
     {
@@ -196,7 +200,8 @@ impl Tally {
         !(first & ones)
     }
 
-    // Four opportunities in which D was 1 throughout: no terminal sends INFO 1. `info3` is whether any sends INFO 3.
+    // Gives what four opportunities leave in which D was 1 throughout: no terminal sends INFO 1.
+    // `info3` is whether any sends INFO 3.
     pub fn rested(self, info3: bool) -> Self
         ensures { λ r. ⌜ r ≡ rest.restTally (self .state) (self .letters) false info3 ⌝ }
     {

@@ -16,7 +16,7 @@ pub record BookStored (s : BookState) : Type 0 where
   pub is-book : isBook (bookOctets s) ≡ true
   pub book-state-is : bookStateIn (bookOctets s) ≡ s
 
--- a stand that finds no notes of a period before
+-- a state that finds no notes of a period before
 abbrev pub Settled : BookState → Type 0
 Settled s = s .kept ≡ found (s .kept .bus) (s .kept .terminals) (s .kept .images) (s .kept .octets) (s .kept .letters)
 

@@ -34,7 +34,8 @@ isBook b =
     ((isBus (take busLength b) && leb (getD b (busLength + 1) 0) 1) && leb (getD b (busLength + 2) 0) 1)
     false
 
--- ---- How the code goes: the record of how far a book has come is read from all of its octets, and goes over all but the images.
+-- ---- How the code goes: the record of how far a book has come is read from all of its octets, and
+-- goes over all but the images.
 unfoldable pub progressIn : List ℕ → Progress
 progressIn b =
     record {

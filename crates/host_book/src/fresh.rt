@@ -11,7 +11,7 @@ use bus_octets::layout::BUS_LENGTH;
 use host_bus::fresh::sbus_fresh;
 use note_text::room::put;
 
-// The octets of a book.
+// Gives the number of octets of a book.
 #[no_mangle]
 pub extern "C" fn sbus_book_length() -> usize
     ensures { λ r. ⌜ r ≡ bookLength ⌝ }
@@ -19,7 +19,8 @@ pub extern "C" fn sbus_book_length() -> usize
     BOOK_LENGTH
 }
 
-// A book of which nothing has been read, on a fresh bus: 0, or 1 where what is lent has not the length of a book.
+// Makes a book of which nothing has been read, on a fresh bus. Gives 0, or 1 where what is lent has
+// not the length of a book.
 #[no_mangle]
 pub extern "C" fn sbus_book_fresh(book: &mut [u8]) -> u32
     ensures { λ r. ⌜ r ≡ cond (eqb (length (now (book .entry))) bookLength) 0 1 ⌝ }

@@ -27,7 +27,7 @@ use note_text::room::put;
 // The octets that say how far a call went.
 const WENT: usize = 17;
 
-// How far a book has come.
+// Reads how far a book has come.
 fn progress_in(book: &[u8]) -> Progress
     ensures { λ r. ⌜ r ≡ progressIn (now (book .entry)) ⌝ }
 {
@@ -42,7 +42,7 @@ fn progress_in(book: &[u8]) -> Progress
     }
 }
 
-// How far a book has come goes over its octets, but for the images.
+// Writes how far a book has come over its octets, but for the images.
 fn lay_progress(book: &mut [u8], p: Progress, letters: &[u8], octets: &[u8])
     ensures { λ _. ⌜ now (book .exit) ≡ progressLaid p (now (letters .entry)) (now (octets .entry)) (now (book .entry)) ⌝ }
 {
@@ -83,7 +83,8 @@ fn put_gone_on(went: &mut [u8], taken: usize, wrote: usize, why: u8)
     put(went, both_put, &[why]);
 }
 
-// 1 where the octets lent are no book, 2 where there is no room to say how far the call went, else 0.
+// Gives 1 where the octets lent are no book, 2 where there is no room to say how far the call went,
+// else 0.
 fn going_reason(book: &[u8], went: usize) -> u32
     ensures { λ r. ⌜ r ≡ goingReason (now (book .entry)) went ⌝ }
 {

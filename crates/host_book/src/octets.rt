@@ -14,7 +14,7 @@ pub(crate) const OVER_AT: usize = BUS_LENGTH + 2;
 
 pub(crate) const BOOK_LENGTH: usize = BUS_LENGTH + 3;
 
-// Whether octets are a book.
+// Tests whether octets are a book.
 pub(crate) fn is_book(b: &[u8]) -> bool
     ensures { λ r. ⌜ r ≡ isBook (now (b .entry)) ⌝ }
 {

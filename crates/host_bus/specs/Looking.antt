@@ -29,8 +29,8 @@ countsReply s room = lentReason s (length room) countsLength
 unfoldable pub countsAfter : List ℕ → List ℕ → List ℕ
 countsAfter s room = cond (eqb (countsReply s room) 0) (laid room 0 (countsOf (shown s))) room
 
--- ---- A unit: its state, whether it is aligned, the class of the frame that it holds (0 for none), the bits of that frame's image, and how many
--- of them have left.
+-- ---- A unit: its state, whether it is aligned, the class of the frame that it holds (0 for none),
+-- the bits of that frame's image, and how many of them have left.
 abbrev pub seenLength : ℕ
 seenLength = 7
 

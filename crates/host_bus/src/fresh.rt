@@ -13,7 +13,7 @@ use packing::image::LONGEST_BODY;
 use symbols::LINE_LENGTH;
 use terminal::Terminal;
 
-// The octets of a bus.
+// Gives the number of octets of a bus.
 #[no_mangle]
 pub extern "C" fn sbus_bus_length() -> usize
     ensures { λ r. ⌜ r ≡ busLength ⌝ }
@@ -21,7 +21,7 @@ pub extern "C" fn sbus_bus_length() -> usize
     BUS_LENGTH
 }
 
-// A fresh bus: 0, or 1 where what is lent has not the length of a bus.
+// Makes a fresh bus. Gives 0, or 1 where what is lent has not the length of a bus.
 #[no_mangle]
 pub extern "C" fn sbus_fresh(bus: &mut [u8]) -> u32
     ensures { λ r. ⌜ r ≡ cond (eqb (length (now (bus .entry))) busLength) 0 1 ⌝ }

@@ -3,7 +3,7 @@ ghost use mathlib.Core.Path.{_≡_};
 ghost use Rattle.host_bus.specs.Lent.{lentReason};
 use bus_octets::test::is_bus;
 
-// 1 where the octets lent are no bus, 2 where the room lent is less than is needed, else 0.
+// Gives 1 where the octets lent are no bus, 2 where the room lent is less than is needed, else 0.
 pub fn lent_reason(bus: &[u8], room: usize, needed: usize) -> u32
     ensures { λ r. ⌜ r ≡ lentReason (now (bus .entry)) room needed ⌝ }
 {

@@ -13,15 +13,16 @@ use note_text::low::put_word;
 use note_text::room::put;
 use terminal::Terminal;
 
-// The octets of the counts, and those of a unit.
+// How many octets the counts take, and how many a unit.
 const COUNTS: usize = 8;
 
 const SEEN: usize = 7;
 
-// The highest unit number: a terminal's.
+// The highest unit number: that of the last terminal.
 const LAST_UNIT: u32 = TERMINALS as u32;
 
-// Periods run and D opportunities run: 0, or 1 or 2 where less than eight octets are lent for them.
+// Writes the periods run and the D opportunities run. Gives 0; 1 where the octets are no bus; 2
+// where less than eight octets are lent for the counts.
 #[no_mangle]
 pub extern "C" fn sbus_counts(bus: &[u8], counts: &mut [u8]) -> u32
     ensures { λ r. ⌜ r ≡ countsReply (now (bus .entry)) (now (counts .entry)) ⌝ }
@@ -37,7 +38,7 @@ pub extern "C" fn sbus_counts(bus: &[u8], counts: &mut [u8]) -> u32
     0
 }
 
-// The network end holds no frame.
+// Gives what is shown of the network end, which holds no frame.
 fn network_seen(n: Network) -> [u8; SEEN]
     ensures { λ r. ⌜ r ≡ networkSeen n ⌝ }
 {
@@ -72,7 +73,8 @@ fn unit_seen(bus: &[u8], unit: u32) -> [u8; SEEN]
     terminal_seen(t)
 }
 
-// A unit's state, alignment and held frame: 0, or 1, 2 where less than seven octets are lent for them, or 3.
+// Writes a unit's state, alignment and held frame. Gives 0; 1 where the octets are no bus; 2 where
+// less than seven octets are lent for them; 3 where the unit is above 8.
 #[no_mangle]
 pub extern "C" fn sbus_unit(bus: &[u8], unit: u32, seen: &mut [u8]) -> u32
     ensures { λ r. ⌜ r ≡ unitReply unit (now (bus .entry)) (now (seen .entry)) ⌝ }

@@ -31,16 +31,17 @@ unfoldable pub AllOctetsGiven : List HostCall → Type 0
 AllOctetsGiven [] = Unit
 AllOctetsGiven (x ∷ more) = OctetsGiven x × AllOctetsGiven more
 
--- Of a part `during` of a host's list: it makes a part of the list of document 01's calls, and hands back exactly the notes that the rules give
--- for it.
+-- What holds of a part `during` of a host's list: it makes a part of the list of document 01's
+-- calls, and hands back exactly the notes that the rules give for it.
 pub record PartHandsBack (before during after : List HostCall) : Type 0 where
   pub in-calls : madeBy freshOctets (before ++ (during ++ after))
       ≡ madeBy freshOctets before ++ (madeBy (leftBy freshOctets before) during ++ madeBy (leftBy (leftBy freshOctets before) during) after)
   pub notes-of-part : HandBack (leftBy freshOctets before) during
       (notesOfAll (afterAll freshBus (madeBy freshOctets before)) (madeBy (leftBy freshOctets before) during))
 
--- Of a host's list: each call is as the rules have it; the sentences of demand 3 hold of every stretch of the calls that it makes, also of one that
--- begins or ends inside a run; and its parts hand back their notes.
+-- What holds of a host's list: each call is as the rules have it; the sentences of demand 3 hold of
+-- every stretch of the calls that it makes, also of one that begins or ends inside a run; and its
+-- parts hand back their notes.
 pub record ClaimedOnHostCalls (calls : List HostCall) : Type 0 where
   pub stepped : SteppedAll freshBus freshOctets calls
   pub claims : (before during after : List Call) → madeBy freshOctets calls ≡ before ++ (during ++ after)

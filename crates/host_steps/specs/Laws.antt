@@ -17,7 +17,8 @@ use Rattle.host_bus.specs.Fresh.{freshOctets}
 use Rattle.host_steps.specs.Stepping.{notesOctets, notesRoom, hostReply, hostBus, hostNotes, mostTo, hostRunReply, hostRunBus}
 use Rattle.host_steps.specs.Stepping.{hostRunNotes}
 
--- "The number comes back alone; record and lent buffers keep their contents": of whatever octets and whatever room are lent.
+-- "The number comes back alone; record and lent buffers keep their contents": of whatever octets
+-- and whatever room are lent.
 pub record Untouched (s room s′ room′ : List ℕ) : Type 0 where
   pub bus-stays : s′ ≡ s
   pub notes-stay : room′ ≡ room
@@ -29,14 +30,16 @@ abbrev pub RefusedRunKeeps : Type 0
 RefusedRunKeeps =
     (s room : List ℕ) (most : ℕ) → (hostRunReply s room most ≡ 0 → ⊥) → Untouched s room (hostRunBus s room most) (hostRunNotes s room most)
 
--- ---- The notes of any call, with their end, fit into the room that is asked for: nothing of them is left out.
+-- ---- The notes of any call, with their end, fit into the room that is asked for: nothing of them
+-- is left out.
 abbrev pub NotesFit : Type 0
 NotesFit = (s : List ℕ) (c : Call) → isBus s ≡ true → length (notesOctets (notesTold (shown s) c)) ≤ notesRoom
 
 abbrev pub RunNotesFit : Type 0
 RunNotesFit = (s : List ℕ) (most : ℕ) → isBus s ≡ true → length (notesOctets (runTold most (shown s))) ≤ notesRoom
 
--- ---- They lose nothing as octets, and the octets determine them: other notes have other octets, whatever stands behind their ends.
+-- ---- As octets these notes lose nothing, and their octets determine them: different notes have
+-- different octets, whatever stands behind the end of the notes.
 abbrev pub NotesFitOctets : Type 0
 NotesFitOctets = (s : List ℕ) (c : Call) → isBus s ≡ true → AllFitOctets (notesTold (shown s) c)
 
@@ -48,15 +51,16 @@ NotesDetermined =
     (ns ms : List Note) (behind behind′ : List ℕ) → AllFitOctets ns → AllFitOctets ms → notesOctets ns ++ behind ≡ notesOctets ms ++ behind′
     → (ns ≡ ms) × (behind ≡ behind′)
 
--- ---- A run after which the first octet of the notes is their end has come to as many periods as were asked for, where the bus was not past them, or
--- to 4,000,000.
+-- ---- A run that hands back no notes, so that the first octet lent for them is their end, has come
+-- to `until` periods run, or to 4,000,000; where `until` or more had been run before, it runs none.
 abbrev pub QuietRunEnds : Type 0
 QuietRunEnds =
     (s room : List ℕ) (until : ℕ) → hostRunReply s room (mostTo until s) ≡ 0 → getD (hostRunNotes s room (mostTo until s)) 0 0 ≡ 0
     → shown (hostRunBus s room (mostTo until s)) .bus .periods .0 ≡ min (max until (shown s .bus .periods .0)) mostPeriods
 
--- ---- Lists of a host's calls on a fresh bus: an event or a period, or a run until so many periods have been run, each with what is lent for its
--- notes, of any length and contents.
+-- ---- Lists of a host's calls on a fresh bus: an event or a period, or a run until a given number
+-- of periods have been run in all, each with what is lent for its notes, of any length and
+-- contents.
 pub data HostCall : Type 0 where
   step : Call → List ℕ → HostCall
   runTo : ℕ → List ℕ → HostCall
@@ -78,13 +82,13 @@ unfoldable pub notesAfter : List ℕ → HostCall → List ℕ
 notesAfter s (step c room) = hostNotes s room c
 notesAfter s (runTo until room) = hostRunNotes s room (mostTo until s)
 
--- The calls of crate `bus_call_specs` (specs/Lists.antt) that it asks for, with their own places for notes: a run for as many periods as it
--- runs.
+-- The calls of crate `bus_call_specs` (specs/Lists.antt) that it asks for, with their own places
+-- for notes: a run asks for one call for each period that it runs.
 unfoldable pub asked : List ℕ → HostCall → List LentCall
 asked s (step c room) = lend c ∷ []
 asked s (runTo until room) = callsIn (mostTo until s) (shown s)
 
--- With too little room for notes it makes none of them.
+-- With too little room for notes it makes none of them: `short` is given in place of `enough`.
 abbrev pub shortOf : {A : Type 0} → A → HostCall → A → A
 shortOf short x enough = cond (ltb (length (roomOf x)) notesRoom) short enough
 
@@ -92,12 +96,14 @@ shortOf short x enough = cond (ltb (length (roomOf x)) notesRoom) short enough
 unfoldable pub callsOfHost : List ℕ → HostCall → List Call
 callsOfHost s x = shortOf [] x (made (asked s x))
 
--- of a run the first period is refused or none; a run of no periods is not refused
+-- the reply is that of the first of these calls: of a run the first period alone can be refused; a
+-- run of no periods is not refused
 unfoldable pub firstReply : Bus → List Call → ℕ
 firstReply b [] = 0
 firstReply b (c ∷ more) = reply b c
 
--- The notes that a call hands back: where it is not refused they stand at the front of what was lent, whole, with their end; else there are none.
+-- The notes that a call hands back: where it is not refused they stand at the front of what was
+-- lent, whole, with their end; else there are none.
 pub record HandsBack (s : List ℕ) (x : HostCall) (notes : List Note) : Type 0 where
   pub written : replyTo s x ≡ 0 → take (length (notesOctets notes)) (notesAfter s x) ≡ notesOctets notes
   pub none : (replyTo s x ≡ 0 → ⊥) → notes ≡ []
@@ -107,8 +113,8 @@ abbrev pub HandsBackOne : Type 0
 HandsBackOne =
     (s : List ℕ) (x : HostCall) (ns ms : List Note) → AllFitOctets ns → AllFitOctets ms → HandsBack s x ns → HandsBack s x ms → ns ≡ ms
 
--- Every call gives the reply and the notes of document 01's rules for the calls that it stands for (crate `bus_rules`, specs/Calls.antt); with too little
--- room for notes the reply is 2.
+-- Every call gives the reply and the notes of document 01's rules for the calls that it stands for
+-- (crate `bus_rules`, specs/Calls.antt); with too little room for notes the reply is 2.
 pub record SteppedBy (b : Bus) (s : List ℕ) (x : HostCall) : Type 0 where
   pub replies : replyTo s x ≡ shortOf 2 x (firstReply b (callsOfHost s x))
   pub tells : HandsBack s x (notesOfAll b (callsOfHost s x))
@@ -121,7 +127,7 @@ pub record OctetsCarry (s : List ℕ) (b : Bus) : Type 0 where
   pub is-bus : isBus s ≡ true
   pub carries : Carries (shown s) b
 
--- values are octets
+-- the value of an event holds octets
 abbrev pub OctetsGiven : HostCall → Type 0
 OctetsGiven (step c room) = OctetValue c
 OctetsGiven (runTo until room) = Unit

@@ -19,7 +19,8 @@ use Rattle.period_text.specs.PeriodText.{periodOctetsRoom}
 use Rattle.bus_octets.specs.Layout.{busOctets, shown}
 use Rattle.host_bus.specs.Lent.{lentReason}
 
--- ---- Notes as octets (crate `note_text`, specs/NoteOctets.antt), one behind the other; 0 in the place of a code ends them.
+-- ---- Notes as octets (crate `note_text`, specs/NoteOctets.antt), one behind the other; 0 in the
+-- place of a code ends them.
 unfoldable pub notesOctets : List Note → List ℕ
 notesOctets notes = notesIn Octets notes ++ (0 ∷ [])
 
@@ -27,8 +28,9 @@ notesOctets notes = notesIn Octets notes ++ (0 ∷ [])
 abbrev pub notesRoom : ℕ
 notesRoom = periodOctetsRoom + 1
 
--- ---- A call with so much room for notes on octets s that stand for a bus: where 1 and 2 do not hold, the reply, what it leaves and its notes are
--- those of the call on that bus; a refused call changes nothing.
+-- ---- A call on octets s that stand for a bus, with `room` for its notes: where 1 and 2 do not
+-- hold, the reply, what it leaves and its notes are those of the call on that bus; a refused call
+-- changes nothing.
 module _ (s room : List ℕ) where
   abbrev pub reason : ℕ
   reason = lentReason s (length room) notesRoom
@@ -52,11 +54,12 @@ hostBus s room c = busWith s room (called (shown s) c)
 unfoldable pub hostNotes : List ℕ → List ℕ → Call → List ℕ
 hostNotes s room c = notesWith s room (replied (shown s) c) (notesTold (shown s) c)
 
--- the code passes the number of an event on as an octet: what is above one is no event, as 0 is none
+-- the code passes the number of an event on as an octet: what is above one is no event, as 0 is
+-- none
 abbrev pub eventNumber : ℕ → ℕ
 eventNumber number = cond (ltb number 256) number 0
 
--- ---- A run, until so many periods have been run since the bus was fresh or one hands back notes.
+-- ---- A run, until `until` periods have been run since the bus was fresh or one hands back notes.
 abbrev pub mostTo : ℕ → List ℕ → ℕ
 mostTo until s = until - shown s .bus .periods .0
 

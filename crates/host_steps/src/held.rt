@@ -16,7 +16,7 @@ use bus_octets::shown::octets_in;
 use bus_octets::shown::record_in;
 use bus_octets::shown::terminals_in;
 
-// An event.
+// Gives an event to the bus that octets s stand for.
 pub(crate) fn give(s: &mut [u8], unit: u32, event: u8, value: &[u8]) -> Told
     requires { ⌜ isBus (now s) ≡ true ⌝ }
     ensures { λ r. ⌜ r ≡ told unit event (now (value .entry)) (shown (now (s .entry))) ⌝ }
@@ -35,7 +35,7 @@ pub(crate) fn give(s: &mut [u8], unit: u32, event: u8, value: &[u8]) -> Told
     told
 }
 
-// A run of periods.
+// Runs at most `most` periods of the bus that octets s stand for.
 pub(crate) fn go(s: &mut [u8], most: u32) -> HeldRun
     requires { ⌜ isBus (now s) ≡ true ⌝ }
     ensures { λ r. ⌜ r .answer ≡ runAnswer most (shown (now (s .entry))) ⌝ }

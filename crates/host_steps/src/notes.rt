@@ -24,7 +24,7 @@ pub extern "C" fn sbus_notes_length() -> usize
     NOTES_LENGTH
 }
 
-// The notes of an event.
+// Puts the notes of an event.
 pub(crate) fn put_told(room: &mut [u8], period: u32, unit: u32, notes: Notes)
     ensures { λ _. ⌜ now (room .exit) ≡ laid (now (room .entry)) 0 (notesOctets (notesOf period unit (noted notes))) ⌝ }
 {
@@ -32,14 +32,14 @@ pub(crate) fn put_told(room: &mut [u8], period: u32, unit: u32, notes: Notes)
     put(room, wrote, &[0]);
 }
 
-// The first number less the second; 0 where the second is more.
+// Gives the first number less the second; 0 where the second is more.
 pub(crate) fn less(a: u32, b: u32) -> u32
     ensures { λ r. ⌜ r ≡ a - b ⌝ }
 {
     if a < b { 0 } else { a - b }
 }
 
-// The notes of a run: those of its last period.
+// Puts the notes of a run: those of its last period.
 pub(crate) fn put_run(room: &mut [u8], answer: RunAnswer, notes: [UnitNotes; 8], octets: &[u8])
     ensures { λ _. ⌜ now (room .exit)
         ≡ laid (now (room .entry)) 0 (notesOctets (periodTold (answer .bus .periods .0 - 1) answer notes (now (octets .entry)))) ⌝ }

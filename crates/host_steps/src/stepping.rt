@@ -1,4 +1,5 @@
-// Stepping a bus that is lent as octets: an event, a period, a run of periods. The notes come back as octets in lent room.
+// Stepping a bus that is lent as octets: an event, a period, a run of periods. The notes come back
+// as octets in lent room.
 ghost use mathlib.Core.Path.{_≡_};
 ghost use Rattle.bus_rules.specs.Calls.Call.{event as eventCall, period as periodCall};
 ghost use Rattle.host_steps.specs.Stepping as spec;
@@ -13,14 +14,14 @@ use bus_octets::layout::OCTETS_AT;
 use bus_octets::shown::record_in;
 use host_bus::lent::lent_reason;
 
-// The number of an event; 0, which is none, for what is above an octet.
+// Gives the number of an event as an octet; 0, which is none, for what is above an octet.
 fn event_number(event: u32) -> u8
     ensures { λ r. ⌜ r ≡ spec.eventNumber event ⌝ }
 {
     if event < 256 { event as u8 } else { 0 }
 }
 
-// The number of a refusal.
+// Gives the number of a refusal in the host's width.
 fn number(reply: u8) -> u32
     ensures { λ r. ⌜ r ≡ reply ⌝ }
 {
@@ -54,7 +55,7 @@ pub extern "C" fn sbus_event(
     0
 }
 
-// Runs at most so many periods.
+// Runs at most `most` periods.
 fn run_most(bus: &mut [u8], notes: &mut [u8], most: u32) -> u32
     ensures { λ r. ⌜ r ≡ spec.hostRunReply (now (bus .entry)) (now (notes .entry)) most ⌝ }
     ensures { λ _. ⌜ now (bus .exit) ≡ spec.hostRunBus (now (bus .entry)) (now (notes .entry)) most ⌝ }
@@ -84,7 +85,7 @@ pub extern "C" fn sbus_period(bus: &mut [u8], notes: &mut [u8]) -> u32
     run_most(bus, notes, 1)
 }
 
-// Runs periods until so many have been run since the bus was fresh or one hands back notes.
+// Runs periods until `until` of them have been run since the bus was fresh or one hands back notes.
 #[no_mangle]
 pub extern "C" fn sbus_run(bus: &mut [u8], notes: &mut [u8], until: u32) -> u32
     ensures { λ r. ⌜ r ≡ spec.hostRunReply (now (bus .entry)) (now (notes .entry)) (spec.mostTo until (now (bus .entry))) ⌝ }

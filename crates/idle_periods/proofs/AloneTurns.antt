@@ -1,4 +1,4 @@
--- A run of periods in which one terminal sends alone (crate `lone`) is a turn of a run's loop: `specs/Turn.antt`.
+-- A run of periods in which one terminal sends alone (crate `lone_sender`) is a turn of a run's loop: `specs/Turn.antt`.
 use mathlib.Core.Path.{_≡_, refl, ap, _∙_}
 use mathlib.Core.Bool.{true, _&&_}
 use mathlib.Core.List.{List, [], _∷_}

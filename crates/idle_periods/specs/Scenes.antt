@@ -30,7 +30,8 @@ use Rattle.bus_record.specs.declared.record.BusRecord.{BusRecord}
 use Rattle.idle_periods.specs.Still.{quiet, farthest, firstAhead, overWith, alsoAhead, reached, reach, countedOver, leapt}
 
 -- ---- Units.
--- a network end in a state, aligned or not, after 1,000 periods, with T1 and T2 due at periods and a reader
+-- a network end in `state`, aligned or not, after 1,000 periods, with T1 due at period `t1`, T2 at
+-- period `t2`, and a reader
 abbrev bus : ℕ → Bool → ℕ → ℕ → Reader → BusRecord
 bus state aligned t1 t2 reader =
     record {
@@ -50,7 +51,7 @@ counting count held = record { length = 0; sent = 0; count = count; held = held;
 abbrev low : Access
 low = record { length = 0; sent = 0; count = 11; held = 0; low1 = false; low2 = true; last = true }
 
--- a terminal in a state with that access, aligned or not, and with T3 due at a period
+-- a terminal in `state` with that access, aligned or not, and with T3 due at period `t3`
 abbrev unit : ℕ → Bool → ℕ → Access → Terminal
 unit state aligned t3 access = record { t3 = t3; access = access; state = state; alignment = record { aligned = aligned; run = 0 } }
 

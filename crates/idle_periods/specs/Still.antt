@@ -30,8 +30,9 @@ use Rattle.idle_periods.specs.declared.ahead.Ahead.{Ahead}
 unfoldable pub quiet : BusRecord → Bool
 quiet b = (not (b .hit) && b .echo) && cond (eqb (b .network .state) G3) (readerWaits (b .reader)) true
 
--- its own timers, and the number of periods left: one of them stays to be run after the step. The last period that a bus can run bounds it
--- as a timer does. 0 where the bus is not quiet.
+-- as far as its own timers and `left`, the periods left to run, allow: one of these stays to be run
+-- after the step. The last period that a bus can run bounds it as a timer does. 0 where the bus is
+-- not quiet.
 unfoldable pub farthest : BusRecord → ℕ → ℕ
 farthest b left =
     let now = b .periods .0 in
@@ -41,7 +42,8 @@ farthest b left =
 unfoldable pub firstAhead : BusRecord → ℕ → Ahead
 firstAhead b left = record { over = farthest b left; now = b .periods; line = shownBy (b .network .state); info1 = false; info3 = false }
 
--- a terminal takes no part in the exchange and hears what it has heard before, until its timer is due
+-- as far as one terminal more allows: it takes no part in the exchange and hears what it heard
+-- before, until its timer is due
 unfoldable pub overWith : Ahead → Terminal → ℕ
 overWith a t = cond (rests (a .line) t && partRests true t) (clear (a .now .0) (a .over) (t .t3)) 0
 
@@ -50,15 +52,17 @@ alsoAhead i a t =
     let info = infoIn infoSent (t .state) in
     record { over = overWith a t; now = a .now; line = a .line; info1 = a .info1 || eqb info 1; info3 = a .info3 || eqb info 3 }
 
--- the network end hears what it has heard before
+-- as far as all units allow: the network end hears what it heard before
 unfoldable pub reached : Network → Ahead → ℕ
 reached n a = cond (networkRests (shownFrom (a .info1) (a .info3)) n) (a .over) 0
 
--- as far as the bus is found still, with so many periods left to run; 0 where it is not
+-- how many periods the bus is found still for, with `left` periods left to run; 0 where it is not
+-- still
 unfoldable pub reach : BusRecord → List Terminal → ℕ → ℕ
 reach b ts left = reached (b .network) (foldFrom alsoAhead 0 (firstAhead b left) ts)
 
--- ---- The step: so many periods more, in G3 four times as many D opportunities, and all else as it was.
+-- ---- The step: `over` periods more, in G3 four times as many D opportunities, and all else as it
+-- was.
 -- (No count that a bus can have is above the bounds.)
 unfoldable pub countedOver : ℕ → ℕ → Opportunities → Opportunities
 countedOver state over o =

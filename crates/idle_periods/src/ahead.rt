@@ -1,4 +1,4 @@
-// How far a bus is still, gathered from its units by value.
+// How far a bus is still, gathered by value from its units.
 ghost use mathlib.Core.Path.{_≡_};
 ghost use Prim.Native.Nat.{_-_};
 ghost use Rattle.idle_periods.specs.Still as spec;
@@ -18,7 +18,7 @@ use timing::counts::MOST_PERIODS;
 use timing::counts::Periods;
 use timing::timers::clear;
 
-// As far as the units gone through allow.
+// How far a bus is still, as far as the units looked at so far allow.
 pub struct Ahead {
     // How many periods are one step.
     pub over: u32,
@@ -31,7 +31,7 @@ pub struct Ahead {
     pub info3: bool,
 }
 
-// Whether no hit is pending, D was 1, and in G3 the reader waits.
+// Tests whether no hit is pending, D was 1, and in G3 the reader waits.
 fn quiet(bus: BusRecord) -> bool
     ensures { λ r. ⌜ r ≡ spec.quiet bus ⌝ }
 {
@@ -39,14 +39,15 @@ fn quiet(bus: BusRecord) -> bool
     !bus.hit & bus.echo & ((bus.network.state != G3) | waits(reader))
 }
 
-// One less, or 0.
+// Gives one less than n, or 0.
 fn one_less(n: u32) -> u32
     ensures { λ r. ⌜ r ≡ n - 1 ⌝ }
 {
     if n == 0 { 0 } else { n - 1 }
 }
 
-// As far as the network end's own timers and the number of periods left allow; one of these stays to be run.
+// Gives how far the network end's own timers and `left`, the periods left to run, allow; one of
+// these stays to be run.
 fn farthest(bus: BusRecord, left: u32) -> u32
     ensures { λ r. ⌜ r ≡ spec.farthest bus left ⌝ }
 {
@@ -63,7 +64,7 @@ fn farthest(bus: BusRecord, left: u32) -> u32
 }
 
 impl Ahead {
-    // The network end, and no terminal gone through.
+    // Starts with the network end: no terminal has been looked at.
     pub fn first(bus: BusRecord, left: u32) -> Self
         ensures { λ r. ⌜ r ≡ spec.firstAhead bus left ⌝ }
     {
@@ -78,7 +79,8 @@ impl Ahead {
         }
     }
 
-    // As far as one terminal more allows: it takes no part in the exchange and hears what it has heard before, until its timer is due.
+    // Gives how far one terminal more allows: it takes no part in the exchange and hears what it
+    // heard before, until its timer is due.
     fn over_with(self, terminal: Terminal) -> u32
         ensures { λ r. ⌜ r ≡ spec.overWith self terminal ⌝ }
     {
@@ -90,7 +92,7 @@ impl Ahead {
         }
     }
 
-    // One terminal more.
+    // Adds one terminal.
     pub fn also(self, terminal: Terminal) -> Self
         ensures { λ r. ⌜ r ≡ spec.alsoAhead 0 self terminal ⌝ }
     {
@@ -106,7 +108,8 @@ impl Ahead {
         }
     }
 
-    // All terminals gone through.
+    // Gives how far the bus is still, once all terminals have been added: 0 unless the network end
+    // hears what it heard before.
     pub fn reached(self, network: Network) -> u32
         ensures { λ r. ⌜ r ≡ spec.reached network self ⌝ }
     {

@@ -7,7 +7,7 @@ use timing::counts::MOST_PERIODS;
 use timing::counts::Opportunities;
 use timing::counts::Periods;
 
-// Four D opportunities for each of so many periods in G3.
+// Counts four D opportunities more for each of `over` periods in G3, elsewhere none.
 fn counted_over(state: u8, over: u32, opportunities: Opportunities) -> Opportunities
     ensures { λ r. ⌜ r ≡ spec.countedOver state over opportunities ⌝ }
 {
@@ -18,7 +18,8 @@ fn counted_over(state: u8, over: u32, opportunities: Opportunities) -> Opportuni
     }
 }
 
-// So many periods more, in G3 four times as many D opportunities, and all else as it was.
+// Steps over `over` periods: they count as run, in G3 four times as many D opportunities, and all
+// else stays as it was.
 pub fn leapt(bus: BusRecord, over: u32) -> BusRecord
     ensures { λ r. ⌜ r ≡ spec.leapt over bus ⌝ }
 {

@@ -5,8 +5,8 @@ use super::ahead::Ahead;
 use bus_record::record::BusRecord;
 use terminal::Terminal;
 
-// As many periods as are one step, with so many left to run: one stays to be run after it. 0 where the bus is not still; most often the
-// bus record alone says so.
+// Gives how many periods are one step, with `left` periods left to run: one of these stays to be
+// run after it. 0 where the bus is not still; most often the bus record alone says so.
 pub fn reach(bus: BusRecord, terminals: &[Terminal], left: u32) -> u32
     ensures { λ r. ⌜ r ≡ spec.reach bus (now (terminals .entry)) left ⌝ }
 {

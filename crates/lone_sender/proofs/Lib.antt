@@ -1,4 +1,4 @@
--- One opportunity and four of them, alone (SoloFour); the loop over such periods (AloneLoop); what a search that finds one has
+-- One opportunity and four of them, alone (LoneFour); the loop over such periods (AloneLoop); what a search that finds one has
 -- shown (FoundAlone); a period alone (Period); the structs of the walks (Structs).
 pub mod LoneFour
 pub mod AloneLoop

@@ -1,4 +1,4 @@
--- Where one terminal sends alone, the opportunities over all terminals are those of the sender: `lone-four` (specs/Solo.antt).
+-- Where one terminal sends alone, the opportunities over all terminals are those of the sender: `lone-four` (specs/Lone.antt).
 use mathlib.Core.Path.{_≡_, refl, _∙_, ap}
 use mathlib.Core.Bool.{Bool, true, false, cond, not, _&&_, _||_, and-true, or-true, and-false}
 use mathlib.Core.List.{List, [], _∷_}

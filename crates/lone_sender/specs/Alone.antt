@@ -16,8 +16,8 @@ use Rattle.lone_sender.specs.Lone.{loneAfterFour, loneGoes, loneTally}
 use Rattle.lone_sender.specs.declared.lone.LoneSender.{LoneSender}
 use Rattle.lone_sender.specs.declared.alone.Alone.{Alone}
 
--- whether a period more is run: the last one has no note, INFO 4 is sent without a hit, the E that comes is the sender's last bit, and it
--- goes on alone
+-- whether a period more is run: the last one has no note, INFO 4 is sent without a hit, the E that
+-- comes is the sender's last bit, and the sender goes on alone (`goes`)
 unfoldable pub staysAlone : RunAnswer → LoneSender → Bool → Bool
 staysAlone last s goes =
     let bus = last .bus in
@@ -27,7 +27,7 @@ staysAlone last s goes =
 unfoldable pub goesAlone : List ℕ → Alone → Bool
 goesAlone images a = staysAlone (a .answer) (a .lone) (loneGoes images (a .lone))
 
--- the period
+-- the exchange of the coming period
 abbrev pub tallyThen : List ℕ → Alone → Tally
 tallyThen images a = loneTally images (a .answer .bus .network .state) (a .lone)
 
@@ -52,7 +52,7 @@ octetsOn images zero a octets = octets
 octetsOn images (suc n) a octets =
     cond (goesAlone images a) (octetsOn images n (aloneAfter images a octets) (octetsThen images a octets)) octets
 
--- the call: nothing has been run yet
+-- what a call starts from: nothing has been run yet
 abbrev pub notYet : BusRecord → LoneSender → Alone
 notYet bus s = record { answer = refusedRun 0 bus; lone = s; over = 0 }
 

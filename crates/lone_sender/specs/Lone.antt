@@ -42,7 +42,8 @@ loneAfterE images s =
       last = loneBit images s;
     }
 
--- whether it leaves, and nothing else happens: at a C below the lowest threshold no frame starts, and no level returns to normal
+-- whether that bit leaves, and nothing else happens: at a C below the lowest threshold no frame
+-- starts, and no level returns to normal
 unfoldable pub loneSends : LoneSender → Bool
 loneSends s = (ltb 0 (s .sent) && ltb (s .sent) (s .length)) && ltb (countedAt s) normal1
 
@@ -70,7 +71,7 @@ loneGoes images s =
 abbrev pub loneStep : List ℕ → LoneSender → LoneStep
 loneStep images s = record { lone = loneAfterFour images s; ds = loneBits images s; goes = loneGoes images s }
 
--- ---- The exchange that they leave: no hit, no frame completed, no INFO 1; the last E is the third D.
+-- ---- The tally that they leave: no hit, no frame completed, no INFO 1; the last E is the third D.
 unfoldable pub tallyOf : ℕ → Four → Tally
 tallyOf state ds =
     record {
@@ -91,7 +92,7 @@ abbrev pub loneTally : List ℕ → ℕ → LoneSender → Tally
 loneTally images state s = tallyOf state (loneBits images s)
 
 -- ---- The terminals.
--- the D access of terminal i in F7 as the run has it, from what it was at its start
+-- the D access of terminal i in F7 as the run has it, from what it was at the run's start
 abbrev pub followedAccess : LoneSender → ℕ → Access → Access
 followedAccess s i a =
     record {
@@ -104,21 +105,21 @@ followedAccess s i a =
       last = cond (eqb i (s .at)) (s .last) (a .last);
     }
 
--- the terminal
+-- terminal i as the run has it
 unfoldable pub followed : LoneSender → ℕ → Terminal → Terminal
 followed s i t =
     cond (eqb (t .state) F7)
     (record { t3 = t .t3; access = followedAccess s i (t .access); state = t .state; alignment = t .alignment })
     t
 
--- what is asked of terminal i where the one at an index sends an image of a length: it sends no INFO 1, and in F7 it is that one, with that
--- length, or does not send
+-- what is asked of terminal i where terminal `at` sends an image of `length` bits: it sends no
+-- INFO 1, and in F7 it either is terminal `at`, with an image of that length, or sends nothing
 unfoldable pub loneStation : ℕ → ℕ → ℕ → Terminal → Bool
 loneStation at length i t =
     not (eqb (infoIn infoSent (t .state)) 1)
     && cond (eqb (t .state) F7) (cond (eqb i at) (eqb (t .access .length) length) (eqb (t .access .sent) 0)) true
 
--- all of them, the first being terminal i
+-- the same of all of them, the first being terminal i
 unfoldable pub loneStations : ℕ → ℕ → ℕ → List Terminal → Bool
 loneStations at length i [] = true
 loneStations at length i (t ∷ ts) = loneStation at length i t && loneStations at length (suc i) ts
@@ -128,7 +129,8 @@ unfoldable pub senderIn : ℕ → ℕ → List Terminal → Bool
 senderIn at i [] = false
 senderIn at i (t ∷ ts) = cond (eqb i at) (eqb (t .state) F7) (senderIn at (suc i) ts)
 
--- ---- While INFO 4 is sent, the four opportunities over all terminals are those of the sender (proofs/SoloFour.antt).
+-- ---- While INFO 4 is sent, the four opportunities over all terminals are those of the sender
+-- (proofs/LoneFour.antt).
 pub record FourAlone (images : List ℕ) (state : ℕ) (s : LoneSender) (ts : List Terminal) : Type 0 where
   pub tally-is : tallyAfterFour images (firstTally state noLetters (s .last)) (mapFrom (followed s) 0 ts) ≡ loneTally images state s
   pub terminals-are : terminalsAfterFour images (firstTally state noLetters (s .last)) (mapFrom (followed s) 0 ts)

@@ -18,7 +18,8 @@ use Rattle.lone_sender.specs.Alone.{goesAlone}
 use Rattle.lone_sender.specs.Search.{allHearAlike, AllClear}
 use Rattle.lone_sender.specs.declared.alone.Alone.{Alone}
 
--- the terminals at its start, as the run has them, and after the exchange; and the line that is heard
+-- the terminals at the period's start, as the run has them, and after the exchange; and the line
+-- that is heard
 abbrev pub terminalsHere : Alone → List Terminal → List Terminal
 terminalsHere a ts = mapFrom (followed (a .lone)) 0 ts
 

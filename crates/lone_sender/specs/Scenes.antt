@@ -24,7 +24,8 @@ use Rattle.lone_sender.specs.Lone.{loneStations, senderIn}
 use Rattle.lone_sender.specs.Search.{senderAfter, fitsIn, searchedOne, searched, aloneFor}
 use Rattle.lone_sender.specs.declared.search.Search.{Search}
 
--- a terminal in F7 that holds a frame of class 1 with an image of 200 bits, so many of them sent, at this C, and T3 due at a period
+-- a terminal in F7 that holds a frame of class 1 with an image of 200 bits: `sent` of them have
+-- left, C is `count`, and T3 is due at period `t3`
 abbrev holding : ℕ → ℕ → ℕ → Terminal
 holding sent count t3 =
     record {

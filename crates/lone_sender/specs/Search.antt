@@ -1,5 +1,5 @@
--- How the code goes: whether one terminal sends alone, and which: the terminals gone through one by
--- one. The law `found-alone` says what a search that finds one has shown.
+-- How the code goes: whether one terminal sends alone, and which: the terminals are looked at one
+-- by one. The law `found-alone` says what a search that finds one has shown.
 -- Interface: `senderAfter`, `searchedOne`, `noSearch`, `searched`, `aloneFor`, `inVain`. Assumes
 -- nothing.
 use mathlib.Core.Bool.{Bool, true, false, cond, not, _&&_, _||_}
@@ -27,7 +27,7 @@ counting t = eqb (t .state) F7
 abbrev pub sendingNow : Terminal → Bool
 sendingNow t = counting t && ltb 0 (t .access .sent)
 
--- terminal i, where it sends, with its C; else the one found before it
+-- the sender after terminal i: where that one sends, it, with its C; else the one found before
 unfoldable pub senderAfter : ℕ → LoneSender → Terminal → LoneSender
 senderAfter i s t =
     let count = cond (counting t) (t .access .count) (s .count) in
@@ -35,7 +35,8 @@ senderAfter i s t =
     (record { at = i; length = t .access .length; sent = t .access .sent; count = count; last = t .access .last })
     (record { at = s .at; length = s .length; sent = s .sent; count = count; last = s .last })
 
--- whether a terminal rests while the network end in G3 is heard, counts as those before it and is no second one that sends
+-- whether a terminal fits in with those before it: it rests while it hears the network end in G3,
+-- its C is theirs where it counts E, and it is not a second one that sends
 unfoldable pub fitsIn : Search → Terminal → Bool
 fitsIn a t =
     (rests (shownBy G3) t && ((not (counting t) || not (a .counts)) || eqb (t .access .count) (a .lone .count)))
@@ -68,7 +69,8 @@ searched period most ts = foldFrom (searchedOne period) 0 (noSearch most) ts
 unfoldable pub aloneFor : Search → ℕ
 aloneFor a = cond (a .fits && a .sends) (a .over) 0
 
--- where a search is in vain: the network end is not in G3, a hit is pending, or seven 1s have been read
+-- whether a search is in vain: the network end is not in G3, a hit is pending, or seven 1s have
+-- been read
 unfoldable pub inVain : BusRecord → Bool
 inVain b = (not (eqb (b .network .state) G3) || b .hit) || eqb (b .reader .ones) 7
 
@@ -82,7 +84,8 @@ abbrev pub AllClear : ℕ → ℕ → List Terminal → Type 0
 AllClear now n [] = Unit
 AllClear now n (t ∷ ts) = Clear now n (t .t3) × AllClear now n ts
 
--- the terminals are as the run has them at its start, each in its place; all rest, and no timer is due while it lasts
+-- the terminals are as the run has them at its start, each at its index; all rest, and no timer is
+-- due while it lasts
 pub record IsAlone (now most : ℕ) (r : Search) (ts : List Terminal) : Type 0 where
   pub stations : loneStations (r .lone .at) (r .lone .length) 0 ts ≡ true
   pub sender : senderIn (r .lone .at) 0 ts ≡ true

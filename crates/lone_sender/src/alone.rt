@@ -1,4 +1,4 @@
-// A run of periods in which one terminal sends alone: the terminals are not gone through.
+// A run of periods in which one terminal sends alone: the terminals are not looked at on the way.
 ghost use mathlib.Core.Path.{_≡_};
 ghost use Rattle.lone_sender.specs.Alone.{staysAlone, aloneRun, aloneRunOctets};
 use super::lone::LoneSender;
@@ -16,8 +16,8 @@ pub struct Alone {
     pub over: u32,
 }
 
-// Whether a period more is run: the last one has no note, INFO 4 is sent without a hit, the E that comes is the sender's last bit, and it
-// `goes` on alone.
+// Tests whether a period more is run: the last one has no note, INFO 4 is sent without a hit, the E
+// that comes is the sender's last bit, and the sender goes on alone (`goes`).
 fn stays_alone(answer: RunAnswer, lone: LoneSender, goes: bool) -> bool
     ensures { λ r. ⌜ r ≡ staysAlone answer lone goes ⌝ }
 {
@@ -26,7 +26,7 @@ fn stays_alone(answer: RunAnswer, lone: LoneSender, goes: bool) -> bool
     still & (bus.echo == lone.last) & goes & !bus.periods.all_run()
 }
 
-// Runs at most so many periods, as long as one terminal sends alone and nothing is told.
+// Runs at most `most` periods, as long as one terminal sends alone and there is no note.
 pub fn run_alone(
     bus: BusRecord,
     images: &[u8],

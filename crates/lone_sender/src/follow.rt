@@ -7,7 +7,8 @@ use dchannel::access::Access;
 use table_6_2::F7;
 use terminal::Terminal;
 
-// Terminal i: in F7 it has counted the same E as all, and the sender's bits have left.
+// Brings terminal i to the run's end: in F7 it has counted the same E as all, and the sender's bits
+// have left.
 fn follow_one(lone: LoneSender, i: usize, t: Terminal) -> Terminal
     ensures { λ r. ⌜ r ≡ followed lone i t ⌝ }
 {
@@ -32,7 +33,7 @@ fn follow_one(lone: LoneSender, i: usize, t: Terminal) -> Terminal
     }
 }
 
-// All terminals, from what they were at the run's start.
+// Brings all terminals from the run's start to its end.
 pub fn follow(terminals: &mut [Terminal], lone: LoneSender)
     ensures { λ _. ⌜ now (terminals .exit) ≡ mapFrom (followed lone) 0 (now (terminals .entry)) ⌝ }
 {

@@ -9,7 +9,7 @@ use exchange::tally::Letters;
 use exchange::tally::Tally;
 use frame::fields::Four;
 
-// C stays there.
+// The most that C counts to.
 const MOST_COUNT: u8 = NORMAL_2 + 1;
 
 // The terminal that sends alone.
@@ -33,7 +33,7 @@ pub struct LoneStep {
 }
 
 impl LoneSender {
-    // One opportunity: its E is the last bit.
+    // Takes one opportunity: its E is the last bit, and the next bit leaves.
     fn turned(self, images: &[u8]) -> Self
         ensures { λ r. ⌜ r ≡ loneAfterE (now (images .entry)) self ⌝ }
     {
@@ -51,7 +51,7 @@ impl LoneSender {
         }
     }
 
-    // C after the E.
+    // Gives C after the E.
     fn counted(self) -> u8
         ensures { λ r. ⌜ r ≡ countedAt self ⌝ }
     {
@@ -66,14 +66,15 @@ impl LoneSender {
         }
     }
 
-    // Whether the next bit leaves, and no other terminal starts: at a C below the lowest threshold none does, and no level changes.
+    // Tests whether the next bit leaves and no other terminal starts: at a C below the lowest
+    // threshold none does, and no level changes.
     fn turns(self) -> bool
         ensures { λ r. ⌜ r ≡ loneSends self ⌝ }
     {
         (0 < self.sent) & (self.sent < self.length) & (self.counted() < NORMAL_1)
     }
 
-    // The four opportunities of a period.
+    // Takes the four opportunities of a period.
     pub fn after_four(self, images: &[u8]) -> LoneStep
         ensures { λ r. ⌜ r ≡ loneStep (now (images .entry)) self ⌝ }
     {
@@ -94,7 +95,7 @@ impl LoneSender {
     }
 }
 
-// The exchange that the four opportunities leave.
+// Gives the tally that the four opportunities leave.
 pub fn tally_of(state: u8, ds: Four) -> Tally
     ensures { λ r. ⌜ r ≡ tallyOf state ds ⌝ }
 {

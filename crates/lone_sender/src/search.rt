@@ -11,9 +11,9 @@ use terminal::Terminal;
 use timing::counts::Periods;
 use timing::timers::clear;
 
-// What is known of the terminals gone through.
+// What is known of the terminals looked at so far.
 pub struct Search {
-    // The one that sends, and C of those in F7.
+    // The one that sends, with the C of those in F7.
     pub lone: LoneSender,
     // The periods that can be run before T3 is due at one of them.
     pub over: u32,
@@ -24,7 +24,8 @@ pub struct Search {
     pub fits: bool,
 }
 
-// Terminal i, where it sends, with its C; else the one found before it.
+// Gives the sender after terminal i: where that one sends, it, with its C; else the one found
+// before.
 fn sender_after(before: LoneSender, i: usize, t: Terminal) -> LoneSender
     ensures { λ r. ⌜ r ≡ senderAfter i before t ⌝ }
 {
@@ -53,7 +54,7 @@ fn sender_after(before: LoneSender, i: usize, t: Terminal) -> LoneSender
     }
 }
 
-// Nothing is known yet, of at most so many periods.
+// Starts a search over at most `most` periods: nothing is known yet.
 fn no_search(most: u32) -> Search
     ensures { λ r. ⌜ r ≡ noSearch most ⌝ }
 {
@@ -73,7 +74,7 @@ fn no_search(most: u32) -> Search
 }
 
 impl Search {
-    // One terminal more.
+    // Adds one terminal.
     fn also(self, i: usize, t: Terminal, period: Periods) -> Self
         ensures { λ r. ⌜ r ≡ searchedOne period i self t ⌝ }
     {
@@ -98,7 +99,7 @@ impl Search {
 }
 
 impl Search {
-    // How many periods can be run alone, as far as is known: 0 where no one terminal sends alone.
+    // Gives how many periods can be run alone, as far as is known: 0 where no terminal sends alone.
     pub fn alone_for(self) -> u32
         ensures { λ r. ⌜ r ≡ aloneFor self ⌝ }
     {
@@ -106,14 +107,15 @@ impl Search {
     }
 }
 
-// Whether a search is in vain: the network end is not in G3, a hit is pending, or seven 1s have been read.
+// Tests whether a search is in vain: the network end is not in G3, a hit is pending, or seven 1s
+// have been read.
 pub fn in_vain(bus: BusRecord) -> bool
     ensures { λ r. ⌜ r ≡ inVain bus ⌝ }
 {
     (bus.network.state != G3) | bus.hit | (bus.reader.ones == 7)
 }
 
-// All terminals, from a period on.
+// Looks at all terminals, for at most `most` periods from `period` on.
 pub fn find(terminals: &[Terminal], period: Periods, most: u32) -> Search
     ensures { λ r. ⌜ r ≡ searched period most (now (terminals .entry)) ⌝ }
 {

@@ -18,7 +18,8 @@ HalfDetermined = (n m : ℕ) → n < 2 ^ 16 → m < 2 ^ 16 → half n ≡ half m
 abbrev pub WordDetermined : Type 0
 WordDetermined = (n m : ℕ) → n < 2 ^ 32 → m < 2 ^ 32 → word n ≡ word m → n ≡ m
 
--- ---- A note that loses nothing as octets: each field fits the octets that it gets, and the code is not 0.
+-- ---- A note that loses nothing as octets: each field fits the octets that it gets, and the code
+-- is not 0.
 pub record FitsOctets (n : Note) : Type 0 where
   pub code-not-zero : 1 ≤ n .code
   pub code-fits : n .code < 2 ^ 8

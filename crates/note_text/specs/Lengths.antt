@@ -31,7 +31,8 @@ RefusedFits =
     (period unit number : ℕ) → period < numbers → unit < numbers → number < numbers
     → length (noteLine (note period unit REFUSED (number ∷ []))) ≤ lineRoom
 
--- The line of the longest body, of a unit of one digit: two digits for each octet, and 20 octets besides.
+-- The line of the longest body, of a unit of one digit: two digits for each octet, and 20 octets
+-- besides.
 abbrev pub heardRoom : ℕ
 heardRoom = 20 + 2 * longestBody
 
@@ -40,7 +41,7 @@ HeardFits =
     (period unit : ℕ) (body : List ℕ) → period < numbers → unit < 10 → length body ≤ longestBody
     → length (noteLine (note period unit HEARD body)) ≤ heardRoom
 
--- As octets a note takes so many, and those of its value.
+-- A note as octets takes these 8, and the octets of its value.
 abbrev pub octetsRoom : ℕ
 octetsRoom = 8
 

@@ -23,8 +23,9 @@ use Rattle.note_text.specs.declared.form.Form.the-variants.{Line, Octets
 abbrev pub digit : ℕ → ℕ
 digit d = 48 + d
 
--- A number that has at most so many digits as the first argument says. What stands in the `let` is computed only where it is asked for, so
--- that a first argument that is far too large costs nothing.
+-- The decimal digits of n, which has at most as many as the first argument says. What stands in the
+-- `let` is computed only where it is asked for, so that a first argument that is far too large
+-- costs nothing.
 unfoldable pub decimalIn : ℕ → ℕ → List ℕ
 decimalIn zero n = []
 decimalIn (suc more) n = let longer = decimalIn more (n / 10) ++ (digit (n % 10) ∷ []) in cond (ltb n 10) (digit n ∷ []) longer

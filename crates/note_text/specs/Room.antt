@@ -6,7 +6,7 @@ use mathlib.Core.Path.{_≡_}
 use Prim.Native.Nat.{ℕ, zero, suc, _+_, min}
 use lib.ListN.{length}
 
--- The room once a text is laid behind its first octets, so many as are written. What it holds past the text stays.
+-- The room once a text is laid behind its first `wrote` octets. What it holds past the text stays.
 unfoldable pub laid : List ℕ → ℕ → List ℕ → List ℕ
 laid [] wrote text = []
 laid (x ∷ room) (suc wrote) text = x ∷ laid room wrote text

@@ -9,7 +9,7 @@ use text::length::least;
 // The code ten below that of `a`, so that 10 gives `a`.
 const BEFORE_A: u8 = b'a' - 10;
 
-// The lower-case digit of a number below 16.
+// Gives the lower-case digit of a number below 16.
 fn hex_digit(d: u8) -> u8
     requires { ⌜ d < 16 ⌝ }
     ensures { λ r. ⌜ r ≡ hexCode d ⌝ }
@@ -17,7 +17,7 @@ fn hex_digit(d: u8) -> u8
     if d < 10 { b'0' + d } else { BEFORE_A + d }
 }
 
-// Two digits for each octet, the high one first.
+// Puts two digits for each octet, the high one first.
 pub fn put_hex(room: &mut [u8], wrote: usize, octets: &[u8]) -> usize
     ensures { λ r. ⌜ Put (now (room .entry)) wrote (hexOf (now (octets .entry))) r (now (room .exit)) ⌝ }
 {

@@ -3,14 +3,14 @@ ghost use Rattle.note_text.specs.Room.{Put};
 ghost use Rattle.note_text.specs.LowFirst.{half, word, double};
 use super::room::put;
 
-// A number in two octets.
+// Puts a number in two octets.
 pub fn put_half(room: &mut [u8], wrote: usize, n: u16) -> usize
     ensures { λ r. ⌜ Put (now (room .entry)) wrote (half n) r (now (room .exit)) ⌝ }
 {
     put(room, wrote, &[(n % 256) as u8, (n / 256 % 256) as u8])
 }
 
-// A number in four octets.
+// Puts a number in four octets.
 pub fn put_word(room: &mut [u8], wrote: usize, n: u32) -> usize
     ensures { λ r. ⌜ Put (now (room .entry)) wrote (word n) r (now (room .exit)) ⌝ }
 {
@@ -26,7 +26,7 @@ pub fn put_word(room: &mut [u8], wrote: usize, n: u32) -> usize
     )
 }
 
-// A number in eight octets.
+// Puts a number in eight octets.
 pub fn put_double(room: &mut [u8], wrote: usize, n: u64) -> usize
     ensures { λ r. ⌜ Put (now (room .entry)) wrote (double n) r (now (room .exit)) ⌝ }
 {

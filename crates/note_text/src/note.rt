@@ -1,4 +1,5 @@
-// Notes as lines of the report ("The fields are the period, the unit, the note and its value."), or as octets for a host.
+// Notes as lines of the report ("The fields are the period, the unit, the note and its value."), or
+// as octets for a host.
 ghost use mathlib.Core.Path.{_≡_};
 ghost use Rattle.bus_rules.specs.Bus.{notesOf};
 ghost use lib.ListN.{getD};
@@ -23,7 +24,8 @@ use text::length::least;
 // One more than the last code: where numbers that are no code stand in the table.
 const NO_CODE: usize = 17;
 
-// For each code, from 0 on: a space, the note's name, a space, and the value where the code decides it.
+// For each code, from 0 on: a space, the note's name, a space, and the value where the code decides
+// it.
 const NAMES: [u8; 175] =
     *b"  - PH-ACT - PH-DEACT - MPH-ACT - MPH-DEACT - MPH-EI - MPH-EI1 - MPH-EI2 - \
     MPH-II connected MPH-II disconnected heard  torn - done1 - done2 - dropped1 - dropped2 - refused   -";
@@ -51,7 +53,7 @@ const PLACES: [u8; 19] = [
     175,
 ];
 
-// The note's name between spaces, and the value where the code decides it.
+// Puts the note's name between spaces, and the value where the code decides it.
 fn put_name(room: &mut [u8], wrote: usize, code: u8) -> usize
     ensures { λ r. ⌜ Put (now (room .entry)) wrote (named code) r (now (room .exit)) ⌝ }
 {
@@ -61,14 +63,14 @@ fn put_name(room: &mut [u8], wrote: usize, code: u8) -> usize
     put(room, wrote, &NAMES[start..end])
 }
 
-// The first octet, 0 where there is none.
+// Gives the first octet, 0 where there is none.
 fn first(value: &[u8]) -> u8
     ensures { λ r. ⌜ r ≡ getD (now (value .entry)) 0 0 ⌝ }
 {
     if 0 < value.len() { value[0] } else { 0 }
 }
 
-// The value, where the code does not decide it.
+// Puts the value, where the code does not decide it.
 fn put_value(room: &mut [u8], wrote: usize, code: u8, value: &[u8]) -> usize
     ensures { λ r. ⌜ Put (now (room .entry)) wrote (openValue (printedAs code .value) (now (value .entry))) r (now (room .exit)) ⌝ }
 {
@@ -81,7 +83,7 @@ fn put_value(room: &mut [u8], wrote: usize, code: u8, value: &[u8]) -> usize
     least(wrote, room.len())
 }
 
-// The line of a note.
+// Puts the line of a note.
 fn put_line(room: &mut [u8], wrote: usize, period: u64, unit: u32, code: u8, value: &[u8]) -> usize
     ensures { λ r. ⌜ Put (now (room .entry)) wrote (noteLine (note period unit code (now (value .entry)))) r (now (room .exit)) ⌝ }
 {
@@ -93,8 +95,8 @@ fn put_line(room: &mut [u8], wrote: usize, period: u64, unit: u32, code: u8, val
     put(room, e, b"\n")
 }
 
-// The octets of a note: its code, its unit, how many octets its value has, its period and its value. A number that needs more octets than
-// it gets loses the high-order ones.
+// Puts the octets of a note: its code, its unit, how many octets its value has, its period and its
+// value. A number that needs more octets than it gets loses the high-order ones.
 fn put_octets(
     room: &mut [u8],
     wrote: usize,
@@ -111,7 +113,7 @@ fn put_octets(
     put(room, c, value)
 }
 
-// A note.
+// Puts a note in the form asked for.
 pub fn put_note(
     form: Form,
     room: &mut [u8],
@@ -129,7 +131,7 @@ pub fn put_note(
     }
 }
 
-// A note whose value its code decides.
+// Puts a note whose value its code decides.
 pub fn put_plain(
     form: Form,
     room: &mut [u8],
@@ -143,7 +145,7 @@ pub fn put_plain(
     put_note(form, room, wrote, period, unit, code, b"")
 }
 
-// A unit's notes.
+// Puts a unit's notes.
 pub fn put_notes(
     form: Form,
     room: &mut [u8],
@@ -165,14 +167,14 @@ pub fn put_notes(
     at
 }
 
-// "The report's first line is printed for every book."
+// Puts the report's first line: "The report's first line is printed for every book."
 pub fn put_heading(room: &mut [u8], wrote: usize) -> usize
     ensures { λ r. ⌜ Put (now (room .entry)) wrote heading r (now (room .exit)) ⌝ }
 {
     put(room, wrote, b"period unit note value\n")
 }
 
-// "the last line is `- - stopped` and the number"
+// Puts the last line of a stopped book: "the last line is `- - stopped` and the number"
 pub fn put_stopped(room: &mut [u8], wrote: usize, number: u8) -> usize
     ensures { λ r. ⌜ Put (now (room .entry)) wrote (stoppedLine number) r (now (room .exit)) ⌝ }
 {

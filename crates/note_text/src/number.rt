@@ -3,10 +3,10 @@ ghost use Rattle.note_text.specs.Room.{Put};
 ghost use Rattle.note_text.specs.NoteText.{decimal};
 use super::room::put;
 
-// The most digits of a number: 2^64 - 1 has so many.
+// The most digits of a number: 2^64 - 1 has 20.
 const DIGITS: usize = 20;
 
-// A number in decimal, without leading zeros.
+// Puts a number in decimal, without leading zeros.
 pub fn put_decimal(room: &mut [u8], wrote: usize, n: u64) -> usize
     ensures { λ r. ⌜ Put (now (room .entry)) wrote (decimal n) r (now (room .exit)) ⌝ }
 {

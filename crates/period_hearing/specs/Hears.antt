@@ -24,7 +24,7 @@ use Rattle.period_hearing.specs.declared.hears.HeardOne.{HeardOne}
 abbrev pub staysInSilence : ℕ → Bool
 staysInSilence state = leb F3 state && leb state F5
 
--- whether a terminal hears what it has heard before, so that nothing happens
+-- whether a terminal hears what it heard before, so that nothing happens
 unfoldable pub rests : Downward → Terminal → Bool
 rests line t =
     cond (eqb (t .alignment .run) 0)
@@ -33,7 +33,7 @@ rests line t =
     (cond (staysInSilence (t .state)) (not (t .alignment .aligned) && not (line .pulse)) (eqb (t .state) F1)))
     (eqb (t .state) F1)
 
--- the two calls one after the other
+-- the two calls one after the other: the hearing, and the timer on what it leaves
 unfoldable pub hearingStep : Downward → Periods → Terminal → TerminalStep
 hearingStep line period t = terminalCalls.hearCall line period t
 
@@ -51,7 +51,7 @@ heardOne line period t =
       told = hasNote (hearingStep line period t .notes) || hasNote (timerStep line period t .notes);
     }
 
--- the same for the terminal at any index
+-- what becomes of a terminal, its notes, and whether there is any, at whatever index
 abbrev pub terminalAfter : Downward → Periods → ℕ → Terminal → Terminal
 terminalAfter line period i t = heardOne line period t .terminal
 
@@ -61,7 +61,7 @@ notesAfter line period i t = heardOne line period t .notes
 abbrev pub toldAfter : Downward → Periods → ℕ → Bool → Terminal → Bool
 toldAfter line period i told t = told || heardOne line period t .told
 
--- ---- All terminals: nothing is done where there are not as many places for notes.
+-- ---- All terminals: nothing is done where the places for notes are not as many as the terminals.
 unfoldable pub listenReply : Downward → Periods → List UnitNotes → List Terminal → Bool
 listenReply line period ns ts = cond (eqb (length ns) (length ts)) (foldFrom (toldAfter line period) 0 false ts) false
 
@@ -75,6 +75,6 @@ listenNotes line period ns ts = cond (eqb (length ns) (length ts)) (mapFrom (not
 abbrev pub noNotes : UnitNotes
 noNotes = record { hearing = packedNotes []; timers = packedNotes [] }
 
--- at any place
+-- the place for notes at any index, emptied
 abbrev pub silenced : ℕ → UnitNotes → UnitNotes
 silenced i n = noNotes

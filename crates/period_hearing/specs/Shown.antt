@@ -37,7 +37,8 @@ unfoldable pub terminalNotes : Downward → ℕ → Terminal → UnitNotes
 terminalNotes line now t = record { hearing = heardNotes line now t; timers = timedNotes line now t }
 
 -- ---- All of them.
--- as the bus has them, on their seats (proofs/Shown.antt `terminals-shown` has them without seats)
+-- as the bus has them, in their stations (proofs/Shown.antt `terminals-shown` has them without
+-- stations)
 abbrev pub StationsShown : Type 0
 StationsShown =
     (line : Downward) (now : ℕ) (ss : List Station) → now + 1 ≤ mostPeriods → allInRange (terminalsOf ss) ≡ true →

@@ -18,15 +18,15 @@ pub struct UnitNotes {
     pub timers: Notes,
 }
 
-// A terminal after a period, its notes, and whether there is one.
+// A terminal after a period, its notes, and whether there is any.
 pub struct HeardOne {
     pub terminal: Terminal,
     pub notes: UnitNotes,
     pub told: bool,
 }
 
-// Whether a terminal hears what it has heard before: in F1 it hears nothing; unaligned in F3, F4 or F5, no pulse; aligned in F7,
-// INFO 4.
+// Tests whether a terminal hears what it heard before, so that nothing happens: in F1 it hears
+// nothing; unaligned in F3, F4 or F5, no pulse; aligned in F7, INFO 4.
 pub fn rests(terminal: Terminal, line: Downward) -> bool
     ensures { λ r. ⌜ r ≡ rests line terminal ⌝ }
 {
@@ -43,7 +43,7 @@ pub fn rests(terminal: Terminal, line: Downward) -> bool
     state == F1
 }
 
-// A terminal hears the line of period `now`; then comes the start of the next.
+// Lets a terminal hear the line of period `now`, and then takes its timer at the next one's start.
 pub fn hear_one(terminal: Terminal, line: Downward, now: Periods) -> HeardOne
     ensures { λ r. ⌜ r ≡ heardOne line now terminal ⌝ }
 {

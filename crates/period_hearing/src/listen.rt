@@ -1,4 +1,4 @@
-// All terminals hear, each its notes to its place.
+// All terminals hear a period's line, and the notes of each go to its place.
 ghost use mathlib.Core.Path.{_≡_};
 ghost use Rattle.period_hearing.specs.Hears.{listenReply, listenTerminals, listenNotes};
 use super::hears::UnitNotes;
@@ -7,8 +7,9 @@ use heard_line::heard::Downward;
 use terminal::Terminal;
 use timing::counts::Periods;
 
-// All terminals hear the line of a period, and then comes the start of the next. Answers whether there is a note; nothing is done where
-// there are not as many places for notes as terminals.
+// Lets all terminals hear the line of a period, and then takes their timers at the next one's
+// start. Gives whether there is a note. Does nothing where the places for notes are not as many as
+// the terminals.
 pub fn listen(
     terminals: &mut [Terminal],
     notes: &mut [UnitNotes],

@@ -18,14 +18,16 @@ use Rattle.note_text.specs.NoteText.{note, notesIn, notesText}
 use Rattle.note_text.specs.Lengths.{numbers, lineRoom, heardRoom, octetsRoom}
 use Rattle.note_text.specs.declared.form.Form.the-variants.{Octets}
 
--- The notes of an event: those that the call hands back; "In a book, 3 to 8 become the note `refused` with the line's unit."
+-- The notes of an event: those that the call hands back; "In a book, 3 to 8 become the note
+-- `refused` with the line's unit."
 unfoldable pub eventNoted : ℕ → ℕ → Notes → ℕ → List Note
 eventNoted period unit notes reply =
     cond (eqb reply 0) (notesOf period unit (noted notes))
     (note period unit REFUSED (reply ∷ []) ∷ [])
 
--- The most octets that the notes of a period take: one line of the reader; four notes of unit 0's hearing and four of its timers; six of
--- each terminal's hearing, two of them of its frames, and four of its timer.
+-- The most octets that the notes of a period take: one line of the reader; four notes of unit 0's
+-- hearing and four of its timers; six of each terminal's hearing, two of them of its frames, and
+-- four of its timer.
 abbrev pub periodRoom : ℕ
 periodRoom = heardRoom + (8 + terminals * 10) * lineRoom
 

@@ -8,7 +8,8 @@ use note_text::note::put_notes;
 use notes_and_cells::notes::Notes;
 use notes_and_cells::notes::REFUSED;
 
-// The notes that an event's call hands back or, where the reply is the number of a refusal, `refused` with that number.
+// Puts the notes that an event's call hands back or, where the reply is the number of a refusal,
+// `refused` with that number.
 pub fn put_event(
     room: &mut [u8],
     wrote: usize,

@@ -21,7 +21,7 @@ use notes_and_cells::notes::Notes;
 use period_hearing::hears::UnitNotes;
 use text::length::least;
 
-// The reader's note: `heard` with the octets of the body, or `torn`.
+// Puts the reader's note: `heard` with the octets of the body, or `torn`.
 fn put_reader(
     form: Form,
     room: &mut [u8],
@@ -44,7 +44,7 @@ fn put_reader(
     put_plain(form, room, wrote, period, 0, said)
 }
 
-// The notes of completed frames.
+// Gives the notes of completed frames.
 fn done_notes(done1: bool, done2: bool) -> Notes
     ensures { λ r. ⌜ noted r ≡ doneNotes done1 done2 ⌝ }
 {
@@ -60,7 +60,7 @@ fn done_notes(done1: bool, done2: bool) -> Notes
     NO_NOTES
 }
 
-// The notes of a terminal's hearing: those of completed frames come first.
+// Puts the notes of a terminal's hearing: those of completed frames come first.
 fn put_heard(
     form: Form,
     room: &mut [u8],
@@ -79,7 +79,7 @@ fn put_heard(
     put_notes(form, room, a, period, unit, notes)
 }
 
-// The notes of the terminals' hearing.
+// Puts the notes of the terminals' hearing.
 fn put_hearing(
     form: Form,
     room: &mut [u8],
@@ -115,7 +115,7 @@ fn put_hearing(
     at
 }
 
-// The notes of the terminals' timers.
+// Puts the notes of the terminals' timers.
 fn put_timers(
     form: Form,
     room: &mut [u8],
@@ -135,7 +135,8 @@ fn put_timers(
     at
 }
 
-// The notes of a period: the reader's, unit 0's, the terminals', and then those of timers due at the next one's start.
+// Puts the notes of a period: the reader's, unit 0's, the terminals', and then those of timers due
+// at the next one's start.
 pub fn put_period(
     form: Form,
     room: &mut [u8],

@@ -30,7 +30,7 @@ use Rattle.report.specs.Report.{callAt, callsOfAnswers, stopOf}
 use Rattle.report.specs.Told.{done, doneAll, bookTold, allBookTold}
 use Rattle.report.specs.Ahead.{BookState, answersAhead, callsAhead, textAhead}
 
--- ---- From a stand to another: the calls made between, and the text that they and the lines between put into the report.
+-- ---- From a state to another: the calls made between, and the text that they and the lines between put into the report.
 pub record Moves (s : BookState) (left : List ℕ) (made : List Call) (new : List ℕ) (s′ : BookState) (left′ : List ℕ) : Type 0 where
   pub kept-is : s′ .kept ≡ doneAll (s .kept) made
   pub calls-are : callsAhead s left ≡ made ++ callsAhead s′ left′

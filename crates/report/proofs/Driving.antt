@@ -23,7 +23,7 @@ use Rattle.report.proofs.ToldRight.{fresh-ready, told-right}
 use Rattle.report.proofs.Order.{stays-ready}
 use Rattle.report.proofs.AheadLaws.{no-text, no-calls}
 
--- ---- What was ahead is what is written and what the calls are, from any stand on.
+-- ---- What was ahead is what is written and what the calls are, from any state on.
 record Drove (s : BookState) (left w : List ℕ) (calls : List Call) : Type 0 where
   text-is : textAhead s left ≡ w
   calls-are : callsAhead s left ≡ calls

@@ -22,8 +22,10 @@ use Rattle.period_text.specs.PeriodText.{periodRoom}
 use Rattle.report.specs.Report.{callsOfAnswers, stopOf, report, bookCalls}
 use Rattle.report.specs.Told.{Ready, doneAll, allBookTold}
 
--- How far a book has come. The last line's period is the number of periods run: the periods before a line are run up to its own. A stand on
--- which periods are run while the book's first line is to come is none of a book from its beginning; its lines come after those periods.
+-- How far a book has come. The last line's period is the number of periods run: the periods before
+-- a line's own are run before its event is given. In a book from its beginning no period has been
+-- run while its first line is still to come; in a state where some have, the book's lines come
+-- after them.
 pub record BookState : Type 0 where
   pub kept : Kept
   -- the stage of the book's reader (crate `book_reader`, specs/Step.antt)
@@ -61,7 +63,8 @@ ROOM = 2
 abbrev pub OVER : ℕ
 OVER = 3
 
--- It has taken so many octets of the text and written so many into the room. `whole` says that no octets come later.
+-- The call has taken `taken` octets of the text and written `wrote` octets into the room. `whole`
+-- says that no octets come later.
 pub record Advanced (s : BookState) (text room : List ℕ) (whole : Bool) (s′ : BookState) (taken wrote why : ℕ)
     (room′ : List ℕ) : Type 0 where
   -- the calls that it has made on the bus are the next ones, and it has left what they left
@@ -69,15 +72,16 @@ pub record Advanced (s : BookState) (text room : List ℕ) (whole : Bool) (s′ 
   pub left : s′ .kept ≡ doneAll (s .kept) made
   pub calls : (later : List ℕ) → (whole ≡ true → later ≡ [])
       → callsAhead s (text ++ later) ≡ made ++ callsAhead s′ (drop taken text ++ later)
-  -- what it has written is what was to be written next, no octet more or less; the octets behind it are as they were
+  -- what it has written is what was to be written next, no octet more or less; the octets behind it
+  -- are as they were
   pub written : (later : List ℕ) → (whole ≡ true → later ≡ [])
       → textAhead s (text ++ later) ≡ take wrote room′ ++ textAhead s′ (drop taken text ++ later)
   pub behind : drop wrote room′ ≡ drop wrote room
   pub long : length room′ ≡ length room
   pub fits : wrote ≤ length room
   pub within : taken ≤ length text
-  -- it stops for text: the report has its first line, the book is not over, the text left holds no whole line and nothing that decides the
-  -- book, and more may come
+  -- it stops for text: the report has its first line, the book is not over, the text left holds no
+  -- whole line and nothing that decides the book, and more may come
   pub for-text : why ≡ TEXT
       → (whole ≡ false) × (s′ .over ≡ false) × (s′ .begun ≡ true)
       × (stepAt text taken (s′ .stage) (s′ .kept .bus .periods .0) false ≡ Step.More)
@@ -87,22 +91,24 @@ pub record Advanced (s : BookState) (text room : List ℕ) (whole : Bool) (s′ 
   pub finished : why ≡ OVER → s′ .over ≡ true
   pub over-said : s′ .over ≡ true → why ≡ OVER
 
--- so that it has stopped for one of these
+-- A call that has not gone on has stopped for one of these.
 pub record Stopped (s : BookState) (text room : List ℕ) (whole : Bool) (s′ : BookState) (taken wrote why : ℕ)
     (room′ : List ℕ) : Type 0 where
   pub went : Advanced s text room whole s′ taken wrote why room′
   pub goes-not-on : why ≡ 0 → ⊥
   pub listed : why ≤ OVER
 
--- Where it stops for text less than a line is left: a buffer that holds a longest line has room for more (proofs/Driving.antt).
+-- Where it stops for text less than a line is left: a buffer that holds a longest line has room for
+-- more (proofs/Driving.antt).
 abbrev pub TextFew : Type 0
 TextFew =
     (s s′ : BookState) (text room room′ : List ℕ) (whole : Bool) (taken wrote why : ℕ)
     → Advanced s text room whole s′ taken wrote why room′ → why ≡ TEXT → length (drop taken text) < longestLine
 
--- ---- A driver: it lends what it holds and some room, takes away what was written, and adds a part of the book where text is needed; where
--- no part is left it says that the text is whole. The octets written and the calls made, taken together. A driver that learns of the book's
--- end by reading nothing has an empty last part.
+-- ---- A driver: it lends what it holds and some room, takes away what was written, and adds a part
+-- of the book where text is needed; where no part is left it says that the text is whole. The
+-- octets written and the calls made, taken together. A driver that learns of the book's end by
+-- reading nothing has an empty last part.
 pub data Driven : BookState → List ℕ → Bool → List (List ℕ) → List ℕ → List Call → Type 0 where
   over : {s : BookState} {held : List ℕ} {whole : Bool} {parts : List (List ℕ)} (room room′ : List ℕ) (s′ : BookState) (taken wrote : ℕ)
       → (g : Stopped s held room whole s′ taken wrote OVER room′) → Driven s held whole parts (take wrote room′) (g .went .made)
@@ -116,8 +122,8 @@ pub data Driven : BookState → List ℕ → Bool → List (List ℕ) → List �
       → Driven s held false (part ∷ parts) (take wrote room′ ++ w) (g .went .made ++ calls)
   told : {s : BookState} {held : List ℕ} {w : List ℕ} {calls : List Call} → Driven s held true [] w calls → Driven s held false [] w calls
 
--- However the book is cut into parts and whatever room is lent each time: what is written is the report of the book, and the calls made are the
--- book's (proofs/Driving.antt).
+-- However the book is cut into parts and whatever room is lent each time: what is written is the
+-- report of the book, and the calls made are the book's (proofs/Driving.antt).
 pub record DrivenRight (parts : List (List ℕ)) (w : List ℕ) (calls : List Call) : Type 0 where
   pub report-is : w ≡ report (joined parts)
   pub calls-are : calls ≡ bookCalls (joined parts)
@@ -128,8 +134,9 @@ WrittenRight =
     → length images ≡ imagesRoom → longestBody ≤ length octets → areLetters letters ≡ true
     → Driven (fresh images octets letters) [] false parts w calls → DrivenRight parts w calls
 
--- ---- No driver goes on for ever from here: whatever parts come and whatever it lends, as long as the room holds the notes of a period each
--- time, and whatever the calls do, as long as each does what `Stopped` says.
+-- ---- No driver goes on for ever from here: whatever parts come and whatever it lends, as long as
+-- the room holds the notes of a period each time, and whatever the calls do, as long as each does
+-- what `Stopped` says.
 pub data Ending : BookState → List ℕ → Bool → List (List ℕ) → Type 0 where
   ending : {s : BookState} {held : List ℕ} {whole : Bool} {parts : List (List ℕ)}
       → (emptied : (room room′ : List ℕ) (s′ : BookState) (taken wrote : ℕ) → periodRoom ≤ length room
@@ -143,7 +150,8 @@ pub data Ending : BookState → List ℕ → Bool → List (List ℕ) → Type 0
 abbrev pub NoneGoesOn : Type 0
 NoneGoesOn = (s : BookState) (held : List ℕ) (parts : List (List ℕ)) → Ending s held false parts
 
--- ---- No call of a driver is refused: at first everything is in order, and so it is after each call (proofs/Driving.antt).
+-- ---- No call of a driver is refused: at first everything is in order, and so it is after each
+-- call (proofs/Driving.antt).
 abbrev pub Sound : BookState → Type 0
 Sound s = Ready (s .kept)
 
@@ -174,7 +182,8 @@ pub record Ends (s : BookState) (held : List ℕ) (whole : Bool) (parts : List (
   pub made : List Call
   pub driven : Driven s held whole parts written made
 
--- So where there is such a call, a driver whose room holds the notes of a period comes to its end, whatever the parts.
+-- So where there is such a call, a driver whose room holds the notes of a period comes to its end,
+-- whatever the parts.
 abbrev pub DriverEnds : Type 0
 DriverEnds =
     EveryCall → (room : List ℕ) → periodRoom ≤ length room

@@ -17,8 +17,9 @@ use Rattle.report.specs.Report.{bookCalls}
 abbrev pub RunsToLine : Type 0
 RunsToLine = (b : Bus) (at : ℕ) → b .periods ≤ at → at ≤ mostPeriods → afterAll b (replicate (at - b .periods) period) .periods ≡ at
 
--- "In a book, 3 to 8 become the note `refused`": a number that comes back is 0 or one of these. 1 and 2 are for a record out of its range and
--- for what is lent, and a hit of right form has 48 letters.
+-- "In a book, 3 to 8 become the note `refused`": a number that comes back is 0 or one of these. 1
+-- and 2 are for a record out of its range and for what is lent, and a hit of right form has 48
+-- letters.
 abbrev pub InBook : ℕ → Type 0
 InBook n = (n ≡ 0 → ⊥) → (3 ≤ n) × (n ≤ 8)
 
@@ -37,11 +38,13 @@ NoneLate b (c ∷ more) = (reply b c ≡ 9 → ⊥) × NoneLate (after b c) more
 abbrev pub BooksInTime : Type 0
 BooksInTime = (book : List ℕ) → NoneLate freshBus (bookCalls book)
 
--- values are octets, so that the calls of the engine are for them (crate `bus_call_specs`, specs/Lists.antt)
+-- values are octets, so that the calls of the engine are for them (crate `bus_call_specs`,
+-- specs/Lists.antt)
 abbrev pub BooksOctets : Type 0
 BooksOctets = (book : List ℕ) → OctetValues (bookCalls book)
 
--- Demand 3 speaks of every book: of every stretch of its calls (crate `bus_rules`, specs/Claims.antt).
+-- Demand 3 speaks of every book: of every stretch of its calls (crate `bus_rules`,
+-- specs/Claims.antt).
 abbrev pub BookCalls : Type 0
 BookCalls =
     (book : List ℕ) (before during after : List Call) → bookCalls book ≡ before ++ (during ++ after)

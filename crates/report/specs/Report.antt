@@ -18,12 +18,13 @@ use Rattle.note_text.specs.NoteText.{heading, notesText, stoppedLine}
 
 -- ---- "A book's events and periods make such a list": the calls on the bus that a book makes.
 
--- at a line its event is given to the bus; `end` is for the book alone, "and of its own only the due timers and earlier lines" are run: those
--- timers end the call of the period before
+-- at a line its event is given to the bus; `end` is for the book alone, "and of its own only the
+-- due timers and earlier lines" are run: those timers end the call of the period before
 unfoldable pub callAt : ℕ → ℕ → List ℕ → List Call
 callAt unit number value = cond (isEnd unit number) [] (event unit number (valueOctets number value) ∷ [])
 
--- where so many periods are run: those before a line's own are run, then comes the line
+-- the calls of these answers, where `run` periods have been run: up to each line's own period the
+-- periods are run, then comes the line's event
 unfoldable pub callsOfAnswers : ℕ → List Answer → List Call
 callsOfAnswers run [] = []
 callsOfAnswers run (fault number ∷ more) = []
@@ -34,7 +35,8 @@ bookCalls book = callsOfAnswers 0 (answers book)
 
 -- ---- What a call puts into the report.
 
--- "In a book, 3 to 8 become the note `refused` with the line's unit." No period of a book is refused: the law `none-late`.
+-- "In a book, 3 to 8 become the note `refused` with the line's unit." No period of a book is
+-- refused: the law `none-late`.
 unfoldable pub refusedNotes : Bus → Call → List Note
 refusedNotes b (event unit number value) =
     record { period = b .periods; unit = unit; code = REFUSED; value = reply b (event unit number value) ∷ [] } ∷ []
@@ -48,7 +50,8 @@ unfoldable pub allBookNotes : Bus → List Call → List Note
 allBookNotes b [] = []
 allBookNotes b (c ∷ more) = bookNotes b c ++ allBookNotes (after b c) more
 
--- "A book fault (11 to 14) runs nothing more, not even the current period's exchange; the last line is `- - stopped` and the number."
+-- "A book fault (11 to 14) runs nothing more, not even the current period's exchange; the last line
+-- is `- - stopped` and the number."
 unfoldable pub stopOf : List Answer → List ℕ
 stopOf [] = []
 stopOf (fault number ∷ more) = stoppedLine number

@@ -1,7 +1,6 @@
--- How the code goes: the same on the record and what is lent with it, as the program goes through a
--- book: lists of calls of crate `bus_call_specs` (specs/Lists.antt) that are all lent what they
--- must be (`lend` there). The notes of a period are taken at once: no call finds any of the one
--- before.
+-- How the code goes: the same on the record and what is lent with it, as the program takes a book:
+-- lists of calls of crate `bus_call_specs` (specs/Lists.antt) that are all lent what they must be
+-- (`lend` there). The notes of a period are taken at once: no call finds any of the one before.
 -- Interface: `Ready`, `done`, `doneAll`, `bookTold`, `allBookTold`. Assumes nothing.
 use mathlib.Core.Bool.{true, cond}
 use mathlib.Core.List.{List, [], _∷_, _++_}
@@ -28,7 +27,7 @@ use Rattle.report.specs.Report.{allBookNotes}
 abbrev pub Ready : Kept → Type 0
 Ready k = runReply 0 k ≡ 0
 
--- a call, and a list of them
+-- what a call leaves, and what a list of them does
 unfoldable pub done : Kept → Call → Kept
 done k c = settled (called k c)
 
@@ -56,7 +55,8 @@ ToldRight =
     → length images ≡ imagesRoom → longestBody ≤ length octets → areLetters letters ≡ true → OctetValues calls
     → allBookTold (freshFound images octets letters) calls ≡ allBookNotes freshBus calls
 
--- ---- At first everything is in order (proofs/ToldRight.antt), and every call leaves it so for the next (proofs/Order.antt).
+-- ---- At first everything is in order (proofs/ToldRight.antt), and every call leaves it so for the
+-- next (proofs/Order.antt).
 abbrev pub FreshReady : Type 0
 FreshReady =
     (images octets letters : List ℕ) → length images ≡ imagesRoom → longestBody ≤ length octets → areLetters letters ≡ true
@@ -65,8 +65,8 @@ FreshReady =
 abbrev pub StaysReady : Type 0
 StaysReady = (k : Kept) (calls : List Call) → Ready k → Ready (doneAll k calls)
 
--- ---- A run of at most n periods is that many calls of one, one at least, and the notes of its last period are all their notes
--- (proofs/OneRun.antt).
+-- ---- A run of at most n periods is that many calls of one, one at least, and the notes of its
+-- last period are all their notes (proofs/OneRun.antt).
 pub record RunAsPeriods (k : Kept) (n : ℕ) : Type 0 where
   pub count : ℕ
   pub some : 1 ≤ count
@@ -80,7 +80,7 @@ pub record RunAsPeriods (k : Kept) (n : ℕ) : Type 0 where
 abbrev pub OneRun : Type 0
 OneRun = (k : Kept) (n : ℕ) → Ready k → 1 ≤ n → k .bus .periods .0 + n ≤ mostPeriods → RunAsPeriods k n
 
--- the octets of a heard body that are printed, in room that holds a period's notes (proofs/OneRun.antt)
+-- the notes of a run, as text, fit into the room for the notes of a period (proofs/OneRun.antt)
 abbrev pub RunFits : Type 0
 RunFits =
     (k : Kept) (n : ℕ) → Ready k → 1 ≤ n → k .bus .periods .0 + n ≤ mostPeriods

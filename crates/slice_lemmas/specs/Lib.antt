@@ -1,2 +1,2 @@
--- Lists walked with an index.
+-- Lists taken element by element, with an index.
 pub mod Over

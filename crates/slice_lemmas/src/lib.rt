@@ -1,1 +1,2 @@
-// Lemmas for functions that walk over lent slices of structs, which the proofs of later crates cite. No code.
+// Lemmas for functions that take a lent slice of structs element by element, which the proofs of
+// later crates cite. No code.

@@ -8,8 +8,8 @@ const EINTR: u64 = 4;
 
 const EAGAIN: u64 = 11;
 
-// How often a call is tried again at the most: nothing says that it ever succeeds, so the tries are counted down, from a number that no
-// run uses up.
+// How often a call is tried again at the most: nothing says that it ever succeeds, so the tries are
+// counted down, from a number that no run uses up.
 pub(crate) const TRIES: u64 = u64::MAX;
 
 // How many octets a call has moved, and errno where it has failed, 0 where it has not.
@@ -18,19 +18,20 @@ pub(crate) struct Moved {
     pub(crate) error: u64,
 }
 
-// errno as a number.
+// Gives errno as a number.
 fn number(error: i32) -> u64
     ensures { λ r. ⌜ r ≡ errnoOf error ⌝ }
 {
     if error < 0 { 0 } else { error as u64 }
 }
 
-// errno, where the call just made has answered so: 0 where it has not failed.
+// Gives errno where the call just made has failed, which an answer below 0 says, else 0.
 pub(crate) fn error_of(answer: isize) -> u64 {
     if answer < 0 { number(os::errno()) } else { 0 }
 }
 
-// Whether a call that gave this errno is tried again. Where it could move nothing yet, it waits for a while first.
+// Tests whether a call that gave this errno is tried again. Where it could move nothing yet, waits
+// for a while first.
 pub(crate) fn again(error: u64) -> bool
     ensures { λ r. ⌜ r ≡ isTriedAgain error ⌝ }
 {

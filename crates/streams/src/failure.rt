@@ -5,7 +5,7 @@ use libc::STDERR_FILENO;
 use note_text::number::put_decimal;
 use note_text::room::put;
 
-// The line: what has failed, a colon, a space, errno.
+// Puts the line: what has failed, a colon, a space, errno.
 fn put_failure(room: &mut [u8], what: &[u8], errno: u64) -> usize
     ensures { λ r. ⌜ Put (now (room .entry)) 0 (failureLine (now (what .entry)) errno) r (now (room .exit)) ⌝ }
 {

@@ -7,7 +7,7 @@ use super::again::error_of;
 use super::failure::say;
 use libc::STDIN_FILENO;
 
-// One read.
+// Reads once.
 fn read_once(part: &mut [u8]) -> Moved
     ensures { λ r. ⌜ Counts (r .count) (now (part .exit)) ⌝ }
 {
@@ -19,8 +19,8 @@ fn read_once(part: &mut [u8]) -> Moved
     }
 }
 
-// Reads into the part, from its front on: how many octets have come, 0 where the input has ended,
-// or where the read has failed, which is said on standard error.
+// Reads into the part, from its front on, and gives how many octets have come: 0 where the input
+// has ended, or where the read has failed, which is said on standard error.
 pub fn read_in(part: &mut [u8]) -> usize
     ensures { λ r. ⌜ Counts r (now (part .exit)) ⌝ }
 {

@@ -8,7 +8,7 @@ use super::again::error_of;
 use super::failure::say;
 use libc::STDOUT_FILENO;
 
-// One write, of the octets from `done` on.
+// Writes once, the octets from `done` on.
 fn write_once(octets: &[u8], done: usize) -> Moved
     requires { ⌜ done ≤ length (now octets) ⌝ }
     ensures { λ r. ⌜ done + r .count ≤ length (now (octets .entry)) ⌝ }
@@ -22,7 +22,8 @@ fn write_once(octets: &[u8], done: usize) -> Moved
     }
 }
 
-// Writes octets from `done` on: how many were taken, 0 where the write has failed or has taken none, which is said on standard error.
+// Writes octets from `done` on, and gives how many were taken: 0 where the write has failed or has
+// taken none, which is said on standard error.
 fn write_some(octets: &[u8], done: usize) -> usize
     requires { ⌜ done ≤ length (now octets) ⌝ }
     ensures { λ r. ⌜ done + r ≤ length (now (octets .entry)) ⌝ }
@@ -40,7 +41,7 @@ fn write_some(octets: &[u8], done: usize) -> usize
     m.count
 }
 
-// Writes the octets: how many were taken, all of them unless a write has failed.
+// Writes the octets, and gives how many were taken: all of them unless a write has failed.
 pub fn write_out(octets: &[u8]) -> usize
     ensures { λ r. ⌜ r ≤ length (now (octets .entry)) ⌝ }
 {

@@ -15,8 +15,9 @@ partEnd to text = min to (length text)
 abbrev pub partBegin : ℕ → ℕ → List ℕ → ℕ
 partBegin from to text = min from (partEnd to text)
 
--- `part` is the part from `from` to `to` of the slice `text`: in the same block of memory, so many octets on (an octet has size 1), and
--- with the octets that stand there.
+-- `part` is the part from `from` to `to` of the slice `text`: in the same block of memory,
+-- `partBegin` octets behind the slice's beginning (an octet has size 1), and with the octets that
+-- stand there.
 pub record IsPart (text : RefT (List ℕ)) (from to : ℕ) (part : RefT (List ℕ)) : Type 0 where
   pub block : ptr part .0 ≡ ptr text .0
   pub place : ptr part .1 ≡ ptr text .1 + partBegin from to (now text)
@@ -27,7 +28,8 @@ abbrev pub PartIsOne : Type 0
 PartIsOne =
     (text p q : RefT (List ℕ)) (from to : ℕ) → IsPart text from to p → IsPart text from to q → (ptr p ≡ ptr q) × (now p ≡ now q)
 
--- Where its ends lie in the text, it begins `from` octets behind the text's beginning, in the text's own block, and has `to - from` octets.
+-- Where its ends lie in the text, it begins `from` octets behind the text's beginning, in the
+-- text's own block, and has `to - from` octets.
 abbrev pub PartLies : Type 0
 PartLies =
     (text part : RefT (List ℕ)) (from to : ℕ) → from ≤ to → to ≤ length (now text) → IsPart text from to part

@@ -24,7 +24,8 @@ unfoldable pub onto : ℕ → List (List ℕ) → List (List ℕ)
 onto c []ᴸ = (c ∷ᴸ []ᴸ) ∷ᴸ []ᴸ
 onto c (p ∷ᴸ ps) = (c ∷ᴸ p) ∷ᴸ ps
 
--- The pieces of a text that stand between its separators: always one more than there are separators.
+-- The pieces of a text that stand between its separators: always one more than there are
+-- separators.
 unfoldable pub split : ℕ → List ℕ → List (List ℕ)
 split sep []ᴸ = []ᴸ ∷ᴸ []ᴸ
 split sep (c ∷ᴸ text) = cond (eqb c sep) ([]ᴸ ∷ᴸ split sep text) (onto c (split sep text))
@@ -53,7 +54,7 @@ unfoldable pub all : (ℕ → Bool) → List ℕ → Bool
 all p []ᴸ = true
 all p (c ∷ᴸ cs) = p c && all p cs
 
--- lo to hi, both included
+-- from `lo` to `hi`, both included
 abbrev pub between : ℕ → ℕ → ℕ → Bool
 between lo hi c = leb lo c && leb c hi
 
@@ -73,7 +74,7 @@ isHex c = between (code "0") (code "9") c || between (code "a") (code "f") c
 abbrev pub isLetter : ℕ → Bool
 isLetter c = eqb c (code "k") || eqb c (code "p") || eqb c (code "m") || eqb c (code "n")
 
--- The number that decimal digits write after those that wrote n.
+-- The number that decimal digits write behind those that wrote n.
 unfoldable pub onward : ℕ → List ℕ → ℕ
 onward n []ᴸ = n
 onward n (c ∷ᴸ cs) = onward (n * 10 + (c - code "0")) cs

@@ -18,7 +18,7 @@ pub struct Ends {
     pub fourth: usize,
 }
 
-// A line split into its fields, in one pass. The fourth may be long as a rule; the others are not.
+// Splits a line into its fields, in one pass. The fourth is often long; the others are not.
 pub fn split(line: &[u8]) -> Ends
     ensures { λ r. ⌜ r ≡ spec.endsOf (now (line .entry)) ⌝ }
 {
@@ -34,8 +34,9 @@ pub fn split(line: &[u8]) -> Ends
     }
 }
 
-// Field `which` of a line whose fields have these ends, 0 to 3, as the part of the line that it is. For any other number it is an
-// empty part of the line: a line that is split has no such field.
+// Gives field `which`, 0 to 3, of a line whose fields have these ends, as the part of the line that
+// it is. For any other number it is an empty part of the line: a line that is split has no such
+// field.
 pub fn field(line: &[u8], ends: Ends, which: usize) -> &[u8]
     ensures { λ r. ⌜ IsPart (line .entry) (spec.fieldFrom which ends) (spec.fieldTo which ends) r ⌝ }
 {

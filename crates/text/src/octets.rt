@@ -2,28 +2,28 @@
 ghost use mathlib.Core.Path.{_≡_};
 ghost use Rattle.text.specs.Text as spec;
 
-// A decimal digit.
+// Tests whether an octet is a decimal digit.
 pub fn is_digit(c: u8) -> bool
     ensures { λ r. ⌜ r ≡ spec.isDigit c ⌝ }
 {
     (b'0' <= c) & (c <= b'9')
 }
 
-// A lower-case hexadecimal digit.
+// Tests whether an octet is a lower-case hexadecimal digit.
 pub fn is_hex(c: u8) -> bool
     ensures { λ r. ⌜ r ≡ spec.isHex c ⌝ }
 {
     ((b'0' <= c) & (c <= b'9')) | ((b'a' <= c) & (c <= b'f'))
 }
 
-// A letter of a hit.
+// Tests whether an octet is a letter of a hit.
 pub fn is_letter(c: u8) -> bool
     ensures { λ r. ⌜ r ≡ spec.isLetter c ⌝ }
 {
     (c == b'k') | (c == b'p') | (c == b'm') | (c == b'n')
 }
 
-// Whether a text is hexadecimal digits alone.
+// Tests whether a text is hexadecimal digits alone.
 pub fn all_hex(text: &[u8]) -> bool
     ensures { λ r. ⌜ r ≡ spec.all spec.isHex (now (text .entry)) ⌝ }
 {
@@ -36,7 +36,7 @@ pub fn all_hex(text: &[u8]) -> bool
     ok
 }
 
-// Whether a text is letters of a hit alone.
+// Tests whether a text is letters of a hit alone.
 pub fn all_letters(text: &[u8]) -> bool
     ensures { λ r. ⌜ r ≡ spec.all spec.isLetter (now (text .entry)) ⌝ }
 {

@@ -2,7 +2,8 @@
 use crate::length::least;
 ghost use Rattle.text.specs.Part.{IsPart};
 
-// The part of a text from `from` to `to`, as far as the text goes: those octets of the caller's slice themselves.
+// Gives the part of a text from `from` to `to`, as far as the text goes: those octets of the
+// caller's slice themselves.
 pub fn part(text: &[u8], from: usize, to: usize) -> &[u8]
     ensures { λ r. ⌜ IsPart (text .entry) from to r ⌝ }
 {

@@ -8,7 +8,8 @@ ghost use Rattle.text.specs.Text.{upto, all, isOther};
 // What ends a line.
 pub const LF: u8 = b'\n';
 
-// Where the piece that starts at `from` ends: at the next separator, or at the text's end. Past the text's end every piece is empty.
+// Gives where the piece that starts at `from` ends: at the next separator, or at the text's end.
+// Past the text's end every piece is empty.
 pub fn piece_end(text: &[u8], from: usize, sep: u8) -> usize
     ensures { λ r. ⌜ r ≡ from + upto sep (drop from (now (text .entry))) ⌝ }
 {
@@ -22,10 +23,10 @@ pub fn piece_end(text: &[u8], from: usize, sep: u8) -> usize
     i
 }
 
-// The octets that are looked at together.
+// How many octets are looked at together.
 const BLOCK: usize = 16;
 
-// Whether no octet of a text is the separator.
+// Tests whether no octet of a text is the separator.
 fn is_one_piece(text: &[u8], sep: u8) -> bool
     ensures { λ r. ⌜ r ≡ all (isOther sep) (now (text .entry)) ⌝ }
 {
@@ -38,7 +39,7 @@ fn is_one_piece(text: &[u8], sep: u8) -> bool
     ok
 }
 
-// Whether a whole block stands at a place, and no separator in it.
+// Tests whether a whole block stands at `at`, with no separator in it.
 fn passes(text: &[u8], at: usize, sep: u8) -> bool
     ensures { λ r. ⌜ (r ≡ true → at + 16 ≤ length (now (text .entry))) ⌝ }
     ensures { λ r. ⌜ (r ≡ true → 16 ≤ upto sep (drop at (now (text .entry)))) ⌝ }
@@ -52,7 +53,8 @@ fn passes(text: &[u8], at: usize, sep: u8) -> bool
     is_one_piece(&text[at..at + BLOCK], sep)
 }
 
-// Where a piece ends, as piece_end has it, block by block: for pieces that are long as a rule.
+// Gives where a piece ends, as `piece_end` does, but block by block: for pieces that are often
+// long.
 pub fn long_piece_end(text: &[u8], from: usize, sep: u8) -> usize
     ensures { λ r. ⌜ r ≡ from + upto sep (drop from (now (text .entry))) ⌝ }
 {

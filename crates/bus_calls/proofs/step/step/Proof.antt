@@ -219,13 +219,13 @@ module _ {M : Type 1} (𝓤 : URA M) (H : Heap 𝓤) (A : Atoms 𝓤) (W : Given
       -- exchange(terminals, images, first)
       reborrows ! (g₁ .0) (tt, refl, refl, tt, (tt, tt), tt, refl, tt, refl, tt, tt) $
       calls-giving (the-exch m₀ gm₀) (1 ∷ 2 ∷ []) ! refl 𝓣 k₂ (λ ns Θ. and-then ! (loc ! tt refl) (and-then ! (loc ! tt refl) (and-then ! (loc ! tt refl) (no-more !)))) tt (λ ns. refl) (λ ns m w₁ l₁ so₁ gm.
-      -- line_after(bus, moment, letters)
+      -- line_after(bus, tally, letters)
       calls-giving (the-down m gm) (4 ∷ []) ! refl 𝓣 k₃ (λ ns Θ. and-then ! (loc ! tt refl) (and-then ! (loc ! tt refl) (and-then ! (loc ! tt refl) (no-more !)))) tt (λ ns. refl) (λ ns line w₂ l₂ so₂ gl.
       -- listen(terminals, notes, line, periods_of(bus))
       reborrows ! (g₁ .0) (tt, refl, refl, tt, (tt, tt), tt, refl, tt, refl, tt, tt) $ reborrows ! (g₅ .0) (tt, refl, refl, tt, (tt, tt), tt, refl, tt, refl, tt, tt) $
       calls-giving the-period [] ! refl 𝓣 k₄ (λ ns Θ. and-then ! (loc ! tt refl) (no-more !)) tt (λ ns. refl) (λ ns p _ _ is-p gp.
       calls-giving (the-listen (w₁ .0) line gl p gp) (1 ∷ 5 ∷ []) ! refl 𝓣 k₅ (λ ns Θ. and-then ! (loc ! tt refl) (and-then ! (loc ! tt refl) (and-then ! (loc ! tt refl) (and-then ! (loc ! tt refl) (no-more !))))) tt (λ ns. refl) (λ ns told w₃ l₃ so₃ gt.
-      -- network_side(bus, moment, octets, told)
+      -- network_side(bus, tally, octets, told)
       reborrows ! (g₃ .0) (tt, refl, refl, tt, (tt, tt), tt, refl, tt, refl, tt, tt) $
       calls-giving (the-side m gm told) (3 ∷ []) ! refl 𝓣 k₆ (λ ns Θ. and-then ! (loc ! tt refl) (and-then ! (loc ! tt refl) (and-then ! (loc ! tt refl) (and-then ! (loc ! tt refl) (no-more !))))) tt (λ ns. refl) (λ ns r w₄ l₄ so₄ gr.
       leaves ! Post refl tt refl (exits r (w₃ .0) (w₄ .1 .1 .0) (w₃ .1 .0) (l₃ .0 ∙ l₁ .0) (l₄ .0) (l₃ .1 .0) (promised bus ys es os ls us (even ∙ sym (l₁ .0)) so₀ so₁ so₂ is-p so₃ so₄) gr))))))))
