@@ -15,7 +15,7 @@ use Rattle.frame.specs.Up as up
 use Rattle.frame.specs.Four as four
 use Rattle.framed.specs.Framed as framing
 use Rattle.combining.specs.Combine as combine
-use Rattle.combining.specs.Hit.{keepLetter, noneLetter}
+use Rattle.combining.specs.Hit.{keepLetter, minusLetter, noneLetter}
 use Rattle.combining.specs.Hit as hits
 use Rattle.hdlc.specs.Bits as octets
 use Rattle.hdlc.specs.Image as images
@@ -25,8 +25,8 @@ use Rattle.dchannel.specs.Access as access
 use Rattle.dchannel.specs.Handing as handing
 use Rattle.dchannel.specs.declared.access.Access.{Access}
 use Rattle.contention.specs.Change.{change}
-use Rattle.notes_and_cells.specs.Notes.{PH-ACT, PH-DEACT, MPH-ACT, MPH-DEACT, MPH-EI, MPH-EI2, MPH-II-CONNECTED, HEARD, DONE1}
-use Rattle.notes_and_cells.specs.Notes.{DROPPED1, REFUSED, noted}
+use Rattle.notes_and_cells.specs.Notes.{PH-ACT, PH-DEACT, MPH-ACT, MPH-DEACT, MPH-EI, MPH-EI1, MPH-EI2, MPH-II-CONNECTED, HEARD}
+use Rattle.notes_and_cells.specs.Notes.{DONE1, DROPPED1, REFUSED, noted}
 use Rattle.notes_and_cells.specs.Cells.{cellIn, infoIn}
 use Rattle.table_6_2.specs.Table62.{F2, F4, F6, F7}
 use Rattle.table_6_3.specs.Table63.{G1, G2, G3, G4}
@@ -186,6 +186,16 @@ pub second-hit :
     ≡ note 16 0 HEARD (0 ∷ []) ∷ note 16 1 DONE1 [] ∷ []
 unfolding handedBack
 second-hit = refl
+
+-- "D notes .. come before the table's": in period 16 the frame is completed, and a hit that puts a
+-- pulse at position 13, where A stands, makes the terminal hear INFO 2.
+pub d-notes-first :
+    handedBack activated
+    (event 1 D1 (0 ∷ [])
+    ∷ periods 7 (event 0 HIT (replicate 12 keepLetter ++ (minusLetter ∷ replicate 35 keepLetter)) ∷ periods 1 []))
+    ≡ note 16 0 HEARD (0 ∷ []) ∷ note 16 1 DONE1 [] ∷ note 16 1 MPH-EI1 [] ∷ []
+unfolding handedBack
+d-notes-first = refl
 
 -- The order of the refusals: 2 before 3, 3 before 4, 6 before 7, 7 before 8. Terminal 1 is in F7,
 -- terminal 2 in F1.

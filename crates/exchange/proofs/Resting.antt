@@ -21,9 +21,9 @@ use Rattle.terminal.specs.declared.Terminal.{Terminal}
 use Rattle.slice_lemmas.specs.Over.{mapFrom, foldFrom}
 use Rattle.bus_rules.specs.Exchange.{anySends, accessStepOf, stationAfterE, dOf}
 use Rattle.exchange.specs.Tally.{firstTally, begun, also, dHeard, ended}
-use Rattle.exchange.specs.Part.{stationIn, terminalAfterE, completedClass, goneThrough}
+use Rattle.exchange.specs.Part.{stationIn, terminalAfterE, completedClass, tallyWith}
 use Rattle.exchange.specs.Opportunities.{tallyAfter, terminalsAfter, tallyAfterFour, terminalsAfterFour}
-use Rattle.exchange.specs.Rest.{partRests, allRest, statesOf, noneGone, alsoRests, restOf, eSent, onesSent, isFirst, mayRest, restTally, RestsThrough, RestFour}
+use Rattle.exchange.specs.Rest.{partRests, allRest, statesOf, noneYet, alsoRests, restOf, eSent, onesSent, isFirst, mayRest, restTally, RestsThrough, RestFour}
 use Rattle.exchange.specs.declared.tally.Letters.{Letters}
 use Rattle.exchange.specs.declared.tally.Tally.{Tally}
 use Rattle.exchange.specs.declared.rest.Rest.{Rest}
@@ -56,8 +56,8 @@ quiet letters ds state place heardD e info1 info3 =
 
 module _ (images : List ℕ) (letters : Letters) (ds : Four) (state place : ℕ) (heardD e : Bool) where
   quiet-through : (i : ℕ) (c f : Bool) (ts : List Terminal) → allRest e ts ≡ true
-      → foldFrom (goneThrough images) i (quiet letters ds state place heardD e c f) ts ≡ quiet letters ds state place heardD e (c || anySends 1 (statesOf ts)) (f || anySends 3 (statesOf ts))
-  unfolding foldFrom allRest anySends goneThrough also shifted
+      → foldFrom (tallyWith images) i (quiet letters ds state place heardD e c f) ts ≡ quiet letters ds state place heardD e (c || anySends 1 (statesOf ts)) (f || anySends 3 (statesOf ts))
+  unfolding foldFrom allRest anySends tallyWith also shifted
   quiet-through i c f [] h = rw (or-false c, or-false f)
   quiet-through i c f (t ∷ ts) h =
       let p = and-both (partRests e t) (allRest e ts) h in
@@ -127,7 +127,7 @@ gathered i r (t ∷ ts) = gathered (suc i) (alsoRests i r t) ts ∙ rw (also-sti
 
 pub rest-is : (ts : List Terminal) → restOf ts ≡ record { still = allRest true ts && not (anySends 1 (statesOf ts)); info3 = anySends 3 (statesOf ts) }
 unfolding restOf
-rest-is ts = gathered 0 noneGone ts
+rest-is ts = gathered 0 noneYet ts
 
 -- ---- An exchange whose E are all 1.
 pub ones-rest : (state : ℕ) (letters : Letters) (heardD : Bool) (ts : List Terminal)

@@ -27,7 +27,7 @@ use Rattle.bus_rules.proofs.Quick.{quick-e, quick-d, info1-hears, info3-hears, 
 use Rattle.bus_rules.proofs.Stations.{stations-stationed, stations-hear}
 use Rattle.bus_rules.proofs.OneDone.{among-append}
 use Rattle.exchange.specs.Tally.{begun, also, dHeard, ended}
-use Rattle.exchange.specs.Part.{stationIn, terminalAfterE, completedClass, goneThrough}
+use Rattle.exchange.specs.Part.{stationIn, terminalAfterE, completedClass, tallyWith}
 use Rattle.exchange.specs.Opportunities.{tallyAfter, terminalsAfter, tallyAfterFour, terminalsAfterFour}
 use Rattle.exchange.specs.Shown.{lettersAtE, doneOctet, firstTallyOf, ExchangeShown}
 use Rattle.exchange.specs.declared.tally.Letters.{Letters}
@@ -63,10 +63,10 @@ through ss m =
       info3 = m .info3 || anyInfo3 ss;
     }
 
-gone-through : (images : List ℕ) (i : ℕ) (m : Tally) (ts : List Terminal) → foldFrom (goneThrough images) i m ts ≡ through (stationsFrom images i ts) m
-unfolding foldFrom mapFrom allD anySends goneThrough also completedClass
-gone-through images i m [] = rw (and-true (m .d), or-false (m .info1), or-false (m .info3))
-gone-through images i m (t ∷ ts) = gone-through images (suc i) (goneThrough images i m t) ts ∙ simp (and-assoc, or-assoc)
+tally-with : (images : List ℕ) (i : ℕ) (m : Tally) (ts : List Terminal) → foldFrom (tallyWith images) i m ts ≡ through (stationsFrom images i ts) m
+unfolding foldFrom mapFrom allD anySends tallyWith also completedClass
+tally-with images i m [] = rw (and-true (m .d), or-false (m .info1), or-false (m .info3))
+tally-with images i m (t ∷ ts) = tally-with images (suc i) (tallyWith images i m t) ts ∙ simp (and-assoc, or-assoc)
 
 -- ---- The stations.
 station-turned : (images : List ℕ) (e : Bool) (i : ℕ) (t : Terminal) → stationAfterE e (stationIn images i t) ≡ stationIn images i (terminalAfterE images e i t)
@@ -159,7 +159,7 @@ module _ (images : List ℕ) (any1 any3 : Bool) (k : ℕ) (m : Tally) (l : Lines
 
   after-is : tallyAfter images m ts ≡ ended toEnd
   unfolding tallyAfter
-  after-is = rw (c .stations-are, gone-through images 0 (begun m) ts)
+  after-is = rw (c .stations-are, tally-with images 0 (begun m) ts)
 
   d-is : dHeard toEnd ≡ dComes l
   unfolding begun

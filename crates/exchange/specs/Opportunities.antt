@@ -6,11 +6,11 @@ use Prim.Native.Nat.{ℕ}
 use Rattle.slice_lemmas.specs.Over.{mapFrom, foldFrom}
 use Rattle.terminal.specs.declared.Terminal.{Terminal}
 use Rattle.exchange.specs.Tally.{begun, ended}
-use Rattle.exchange.specs.Part.{terminalAfterE, goneThrough}
+use Rattle.exchange.specs.Part.{terminalAfterE, tallyWith}
 use Rattle.exchange.specs.declared.tally.Tally.{Tally}
 
 unfoldable pub tallyAfter : List ℕ → Tally → List Terminal → Tally
-tallyAfter images m ts = ended (foldFrom (goneThrough images) 0 (begun m) ts)
+tallyAfter images m ts = ended (foldFrom (tallyWith images) 0 (begun m) ts)
 
 unfoldable pub terminalsAfter : List ℕ → Tally → List Terminal → List Terminal
 terminalsAfter images m ts = mapFrom (terminalAfterE images (begun m .e)) 0 ts

@@ -44,8 +44,8 @@ unfoldable pub completedClass : List ℕ → Bool → ℕ → Terminal → ℕ
 completedClass images e i t = cond (inF7 (stationIn images i t)) (accessStepOf e (stationIn images i t) .done) 0
 
 -- the tally with terminal i added
-unfoldable pub goneThrough : List ℕ → ℕ → Tally → Terminal → Tally
-goneThrough images i m t = also (t .state) (dOf (m .e) (stationIn images i t)) (completedClass images (m .e) i t) m
+unfoldable pub tallyWith : List ℕ → ℕ → Tally → Terminal → Tally
+tallyWith images i m t = also (t .state) (dOf (m .e) (stationIn images i t)) (completedClass images (m .e) i t) m
 
 unfoldable pub taken : List ℕ → ℕ → Tally → Terminal → Part
-taken images i m t = record { terminal = terminalAfterE images (m .e) i t; tally = goneThrough images i m t }
+taken images i m t = record { terminal = terminalAfterE images (m .e) i t; tally = tallyWith images i m t }

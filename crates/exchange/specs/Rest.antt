@@ -2,7 +2,7 @@
 -- the E leaves as it is. Then the terminals are as before, and D is 1 at every opportunity, but for
 -- the second where one sends INFO 1. The law `rest-four` holds this to Opportunities.antt. The code
 -- goes this way where none sends INFO 1.
--- Interface: `partRests`, `noneGone`, `alsoRests`, `restOf`, `mayRest`, `restTally`. Assumes
+-- Interface: `partRests`, `noneYet`, `alsoRests`, `restOf`, `mayRest`, `restTally`. Assumes
 -- nothing.
 use mathlib.Core.Path.{_≡_}
 use mathlib.Core.Bool.{Bool, true, false, cond, not, _&&_, _||_}
@@ -38,8 +38,8 @@ statesOf ts = map (λ (t : Terminal). t .state) ts
 
 -- ---- As the code gathers it, for an E of 1 and where none sends INFO 1.
 -- no terminal looked at yet
-abbrev pub noneGone : Rest
-noneGone = record { still = true; info3 = false }
+abbrev pub noneYet : Rest
+noneYet = record { still = true; info3 = false }
 
 abbrev pub alsoRests : ℕ → Rest → Terminal → Rest
 alsoRests i r t =
@@ -49,7 +49,7 @@ alsoRests i r t =
     }
 
 unfoldable pub restOf : List Terminal → Rest
-restOf ts = foldFrom alsoRests 0 noneGone ts
+restOf ts = foldFrom alsoRests 0 noneYet ts
 
 -- the E that the terminals hear, a hit's letter applied to it, where `heardD` is the last D heard
 abbrev pub eSent : ℕ → ℕ → Bool → Bool

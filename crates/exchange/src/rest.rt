@@ -1,6 +1,6 @@
 // An exchange in which no terminal takes part.
 ghost use mathlib.Core.Path.{_≡_};
-ghost use Rattle.exchange.specs.Rest.{partRests, noneGone, alsoRests, restOf};
+ghost use Rattle.exchange.specs.Rest.{partRests, noneYet, alsoRests, restOf};
 ghost use mathlib.Core.Bool.{true};
 use table_6_2::F7;
 use table_6_2::info_sent;
@@ -24,7 +24,7 @@ pub fn part_rests(terminal: Terminal) -> bool
 impl Rest {
     // Starts with no terminal looked at.
     fn start() -> Self
-        ensures { λ r. ⌜ r ≡ noneGone ⌝ }
+        ensures { λ r. ⌜ r ≡ noneYet ⌝ }
     {
         Rest {
             still: true,

@@ -24,7 +24,7 @@ use Rattle.slice_lemmas.specs.Over.{mapFrom, foldFrom}
 use Rattle.bus_rules.specs.Quick.{sentE}
 use Rattle.bus_rules.specs.Exchange.{stationAfterE, accessStepOf, dOf}
 use Rattle.exchange.specs.Tally.{noLetters, begun, also, dHeard, ended}
-use Rattle.exchange.specs.Part.{imageBit, stationIn, terminalAfterE, completedClass, goneThrough}
+use Rattle.exchange.specs.Part.{imageBit, stationIn, terminalAfterE, completedClass, tallyWith}
 use Rattle.exchange.specs.Opportunities.{tallyAfter, terminalsAfter, tallyAfterFour, terminalsAfterFour}
 use Rattle.exchange.specs.declared.tally.Tally.{Tally}
 use Rattle.exchange.proofs.Images.{image-at}
@@ -255,8 +255,8 @@ module _ (images : List ℕ) (s : LoneSender) (goes : loneSends s ≡ true) (sta
   state-kept i t = by-test (eqb (t .state) F7) (λ h. rw h) (λ h. rw h)
 
   one-through : (i : ℕ) (d info3 : Bool) (t : Terminal) → loneStation (s .at) (s .length) i t ≡ true
-      → goneThrough images i (here d info3) (followed s i t) ≡ here (d && bitOf images s goes i t) (info3 || eqb (infoIn infoSent (t .state)) 3)
-  unfolding goneThrough
+      → tallyWith images i (here d info3) (followed s i t) ≡ here (d && bitOf images s goes i t) (info3 || eqb (infoIn infoSent (t .state)) 3)
+  unfolding tallyWith
   one-through i d info3 t station =
       let f = follows images s goes i t station in
       rw (f .d-is, f .done-is, state-kept i t) (also-is state place ds heardD (s .last) d info3 (t .state) (bitOf images s goes i t) (station-asks (s .at) (s .length) i t station .0))
@@ -272,28 +272,28 @@ module _ (images : List ℕ) (s : LoneSender) (goes : loneSends s ≡ true) (sta
   other-bit : (i : ℕ) (t : Terminal) → eqb i (s .at) ≡ false → bitOf images s goes i t ≡ true
   other-bit i t is = by-test (eqb (t .state) F7) (λ h. rw (h, is)) (λ h. rw h)
 
-  gone-after : (i : ℕ) (d : Bool) (ts : List Terminal) → s .at < i → Stationed i ts → foldFrom (goneThrough images) i (here d true) (mapFrom (followed s) i ts) ≡ here d true
+  gone-after : (i : ℕ) (d : Bool) (ts : List Terminal) → s .at < i → Stationed i ts → foldFrom (tallyWith images) i (here d true) (mapFrom (followed s) i ts) ≡ here d true
   unfolding foldFrom mapFrom
   gone-after i d [] past h = refl
   gone-after i d (t ∷ ts) past h =
       let g = stationed-both i t ts h in
-      let same : goneThrough images i (here d true) (followed s i t) ≡ here d true = one-through i d true t (g .0) ∙ rw (other-bit i t (ne-eqb i (s .at) (λ z. omega arith)), and-true d) in
-      ap (λ (m : Tally). foldFrom (goneThrough images) (suc i) m (mapFrom (followed s) (suc i) ts)) same ∙ gone-after (suc i) d ts (omega arith) (g .1)
+      let same : tallyWith images i (here d true) (followed s i t) ≡ here d true = one-through i d true t (g .0) ∙ rw (other-bit i t (ne-eqb i (s .at) (λ z. omega arith)), and-true d) in
+      ap (λ (m : Tally). foldFrom (tallyWith images) (suc i) m (mapFrom (followed s) (suc i) ts)) same ∙ gone-after (suc i) d ts (omega arith) (g .1)
 
   -- the sender and those before it
-  gone-through : (i : ℕ) (info3 : Bool) (ts : List Terminal) → Stationed i ts → senderIn (s .at) i ts ≡ true
-      → foldFrom (goneThrough images) i (here true info3) (mapFrom (followed s) i ts) ≡ here (loneBit images s) true
+  tally-with : (i : ℕ) (info3 : Bool) (ts : List Terminal) → Stationed i ts → senderIn (s .at) i ts ≡ true
+      → foldFrom (tallyWith images) i (here true info3) (mapFrom (followed s) i ts) ≡ here (loneBit images s) true
   unfolding foldFrom mapFrom senderIn
-  gone-through i info3 [] h sender = clash false sender refl
-  gone-through i info3 (t ∷ ts) h sender =
+  tally-with i info3 [] h sender = clash false sender refl
+  tally-with i info3 (t ∷ ts) h sender =
       let g = stationed-both i t ts h in
-      let rest : Tally → Tally = λ m. foldFrom (goneThrough images) (suc i) m (mapFrom (followed s) (suc i) ts) in
+      let rest : Tally → Tally = λ m. foldFrom (tallyWith images) (suc i) m (mapFrom (followed s) (suc i) ts) in
       by-test (eqb i (s .at))
       (λ is. let f7 : eqb (t .state) F7 ≡ true = rw is at sender in
       ap rest (one-through i true info3 t (g .0) ∙ rw (f7, is, sends-info3 (t .state) f7, or-true info3))
       ∙ gone-after (suc i) (loneBit images s) ts (omega (arith, eqb-true i (s .at) is)) (g .1))
       (λ is. ap rest (one-through i true info3 t (g .0) ∙ rw (other-bit i t is))
-      ∙ gone-through (suc i) (info3 || eqb (infoIn infoSent (t .state)) 3) ts (g .1) (rw is at sender))
+      ∙ tally-with (suc i) (info3 || eqb (infoIn infoSent (t .state)) 3) ts (g .1) (rw is at sender))
 
 -- ---- One opportunity, and the four.
 module _ (images : List ℕ) (state : ℕ) (ts : List Terminal) (info : eqb (infoIn table63.infoSent state) 4 ≡ true) where
@@ -302,7 +302,7 @@ module _ (images : List ℕ) (state : ℕ) (ts : List Terminal) (info : eqb (inf
         ≡ tallyAt state (cond (ltb place 3) (place + 1) 0) (record { first = ds .second; second = ds .third; third = ds .fourth; fourth = loneBit images s }) (loneBit images s) (s .last) (loneBit images s) true
     unfolding tallyAfter
     tally-once =
-        rw (begun-is state place ds (s .last) e d info3 info, gone-through images s goes state place ds (s .last) 0 false ts stations sender)
+        rw (begun-is state place ds (s .last) e d info3 info, tally-with images s goes state place ds (s .last) 0 false ts stations sender)
         (ended-is state place ds (s .last) (s .last) (loneBit images s) true)
 
     terminals-once : terminalsAfter images (tallyAt state place ds (s .last) e d info3) (mapFrom (followed s) 0 ts) ≡ mapFrom (followed (loneAfterE images s)) 0 ts

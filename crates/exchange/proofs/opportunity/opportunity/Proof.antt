@@ -7,7 +7,7 @@ use Rattle.terminal.proofs.Terminal as T
 use Prim.Native.Nat.{zero}
 use Rattle.slice_lemmas.specs.Over.{mapFrom, foldFrom}
 use Rattle.exchange.specs.Tally.{begun, also, ended}
-use Rattle.exchange.specs.Part.{terminalAfterE, goneThrough, taken}
+use Rattle.exchange.specs.Part.{terminalAfterE, tallyWith, taken}
 use Rattle.exchange.specs.Opportunities.{tallyAfter, terminalsAfter}
 use Rattle.exchange.specs.declared.tally.Tally.{Tally}
 use Rattle.exchange.specs.declared.part.Part.{Part}
@@ -46,11 +46,11 @@ module _ {M : Type 1} (𝓤 : URA M) (H : Heap 𝓤) (A : Atoms 𝓤) (mem : Mem
   End = tripleOf 𝓤 H A end.signature (end.spec 𝓤 H A mem run)
 
 -- going through terminals does not change the E
-same-e : (es : List ℕ) (m : Tally) (j k : ℕ) (ys : List Terminal) → acc (goneThrough es) m j k ys .e ≡ m .e
-unfolding goneThrough also
+same-e : (es : List ℕ) (m : Tally) (j k : ℕ) (ys : List Terminal) → acc (tallyWith es) m j k ys .e ≡ m .e
+unfolding tallyWith also
 same-e es m zero k ys = refl
 same-e es m (suc j) k [] = refl
-same-e es m (suc j) k (y ∷ ys) = same-e es (goneThrough es k m y) j (suc k) ys
+same-e es m (suc j) k (y ∷ ys) = same-e es (tallyWith es k m y) j (suc k) ys
 
 module _ {M : Type 1} (𝓤 : URA M) (H : Heap 𝓤) (A : Atoms 𝓤) (W : Given 𝓤 H A) (mem : Memory → SProp 𝓤) (run : Routine → Fun 𝓤) (s₁ s₂ : Spot) (ys : List Terminal) (es : List ℕ) (before : Tally)
     (g₁ : Room T.the-row (length ys)) (g₂ : Room u8 (length es)) (gb : Is Mo.the-row before (tallies .val before ∷ [])) where
@@ -74,7 +74,7 @@ module _ {M : Type 1} (𝓤 : URA M) (H : Heap 𝓤) (A : Atoms 𝓤) (W : Given
     list k = upto (terminalAfterE es (m .e)) k 0 ys
 
     abbrev gathered : ℕ → Tally
-    gathered k = acc (goneThrough es) m k 0 ys
+    gathered k = acc (tallyWith es) m k 0 ys
 
     abbrev elem : ℕ → Terminal
     elem k = getD (list k) k (terminals .blank)
@@ -88,7 +88,7 @@ module _ {M : Type 1} (𝓤 : URA M) (H : Heap 𝓤) (A : Atoms 𝓤) (W : Given
     promised : (r : Tally) → r ≡ ended (gathered n) → (r ≡ tallyAfter es before ys) × (list n ≡ terminalsAfter es before ys)
     unfolding tallyAfter terminalsAfter
     promised r is =
-        (is ∙ ap ended (acc-all (goneThrough es) m 0 ys ∙ ap (λ (x : Tally). foldFrom (goneThrough es) 0 x ys) starts), upto-all (terminalAfterE es (m .e)) 0 ys ∙ ap (λ (x : Tally). mapFrom (terminalAfterE es (x .e)) 0 ys) starts)
+        (is ∙ ap ended (acc-all (tallyWith es) m 0 ys ∙ ap (λ (x : Tally). foldFrom (tallyWith es) 0 x ys) starts), upto-all (terminalAfterE es (m .e)) 0 ys ∙ ap (λ (x : Tally). mapFrom (terminalAfterE es (x .e)) 0 ys) starts)
 
     exits : (r : Tally) → r ≡ ended (gathered n) → Is Mo.the-row r (tallies .val r ∷ []) → ent 𝓤 (⋆ 𝓤 H A (itemsOf W (params (list n)))) (Post (tallies .val r))
     exits r is gr = returns-with W (params (list n)) all.ended (stays-of all.ended ways) (all.clauses 𝓤 H A mem run) bound tallies r (list n, (tt, (tt, tt))) (upto-length (terminalAfterE es (m .e)) n 0 ys, (tt, (tt, tt))) gr (id⊢ 𝓤 _) (says-two 𝓤 (promised r is))
@@ -117,7 +117,7 @@ module _ {M : Type 1} (𝓤 : URA M) (H : Heap 𝓤) (A : Atoms 𝓤) (W : Given
 
       next-gathered : r .tally ≡ gathered (k + 1)
       unfolding taken
-      next-gathered = ap (λ (s : Part). s .tally) is ∙ one-gathered (goneThrough es) (terminalAfterE es (m .e)) m k ys (terminals .blank) l
+      next-gathered = ap (λ (s : Part). s .tally) is ∙ one-gathered (tallyWith es) (terminalAfterE es (m .e)) m k ys (terminals .blank) l
 
   walk : (𝓣 : Tables 𝓤 H) → Triple 𝓤 (𝓣 .C #begin) (Begin 𝓤 H A mem run) → Triple 𝓤 (𝓣 .C #step) (Step 𝓤 H A mem run) → Triple 𝓤 (𝓣 .C #end) (End 𝓤 H A mem run)
       → ent 𝓤 (onEntry 𝓤 H A all.signature (bound .0 .0) (bound .0 .1) (bound .0 .3) (bound .0 .4)) (WpFn 𝓤 H (𝓣 .C) (𝓣 .Λ) code.function (word s₁ n ∷ word s₂ (length es) ∷ tallies .val before ∷ []) Post)

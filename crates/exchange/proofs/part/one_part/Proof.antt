@@ -12,7 +12,7 @@ use Rattle.dchannel.specs.declared.access.AccessStep.{AccessStep}
 use Rattle.terminal.specs.declared.Terminal.{Terminal}
 use Rattle.bus_rules.specs.Exchange.{stationAfterE, accessStepOf, dOf}
 use Rattle.exchange.specs.Tally.{also}
-use Rattle.exchange.specs.Part.{imageBit, terminalAfterE, completedClass, goneThrough, taken}
+use Rattle.exchange.specs.Part.{imageBit, terminalAfterE, completedClass, tallyWith, taken}
 use Rattle.exchange.specs.declared.tally.Tally.{Tally}
 use Rattle.exchange.specs.declared.part.Part.{Part}
 use Rattle.exchange.proofs.Images.{image-at}
@@ -22,11 +22,11 @@ use Rattle.exchange.proofs.part.one_part.Tie as tie
 module _ (images : List ℕ) (i : ℕ) (m : Tally) (t : Terminal) (m′ : Tally) where
   inside : (bit : Bool) (r : AccessStep) → eqb (t .state) F7 ≡ true → bit ≡ imageBit images i (t .access .sent) → r ≡ accessStep normal1 normal2 (m .e) bit (t .access) → m′ ≡ also (t .state) (r .d) (r .done) m
       → _≡_ {A = Part} (record { terminal = record { t3 = t .t3; access = r .access; state = t .state; alignment = t .alignment }; tally = m′ }) (taken images i m t)
-  unfolding taken terminalAfterE goneThrough completedClass stationAfterE dOf accessStepOf
+  unfolding taken terminalAfterE tallyWith completedClass stationAfterE dOf accessStepOf
   inside bit r h is-bit is-turn is-also = rw (is-also, is-turn, is-bit, terminalAfterE, h, image-at)
 
   outside : eqb (t .state) F7 ≡ false → m′ ≡ also (t .state) true 0 m → _≡_ {A = Part} (record { terminal = t; tally = m′ }) (taken images i m t)
-  unfolding taken terminalAfterE goneThrough completedClass stationAfterE dOf accessStepOf
+  unfolding taken terminalAfterE tallyWith completedClass stationAfterE dOf accessStepOf
   outside h is-also = rw (is-also, terminalAfterE, h)
 
 image-bit-requires : tie.Need-image-bit-requires

@@ -2,7 +2,7 @@
 use Rattle.slice_lemmas.proofs.Walk.{_≡_, refl, _∙_, ap, subst, ℕ, _+_, _<_, List, [], _∷_, lit<, length, getD, URA, w64, Val, vint, SProp, ent, emp, via, id⊢, fst∗, Memory, Routine, Heap, Tables, WpFn, Atoms, Fun, factI, givenOf, tables, tablesOf, Given, ⋆, _$_, !, lit, of-opd, no-more, and-then, bin, Is, Room, onEntry, Meets, tripleOf, Contract, Triple, entered, cited, walkOf, acc, acc-all, one-read, Holds, free, has, loc, sets, sets-last, leaves, blurs, typed, peeks-at, Spot, spot, word, hands-at, Param, plain-of, lfts-at, shares-at, args-at, vals-of, lfts-of, shares-of, args-of, itemsOf, Call, calls-giving, enters-with, returns-with, shr-way, Ways-of, stays-of, meets-by, whiles, next-fits}
 use Rattle.terminal.specs.declared.Terminal.{Terminal}
 use Rattle.terminal.proofs.Terminal as T
-use Rattle.exchange.specs.Rest.{noneGone, alsoRests, restOf}
+use Rattle.exchange.specs.Rest.{noneYet, alsoRests, restOf}
 use Rattle.exchange.specs.declared.rest.Rest.{Rest}
 use Rattle.exchange.proofs.Structs.{terminals, rests}
 use Rattle.exchange.proofs.rest.Rest as R
@@ -49,11 +49,11 @@ module _ {M : Type 1} (𝓤 : URA M) (H : Heap 𝓤) (A : Atoms 𝓤) (W : Given
   abbrev Known : Rest → ℕ → Type 0
   Known r k = Is R.the-row (gathered r k) (rests .val (gathered r k) ∷ [])
 
-  whole : (r : Rest) → r ≡ noneGone → gathered r n ≡ restOf ys
+  whole : (r : Rest) → r ≡ noneYet → gathered r n ≡ restOf ys
   unfolding restOf
-  whole r is = ap (λ (x : Rest). acc alsoRests x n 0 ys) is ∙ acc-all alsoRests noneGone 0 ys
+  whole r is = ap (λ (x : Rest). acc alsoRests x n 0 ys) is ∙ acc-all alsoRests noneYet 0 ys
 
-  exits : (r : Rest) → r ≡ noneGone → Known r n → ent 𝓤 (⋆ 𝓤 H A (itemsOf W params)) (Post (rests .val (gathered r n)))
+  exits : (r : Rest) → r ≡ noneYet → Known r n → ent 𝓤 (⋆ 𝓤 H A (itemsOf W params)) (Post (rests .val (gathered r n)))
   exits r is g = returns-with W params all.ended (stays-of all.ended ways) (all.clauses 𝓤 H A mem run) bound rests (gathered r n) (tt, tt) (tt, tt) g (id⊢ 𝓤 _) (factI 𝓤 _ (emp 𝓤) (whole r is))
 
   abbrev elem : ℕ → Terminal
@@ -68,7 +68,7 @@ module _ {M : Type 1} (𝓤 : URA M) (H : Heap 𝓤) (A : Atoms 𝓤) (W : Given
     last = λ ns ws. ws;
     finals = λ ns ws. id⊢ 𝓤 _;
     result = λ ns. rests;
-    Said = λ ns r ws. r ≡ noneGone;
+    Said = λ ns r ws. r ≡ noneYet;
     ensured = λ ns r ws. id⊢ 𝓤 _;
   }
 
