@@ -49,6 +49,6 @@ unframedPeriod lose a =
 unfoldable pub followed : ℕ → ℕ → Bool → Bool → Alignment → Followed
 followed gain lose pulse framed a = cond pulse (cond framed (framedPeriod gain a) (unframedPeriod lose a)) (becomes fresh)
 
--- Refusal 1: a run of 0 to 2 periods.
+-- What refusal 1 asks for: a run of 0 to 2 periods.
 abbrev pub alignmentInRange : Alignment → Bool
 alignmentInRange a = ltb (a .run) framedToGain

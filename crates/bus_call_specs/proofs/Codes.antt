@@ -42,7 +42,7 @@ use Rattle.bus_event.specs.Event as parts
 use Rattle.bus_call_specs.specs.Kept.{Kept}
 use Rattle.bus_call_specs.specs.Shown.{busIn}
 use Rattle.bus_call_specs.specs.Period.{noteOf, networkNotes, terminalsNotes, answersIn, periodAnswer, keptRun}
-use Rattle.bus_call_specs.specs.Ready.{goesOn}
+use Rattle.bus_call_specs.specs.Ready.{runGoesOn}
 use Rattle.bus_call_specs.specs.Run.{runAnswer, keptAfter}
 use Rattle.bus_call_specs.specs.Event.{reason, eventTold}
 use Rattle.bus_call_specs.specs.Lists.{told, replied, notesTold, doneNotes, readerTold, terminalsHeard, terminalsTold, timersTold, periodTold, runTold, isCode, coded, NotesCoded, RunNotesCoded}
@@ -144,14 +144,14 @@ module _ (k : Kept) where
   unfolding runTold coded
   coded-one =
       by-test (eqb (runAnswer 1 k .reply) 0)
-      (λ t. let one = accepted-one k t in rw (t, one .kept-is, one .ran-is) (coded-period _ (keptRun k .octets)))
+      (λ t. let one = accepted-one k t in rw (t, one .kept-is, one .answer-is) (coded-period _ (keptRun k .octets)))
       (λ t. rw t)
 
 -- ---- A run.
 pub run-notes-coded : RunNotesCoded
 run-notes-coded zero k = coded-one k
 run-notes-coded (suc n) k =
-    by-test (goesOn (runAnswer 1 k) (suc n))
+    by-test (runGoesOn (runAnswer 1 k) (suc n))
     (λ g. rw (told-on (suc n) k g) (run-notes-coded n (keptAfter 1 k)))
     (λ g. rw (told-end (suc n) k g) (coded-one k))
 

@@ -28,7 +28,7 @@ use Rattle.bus_call_specs.specs.Kept.{Kept}
 use Rattle.bus_record.specs.Echo.{hitIn}
 use Rattle.bus_call_specs.specs.Shown.{busIn}
 use Rattle.bus_call_specs.specs.Period.{dRead, leftG3, readerRun, octetsRun, noteOf, bodyOf, answersIn, doneMask, networkNotes, terminalsNotes, periodAnswer, keptRun}
-use Rattle.bus_call_specs.specs.Ready.{runReply, goesOn}
+use Rattle.bus_call_specs.specs.Ready.{runReply, runGoesOn}
 use Rattle.bus_call_specs.specs.Run.{SinglePeriod, answerOn, keptOn, notYet, runAnswer, keptAfter}
 use Rattle.bus_call_specs.specs.Lists.{Carries, called, replied, notesTold, readerTold, periodTold}
 use Rattle.bus_call_specs.proofs.SameExchange.{SameBus, period-same, terminals-same, has-period}
@@ -118,7 +118,7 @@ module _ (k : Kept) (b : Bus) (c : Carries k b) (f : Fit b) where
 
   -- ---- the call: refused by 9, or one period
   last-run : leb mostPeriods (b .periods) ≡ true → (runAnswer 1 k ≡ refusedRun 9 (k .bus)) × (keptAfter 1 k ≡ k)
-  unfolding runAnswer keptAfter answerOn keptOn notYet goesOn refusedRun
+  unfolding runAnswer keptAfter answerOn keptOn notYet runGoesOn refusedRun
   last-run t = let e : runReply 1 k ≡ 9 = rw t at (run-reply k b c f) in (rw e, rw e)
 
   one-more : leb mostPeriods (b .periods) ≡ false → SinglePeriod k
@@ -131,7 +131,7 @@ module _ (k : Kept) (b : Bus) (c : Carries k b) (f : Fit b) where
   pub period-replied : replied k period ≡ bus.reply b period
   unfolding bus.reply refusedRun periodAnswer
   period-replied =
-      replied-run ∙ by-test (leb mostPeriods (b .periods)) (λ t. rw (last-run t .0, t)) (λ t. rw (one-more t .ran-is, t))
+      replied-run ∙ by-test (leb mostPeriods (b .periods)) (λ t. rw (last-run t .0, t)) (λ t. rw (one-more t .answer-is, t))
 
   pub period-notes : notesTold k period ≡ bus.notes b period
   unfolding notesTold bus.notes bus.tells bus.reply
@@ -139,7 +139,7 @@ module _ (k : Kept) (b : Bus) (c : Carries k b) (f : Fit b) where
       rw period-replied
       (by-test (leb mostPeriods (b .periods))
       (λ t. rw t)
-      (λ t. rw (one-more t .ran-is, one-more t .kept-is, t) run-told))
+      (λ t. rw (one-more t .answer-is, one-more t .kept-is, t) run-told))
 
   pub period-carried : Carries (called k period) (bus.after b period)
   unfolding called bus.after bus.does bus.reply

@@ -24,7 +24,7 @@ use Rattle.bus_record.specs.declared.side.RunAnswer.{RunAnswer}
 use Rattle.bus_call_specs.specs.Kept.{Kept}
 use Rattle.bus_call_specs.specs.Shown.{busIn}
 use Rattle.bus_call_specs.specs.Period.{terminalsNotes, anyUnitNote, hasNotes, doneMask, periodAnswer, keptRun}
-use Rattle.bus_call_specs.specs.Ready.{runReply, goesOn}
+use Rattle.bus_call_specs.specs.Ready.{runReply, runGoesOn}
 use Rattle.bus_call_specs.specs.Run.{notYet, runAnswer, keptAfter, keptOn}
 use Rattle.bus_call_specs.specs.Lists.{doneNotes, readerTold, terminalsHeard, terminalsTold, timersTold, periodTold, runTold, QuietRunEnds}
 use Rattle.bus_call_specs.proofs.InOrder.{in-order, one-left}
@@ -157,24 +157,24 @@ module _ (k : Kept) where
     unfolding runTold periodAnswer
     one-silent e =
         let one = period-single k h in
-        rw (one .ran-is) (silent-period _ (keptRun k .octets) (rw (one .ran-is, one .kept-is) at e))
+        rw (one .answer-is) (silent-period _ (keptRun k .octets) (rw (one .answer-is, one .kept-is) at e))
 
 -- ---- A run.
-ends : (n : ℕ) (k : Kept) → runReply 1 k ≡ 0 → runAnswer 1 k .told ≡ false → goesOn (runAnswer 1 k) n ≡ false
+ends : (n : ℕ) (k : Kept) → runReply 1 k ≡ 0 → runAnswer 1 k .told ≡ false → runGoesOn (runAnswer 1 k) n ≡ false
     → k .bus .periods .0 + 1 ≡ min (k .bus .periods .0 + suc n) mostPeriods
-unfolding goesOn periodAnswer periodRun timed heardBy busIn
+unfolding runGoesOn periodAnswer periodRun timed heardBy busIn
 ends n k h t g =
     let one = period-single k h in
     let left : k .bus .periods .0 < mostPeriods = leb-false _ _ (one-left 1 k (omega arith) h) in
     by-test (ltb 0 n)
     (λ l.
     by-test (allRun (runAnswer 1 k .bus .periods))
-    (λ a. let m : mostPeriods ≤ k .bus .periods .0 + 1 = leb-true _ _ (rw (one .ran-is) at a) in omega arith)
-    (λ a. clash true refl (rw (one .ran-is) at (rw (t, l, a) at g))))
+    (λ a. let m : mostPeriods ≤ k .bus .periods .0 + 1 = leb-true _ _ (rw (one .answer-is) at a) in omega arith)
+    (λ a. clash true refl (rw (one .answer-is) at (rw (t, l, a) at g))))
     (λ l. let z = ltb-false 0 n l in omega arith)
 
 -- where a run goes on, the rest is not refused
-rest-runs : (n : ℕ) (k : Kept) → goesOn (runAnswer 1 k) n ≡ true → runReply n (keptAfter 1 k) ≡ 0
+rest-runs : (n : ℕ) (k : Kept) → runGoesOn (runAnswer 1 k) n ≡ true → runReply n (keptAfter 1 k) ≡ 0
 rest-runs zero k g = absurd (omega (arith, ltb-true 0 0 (goes-facts (runAnswer 1 k) 0 g .0)))
 rest-runs (suc m) k g = same-reply m (keptAfter 1 k) ∙ goes-again k (suc m) g
 
@@ -187,7 +187,7 @@ come-to : (most : ℕ) (k : Kept) → runReply most k ≡ 0 → runTold most k �
 come-to zero k h e = rw (none-run k) (omega (arith, in-order 0 k h .periods-fit))
 come-to (suc n) k h e =
     let h1 : runReply 1 k ≡ 0 = sym (same-reply n k) ∙ h in
-    by-test (goesOn (runAnswer 1 k) n)
+    by-test (runGoesOn (runAnswer 1 k) n)
     (λ g. rw (kept-on n k g) (omega (arith, one-more k h1, come-to n (keptAfter 1 k) (rest-runs n k g) (sym (told-on n k g) ∙ e))))
     (λ g. rw (kept-end n k g) (one-more k h1 ∙ ends n k h1 (one-silent k h1 (sym (told-end n k g) ∙ e)) g))
 

@@ -25,7 +25,7 @@ use Rattle.bus_record.specs.declared.side.RunAnswer.{RunAnswer}
 use Rattle.bus_call_specs.specs.Kept.{Kept, settled}
 use Rattle.bus_call_specs.specs.Shown.{busIn}
 use Rattle.bus_call_specs.specs.Period.{terminalsNotes, anyUnitNote, hasNotes, periodAnswer, keptRun}
-use Rattle.bus_call_specs.specs.Ready.{runReply, goesOn}
+use Rattle.bus_call_specs.specs.Ready.{runReply, runGoesOn}
 use Rattle.bus_call_specs.specs.Run.{notYet, runAnswer, keptAfter, answerOn, keptOn, SinglePeriod}
 use Rattle.bus_call_specs.specs.Lists.{called, replied, readerTold, terminalsHeard, terminalsTold, timersTold, periodTold, notesTold, LentCall, finds, leftBy, callOf, leftAll, notesOfCalls, callsIn, runTold, RunIsCalls, RunsAreCalls}
 use Rattle.bus_call_specs.specs.Lists.LentCall.{runs}
@@ -88,8 +88,8 @@ quiet now r ns octets h =
     )
 
 -- what a run goes on by
-pub goes-by : (last : RunAnswer) (n : ℕ) → goesOn last n ≡ true → (eqb (last .reply) 0 ≡ true) × (last .told ≡ false) × (allRun (last .bus .periods) ≡ false)
-unfolding goesOn
+pub goes-by : (last : RunAnswer) (n : ℕ) → runGoesOn last n ≡ true → (eqb (last .reply) 0 ≡ true) × (last .told ≡ false) × (allRun (last .bus .periods) ≡ false)
+unfolding runGoesOn
 goes-by last n g =
     let all = and-both _ (not (allRun (last .bus .periods))) g in
     let some = and-both _ (ltb 0 n) (all .0) in
@@ -103,7 +103,7 @@ module _ (k : Kept) where
 
   -- ---- a single call
   refused-one : eqb (runReply 1 k) 0 ≡ false → runAnswer 1 k .reply ≡ runReply 1 k
-  unfolding runAnswer answerOn goesOn notYet refusedRun
+  unfolding runAnswer answerOn runGoesOn notYet refusedRun
   refused-one t = rw t
 
   accepted-reply : eqb (runAnswer 1 k .reply) 0 ≡ true → runReply 1 k ≡ 0
@@ -115,7 +115,7 @@ module _ (k : Kept) where
 
   accepted-zero : runReply 1 k ≡ 0 → runAnswer 1 k .reply ≡ 0
   unfolding periodAnswer
-  accepted-zero h = rw (period-single k h .ran-is)
+  accepted-zero h = rw (period-single k h .answer-is)
 
   replied-run : replied k period ≡ runAnswer 1 k .reply
   unfolding replied
@@ -147,59 +147,59 @@ module _ (k : Kept) where
   one-told =
       rw replied-run
       (by-test (eqb (runAnswer 1 k .reply) 0)
-      (λ t. rw t (ap (λ (n : ℕ). periodTold n (runAnswer 1 k) (keptAfter 1 k .notes) (keptAfter 1 k .octets)) (rw (accepted-one t .ran-is) counted)))
+      (λ t. rw t (ap (λ (n : ℕ). periodTold n (runAnswer 1 k) (keptAfter 1 k .notes) (keptAfter 1 k .octets)) (rw (accepted-one t .answer-is) counted)))
       (λ t. rw t))
 
   -- a run goes on after a period that has no note
-  pub goes-quiet : (n : ℕ) → goesOn (runAnswer 1 k) n ≡ true → notesTold k period ≡ []
+  pub goes-quiet : (n : ℕ) → runGoesOn (runAnswer 1 k) n ≡ true → notesTold k period ≡ []
   unfolding notesTold
   goes-quiet n g =
       let on = goes-by (runAnswer 1 k) n g in
       let one = accepted-one (on .0) in
-      let none : periodAnswer k .told ≡ false = rw (one .ran-is) at (on .1) in
-      rw (replied-run, on .0, one .ran-is, one .kept-is) (quiet-run (k .bus .periods .0) none)
+      let none : periodAnswer k .told ≡ false = rw (one .answer-is) at (on .1) in
+      rw (replied-run, on .0, one .answer-is, one .kept-is) (quiet-run (k .bus .periods .0) none)
 
   -- .. and the next one is not refused
-  pub goes-again : (n : ℕ) → goesOn (runAnswer 1 k) n ≡ true → runReply 1 (keptAfter 1 k) ≡ 0
+  pub goes-again : (n : ℕ) → runGoesOn (runAnswer 1 k) n ≡ true → runReply 1 (keptAfter 1 k) ≡ 0
   unfolding keptRun
   goes-again n g =
       let on = goes-by (runAnswer 1 k) n g in
       let h = accepted-reply (on .0) in
       let one = accepted-one (on .0) in
-      let left : allRun (periodAnswer k .bus .periods) ≡ false = rw (one .ran-is) at (on .2) in
+      let left : allRun (periodAnswer k .bus .periods) ≡ false = rw (one .answer-is) at (on .2) in
       rw (one .kept-is) (ready-kept 1 k h (one-left 1 k (omega arith) h) 1 ∙ rw left)
 
 -- ---- a run
 module _ (n : ℕ) (k : Kept) where
-  calls-on : goesOn (runAnswer 1 k) n ≡ true → callsIn (suc n) k ≡ runs (k .notes) ∷ callsIn n (keptAfter 1 k)
+  calls-on : runGoesOn (runAnswer 1 k) n ≡ true → callsIn (suc n) k ≡ runs (k .notes) ∷ callsIn n (keptAfter 1 k)
   unfolding callsIn
   calls-on g = rw g
 
-  calls-end : goesOn (runAnswer 1 k) n ≡ false → callsIn (suc n) k ≡ runs (k .notes) ∷ []
+  calls-end : runGoesOn (runAnswer 1 k) n ≡ false → callsIn (suc n) k ≡ runs (k .notes) ∷ []
   unfolding callsIn
   calls-end g = rw g
 
-  pub told-on : goesOn (runAnswer 1 k) n ≡ true → runTold (suc n) k ≡ runTold n (keptAfter 1 k)
+  pub told-on : runGoesOn (runAnswer 1 k) n ≡ true → runTold (suc n) k ≡ runTold n (keptAfter 1 k)
   unfolding runTold
-  told-on g = let s = run-single n k in rw (s .ran-is, s .kept-is, g)
+  told-on g = let s = run-single n k in rw (s .answer-is, s .kept-is, g)
 
-  pub told-end : goesOn (runAnswer 1 k) n ≡ false → runTold (suc n) k ≡ runTold 1 k
+  pub told-end : runGoesOn (runAnswer 1 k) n ≡ false → runTold (suc n) k ≡ runTold 1 k
   unfolding runTold
-  told-end g = let s = run-single n k in rw (s .ran-is, s .kept-is, g)
+  told-end g = let s = run-single n k in rw (s .answer-is, s .kept-is, g)
 
-  pub ran-on : goesOn (runAnswer 1 k) n ≡ true → runAnswer (suc n) k ≡ runAnswer n (keptAfter 1 k)
-  ran-on g = run-single n k .ran-is ∙ rw g
+  pub answer-on : runGoesOn (runAnswer 1 k) n ≡ true → runAnswer (suc n) k ≡ runAnswer n (keptAfter 1 k)
+  answer-on g = run-single n k .answer-is ∙ rw g
 
-  pub ran-end : goesOn (runAnswer 1 k) n ≡ false → runAnswer (suc n) k ≡ runAnswer 1 k
-  ran-end g = run-single n k .ran-is ∙ rw g
+  pub ran-end : runGoesOn (runAnswer 1 k) n ≡ false → runAnswer (suc n) k ≡ runAnswer 1 k
+  ran-end g = run-single n k .answer-is ∙ rw g
 
-  pub kept-on : goesOn (runAnswer 1 k) n ≡ true → keptAfter (suc n) k ≡ keptAfter n (keptAfter 1 k)
+  pub kept-on : runGoesOn (runAnswer 1 k) n ≡ true → keptAfter (suc n) k ≡ keptAfter n (keptAfter 1 k)
   kept-on g = run-single n k .kept-is ∙ rw g
 
-  pub kept-end : goesOn (runAnswer 1 k) n ≡ false → keptAfter (suc n) k ≡ keptAfter 1 k
+  pub kept-end : runGoesOn (runAnswer 1 k) n ≡ false → keptAfter (suc n) k ≡ keptAfter 1 k
   kept-end g = run-single n k .kept-is ∙ rw g
 
-  run-ends : goesOn (runAnswer 1 k) n ≡ false → RunIsCalls n k
+  run-ends : runGoesOn (runAnswer 1 k) n ≡ false → RunIsCalls n k
   unfolding leftAll notesOfCalls
   run-ends g =
       record {
@@ -208,12 +208,12 @@ module _ (n : ℕ) (k : Kept) where
         tells = told-end g ∙ rw (calls-end g, first-told k [], append-nil (notesTold k period)) (one-told k);
       }
 
-run-on : (m : ℕ) (k : Kept) → goesOn (runAnswer 1 k) (suc m) ≡ true → RunIsCalls m (keptAfter 1 k) → RunIsCalls (suc m) k
+run-on : (m : ℕ) (k : Kept) → runGoesOn (runAnswer 1 k) (suc m) ≡ true → RunIsCalls m (keptAfter 1 k) → RunIsCalls (suc m) k
 run-on m k g rest =
     let calls = callsIn (suc m) (keptAfter 1 k) in
     record {
       replies =
-          ap (λ (r : RunAnswer). r .reply) (ran-on (suc m) k g)
+          ap (λ (r : RunAnswer). r .reply) (answer-on (suc m) k g)
           ∙ (rest .replies
           ∙ (replied-run (keptAfter 1 k)
           ∙ (accepted-zero (keptAfter 1 k) (goes-again k (suc m) g) ∙ sym (replied-run k ∙ eqb-true _ _ (goes-by (runAnswer 1 k) (suc m) g .0)))));
@@ -223,8 +223,8 @@ run-on m k g rest =
           ∙ rw (calls-on (suc m) k g, first-told k calls, goes-quiet k (suc m) g, settled-told (keptAfter 1 k) m) (rest .tells);
     }
 
-pub no-more : (last : RunAnswer) → goesOn last 0 ≡ false
-unfolding goesOn
+pub no-more : (last : RunAnswer) → runGoesOn last 0 ≡ false
+unfolding runGoesOn
 no-more last =
     and-left-false ((eqb (last .reply) 0 && not (last .told)) && ltb 0 0) (not (allRun (last .bus .periods)))
     (and-right-false (eqb (last .reply) 0 && not (last .told)) (ltb 0 0) refl)
@@ -232,7 +232,7 @@ no-more last =
 pub runs-are-calls : RunsAreCalls
 runs-are-calls zero k = run-ends zero k (no-more (runAnswer 1 k))
 runs-are-calls (suc m) k =
-    by-test (goesOn (runAnswer 1 k) (suc m)) (λ g. run-on m k g (runs-are-calls m (keptAfter 1 k))) (λ g. run-ends (suc m) k g)
+    by-test (runGoesOn (runAnswer 1 k) (suc m)) (λ g. run-on m k g (runs-are-calls m (keptAfter 1 k))) (λ g. run-ends (suc m) k g)
 
 -- ---- A run that tells of no note has none, whatever it ran.
 quiet-on : (n : ℕ) (k : Kept) (now : ℕ) → answerOn n (periodAnswer k) (keptRun k) .told ≡ false
@@ -240,7 +240,7 @@ quiet-on : (n : ℕ) (k : Kept) (now : ℕ) → answerOn n (periodAnswer k) (kep
 unfolding answerOn keptOn
 quiet-on zero k now h = quiet-run k now h
 quiet-on (suc n) k now h =
-    by-test (goesOn (periodAnswer k) (suc n)) (λ g. rw g (quiet-on n (keptRun k) now (rw g at h))) (λ g. rw g (quiet-run k now (rw g at h)))
+    by-test (runGoesOn (periodAnswer k) (suc n)) (λ g. rw g (quiet-on n (keptRun k) now (rw g at h))) (λ g. rw g (quiet-run k now (rw g at h)))
 
 refused-reply : (n : ℕ) (k : Kept) → eqb (runReply n k) 0 ≡ false → runAnswer n k .reply ≡ runReply n k
 unfolding runAnswer notYet refusedRun

@@ -44,7 +44,7 @@ use Rattle.bus_event.specs.Event.{imagesRoom, areLetters, firstReason, asked, n
 use Rattle.bus_event.specs.Event as parts
 use Rattle.bus_call_specs.specs.Kept.{Kept}
 use Rattle.bus_call_specs.specs.Period.{periodAnswer, keptRun}
-use Rattle.bus_call_specs.specs.Ready.{eightInRange, lentFits, runReason, runReply, goesOn}
+use Rattle.bus_call_specs.specs.Ready.{eightInRange, lentFits, runReason, runReply, runGoesOn}
 use Rattle.bus_call_specs.specs.Run.{answerOn, notYet, runAnswer, keptAfter}
 use Rattle.bus_call_specs.specs.Event.{reason, terminalOf, atTerminal, eventTold, terminalsAfter, imagesAfter, lettersAfter}
 use Rattle.bus_call_specs.specs.Lists.{told, called, replied, notesTold}
@@ -163,7 +163,7 @@ module _ (class : Class) (images : List ℕ) (i : ℕ) (body : List ℕ) (t : Te
   why-not = frameReason (length images) i (length body) t
 
   taken : eqb why-not 0 ≡ true → terminalCalls.handOverCall class (length (image body)) t .reply ≡ 0
-  unfolding frameReason terminalCalls.handOverCall terminal.handsOver terminal.holding handed
+  unfolding frameReason terminalCalls.handOverCall terminalCalls.handsOver terminalCalls.holding handed
   taken z =
       let n = frame-none (terminalCalls.terminalInRange t) (eqb (length images) imagesRoom && ltb i terminals) (eqb (t .state) F7) (isBodyLength (length body)) (eqb (t .access .held) 0) (eqb-true why-not 0 z) in
       rw (n .0, n .1, image-length body (n .2), n .3)
@@ -274,7 +274,7 @@ run-listed false b c = omega arith
 goes-replies : (n : ℕ) (last : RunAnswer) (k : Kept) → last .reply ≡ 0 → answerOn n last k .reply ≡ 0
 unfolding answerOn periodAnswer
 goes-replies zero last k e = e
-goes-replies (suc n) last k e = by-test (goesOn last (suc n)) (λ g. rw g (goes-replies n (periodAnswer k) (keptRun k) refl)) (λ g. rw g e)
+goes-replies (suc n) last k e = by-test (runGoesOn last (suc n)) (λ g. rw g (goes-replies n (periodAnswer k) (keptRun k) refl)) (λ g. rw g e)
 
 module _ (most : ℕ) (k : Kept) where
   run-accepted : eqb (runReply most k) 0 ≡ true → runAnswer most k .reply ≡ 0

@@ -20,14 +20,14 @@ use Rattle.bus_record.specs.NetworkSide.{refusedRun}
 use Rattle.bus_record.specs.declared.side.RunAnswer.{RunAnswer}
 use Rattle.bus_call_specs.specs.Kept.{Kept}
 use Rattle.bus_call_specs.specs.Period.{periodAnswer, keptRun}
-use Rattle.bus_call_specs.specs.Ready.{runReason, runReply, goesOn}
+use Rattle.bus_call_specs.specs.Ready.{runReason, runReply, runGoesOn}
 use Rattle.bus_call_specs.specs.Run.{answerOn, keptOn, notYet, runAnswer, keptAfter}
 use Rattle.bus_call_specs.specs.Lists.{Carries, called, replied, RunOfRules, RunCarried, NoPeriodsRun, NoPeriodsCarried}
 use Rattle.bus_call_specs.proofs.InOrder.{order-reply}
 use Rattle.bus_call_specs.proofs.RunSingle.{period-single}
 use Rattle.bus_call_specs.proofs.Fitting.{Fit, always-fit, in-order, run-reply}
 use Rattle.bus_call_specs.proofs.PeriodCarried.{run-carried, run-told, period-replied, period-notes, period-carried}
-use Rattle.bus_call_specs.proofs.QuietRuns.{quiet-run, goes-by, goes-quiet, one-told, told-on, told-end, ran-on, ran-end, kept-on, kept-end, no-more}
+use Rattle.bus_call_specs.proofs.QuietRuns.{quiet-run, goes-by, goes-quiet, one-told, told-on, told-end, answer-on, ran-end, kept-on, kept-end, no-more}
 use Rattle.bus_call_specs.proofs.QuietEnds.{silent-period}
 
 none-long : (ns : List Note) → eqb (length ns) 0 ≡ true → ns ≡ []
@@ -63,23 +63,23 @@ module _ (k : Kept) (b : Bus) (c : Carries k b) (f : Fit b) where
   unfolding replied
   reply-is = period-replied k b c f
 
-  goes-same : (m : ℕ) → goesOn (runAnswer 1 k) (suc m) ≡ bus.goesOn b
-  unfolding goesOn bus.goesOn bus.notes bus.after bus.reply bus.does bus.tells periodAnswer
+  goes-same : (m : ℕ) → runGoesOn (runAnswer 1 k) (suc m) ≡ bus.runGoesOn b
+  unfolding runGoesOn bus.runGoesOn bus.notes bus.after bus.reply bus.does bus.tells periodAnswer
   goes-same m =
       by-test (leb mostPeriods (b .periods))
       (λ t. rw (reply-is, t) (rw t))
       (λ t.
       let one = period-single k (rw t at (run-reply k b c f)) in
-      rw (one .ran-is, t, lt-ltb 0 (suc m) (omega arith), left-same, zero-or-nine, told-same)
+      rw (one .answer-is, t, lt-ltb 0 (suc m) (omega arith), left-same, zero-or-nine, told-same)
       (without-true (eqb (length (periodNotes b)) 0) (not (leb mostPeriods (periodRun b .periods)))))
 
   -- ---- The rules' calls.
-  calls-on : (n : ℕ) → bus.goesOn b ≡ true → bus.runCalls (suc n) b ≡ period ∷ bus.runCalls n (bus.after b period)
+  calls-on : (n : ℕ) → bus.runGoesOn b ≡ true → bus.runCalls (suc n) b ≡ period ∷ bus.runCalls n (bus.after b period)
   unfolding bus.runCalls
   calls-on n g = rw g
 
   -- ---- A run that ends with its first period.
-  ends : (n : ℕ) → goesOn (runAnswer 1 k) n ≡ false → bus.runCalls (suc n) b ≡ period ∷ [] → RunOfRules (suc n) k b
+  ends : (n : ℕ) → runGoesOn (runAnswer 1 k) n ≡ false → bus.runCalls (suc n) b ≡ period ∷ [] → RunOfRules (suc n) k b
   unfolding bus.runReply bus.runNotes bus.runLeaves bus.notesOfAll bus.afterAll called
   ends n g e =
       record {
@@ -89,8 +89,8 @@ module _ (k : Kept) (b : Bus) (c : Carries k b) (f : Fit b) where
       }
 
   -- ---- One that goes on.
-  goes : (m : ℕ) → goesOn (runAnswer 1 k) (suc m) ≡ true → RunOfRules (suc m) (keptAfter 1 k) (bus.after b period) → RunOfRules (suc (suc m)) k b
-  unfolding bus.runReply bus.runNotes bus.runLeaves bus.notesOfAll bus.afterAll bus.goesOn
+  goes : (m : ℕ) → runGoesOn (runAnswer 1 k) (suc m) ≡ true → RunOfRules (suc m) (keptAfter 1 k) (bus.after b period) → RunOfRules (suc (suc m)) k b
+  unfolding bus.runReply bus.runNotes bus.runLeaves bus.notesOfAll bus.afterAll bus.runGoesOn
   goes m g rest =
       let on = sym (goes-same m) ∙ g in
       let e = calls-on (suc m) on in
@@ -98,7 +98,7 @@ module _ (k : Kept) (b : Bus) (c : Carries k b) (f : Fit b) where
       let first = eqb-true _ _ (goes-by (runAnswer 1 k) (suc m) g .0) in
       let none : bus.notes b period ≡ [] = sym (period-notes k b c f) ∙ goes-quiet k (suc m) g in
       record {
-        replies = ap (λ (r : RunAnswer). r .reply) (ran-on (suc m) k g) ∙ (rest .replies ∙ (next ∙ (sym first ∙ reply-is)));
+        replies = ap (λ (r : RunAnswer). r .reply) (answer-on (suc m) k g) ∙ (rest .replies ∙ (next ∙ (sym first ∙ reply-is)));
         tells = told-on (suc m) k g ∙ rw (e, none) (rest .tells);
         carries = rw (kept-on (suc m) k g, e) (rest .carries);
       }
@@ -106,9 +106,9 @@ module _ (k : Kept) (b : Bus) (c : Carries k b) (f : Fit b) where
 -- ---- Every run.
 one-call : (b : Bus) → bus.runCalls 1 b ≡ period ∷ []
 unfolding bus.runCalls
-one-call b = by-test (bus.goesOn b) (λ t. rw t) (λ t. rw t)
+one-call b = by-test (bus.runGoesOn b) (λ t. rw t) (λ t. rw t)
 
-calls-end : (n : ℕ) (b : Bus) → bus.goesOn b ≡ false → bus.runCalls (suc n) b ≡ period ∷ []
+calls-end : (n : ℕ) (b : Bus) → bus.runGoesOn b ≡ false → bus.runCalls (suc n) b ≡ period ∷ []
 unfolding bus.runCalls
 calls-end n b g = rw g
 
@@ -116,7 +116,7 @@ from : (n : ℕ) (k : Kept) (b : Bus) → Carries k b → ((later : List Call) �
 unfolding bus.afterAll called
 from zero k b c fit = ends k b c (fit []) zero (no-more (runAnswer 1 k)) (one-call b)
 from (suc m) k b c fit =
-    by-test (goesOn (runAnswer 1 k) (suc m))
+    by-test (runGoesOn (runAnswer 1 k) (suc m))
     (λ g.
     goes k b c (fit []) m g (from m (keptAfter 1 k) (bus.after b period) (period-carried k b c (fit [])) (λ later. fit (period ∷ later))))
     (λ g. ends k b c (fit []) (suc m) g (calls-end (suc m) b (sym (goes-same k b c (fit []) m) ∙ g)))

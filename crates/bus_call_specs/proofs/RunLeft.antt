@@ -8,7 +8,7 @@ use Rattle.timing.specs.Counts.{allRun}
 use Rattle.bus_record.specs.NetworkSide.{refusedRun}
 use Rattle.bus_record.specs.declared.side.RunAnswer.{RunAnswer}
 use Rattle.bus_call_specs.specs.Kept.{Kept}
-use Rattle.bus_call_specs.specs.Ready.{goesOn}
+use Rattle.bus_call_specs.specs.Ready.{runGoesOn}
 use Rattle.bus_call_specs.specs.Period.{octetsRun, periodAnswer, keptRun}
 use Rattle.bus_call_specs.specs.Run.{answerOn, keptOn, notYet, runAnswer, keptAfter, RunLeaves}
 use Rattle.bus_call_specs.proofs.InOrder.{InOrder}
@@ -19,17 +19,17 @@ use Rattle.bus_call_specs.proofs.RunSingle.{goes-facts}
 on-bus : (n : ℕ) (last : RunAnswer) (k : Kept) → last .bus ≡ k .bus → answerOn n last k .bus ≡ keptOn n last k .bus
 unfolding answerOn keptOn keptRun
 on-bus zero last k e = e
-on-bus (suc n) last k e = by-test (goesOn last (suc n)) (λ t. rw t (on-bus n (periodAnswer k) (keptRun k) refl)) (λ t. rw t e)
+on-bus (suc n) last k e = by-test (runGoesOn last (suc n)) (λ t. rw t (on-bus n (periodAnswer k) (keptRun k) refl)) (λ t. rw t e)
 
 on-images : (n : ℕ) (last : RunAnswer) (k : Kept) → keptOn n last k .images ≡ k .images
 unfolding keptOn keptRun
 on-images zero last k = refl
-on-images (suc n) last k = by-test (goesOn last (suc n)) (λ t. rw t (on-images n (periodAnswer k) (keptRun k))) (λ t. rw t)
+on-images (suc n) last k = by-test (runGoesOn last (suc n)) (λ t. rw t (on-images n (periodAnswer k) (keptRun k))) (λ t. rw t)
 
 on-letters : (n : ℕ) (last : RunAnswer) (k : Kept) → keptOn n last k .letters ≡ k .letters
 unfolding keptOn keptRun
 on-letters zero last k = refl
-on-letters (suc n) last k = by-test (goesOn last (suc n)) (λ t. rw t (on-letters n (periodAnswer k) (keptRun k))) (λ t. rw t)
+on-letters (suc n) last k = by-test (runGoesOn last (suc n)) (λ t. rw t (on-letters n (periodAnswer k) (keptRun k))) (λ t. rw t)
 
 pub run-leaves : RunLeaves
 unfolding runAnswer keptAfter notYet refusedRun
@@ -53,7 +53,7 @@ on-left : (n : ℕ) (last : RunAnswer) (k : Kept) → last .bus ≡ k .bus → I
 unfolding keptOn keptRun
 on-left zero last k e o = record { order = o; octets-long = refl }
 on-left (suc n) last k e o =
-    by-test (goesOn last (suc n))
+    by-test (runGoesOn last (suc n))
     (λ t.
     let a : allRun (k .bus .periods) ≡ false = rw e at (goes-facts last (suc n) t .1) in
     let l = on-left n (periodAnswer k) (keptRun k) refl (order-kept k o a) in

@@ -15,7 +15,7 @@ use Rattle.bus_record.specs.declared.side.RunAnswer.{RunAnswer}
 use Rattle.bus_call_specs.specs.Kept.{Kept, kept}
 use Rattle.bus_call_specs.specs.Period.{periodAnswer, keptRun}
 use Rattle.bus_call_specs.specs.Step.{stepAnswer, stepTerminals, stepOctets, stepNotes, StepShows}
-use Rattle.bus_call_specs.specs.Ready.{runReply, goesOn}
+use Rattle.bus_call_specs.specs.Ready.{runReply, runGoesOn}
 use Rattle.bus_call_specs.specs.Run.{answerOn, keptOn, notYet, runAnswer, keptAfter}
 use Rattle.bus_call_specs.proofs.InOrder.{InOrder, in-order}
 use Rattle.bus_call_specs.proofs.StepShown.{order-shows}
@@ -23,18 +23,18 @@ use Rattle.bus_call_specs.proofs.ReadyKept.{order-kept}
 use Rattle.bus_call_specs.proofs.RunSingle.{goes-facts, ran-ends, kept-ends}
 
 -- ---- One turn of the definitions.
-pub ran-goes : (n : ℕ) (last : RunAnswer) (k : Kept) → goesOn last n ≡ true → answerOn n last k ≡ answerOn (n - 1) (periodAnswer k) (keptRun k)
+pub ran-goes : (n : ℕ) (last : RunAnswer) (k : Kept) → runGoesOn last n ≡ true → answerOn n last k ≡ answerOn (n - 1) (periodAnswer k) (keptRun k)
 unfolding answerOn
 ran-goes zero last k g = absurd (omega (arith, ltb-true 0 0 (goes-facts last 0 g .0)))
 ran-goes (suc n) last k g = let less : suc n - 1 ≡ n = omega arith in rw (g, less)
 
-pub kept-goes : (n : ℕ) (last : RunAnswer) (k : Kept) → goesOn last n ≡ true → keptOn n last k ≡ keptOn (n - 1) (periodAnswer k) (keptRun k)
+pub kept-goes : (n : ℕ) (last : RunAnswer) (k : Kept) → runGoesOn last n ≡ true → keptOn n last k ≡ keptOn (n - 1) (periodAnswer k) (keptRun k)
 unfolding keptOn
 kept-goes zero last k g = absurd (omega (arith, ltb-true 0 0 (goes-facts last 0 g .0)))
 kept-goes (suc n) last k g = let less : suc n - 1 ≡ n = omega arith in rw (g, less)
 
-pub goes-reply : (last : RunAnswer) (n : ℕ) → goesOn last n ≡ true → last .reply ≡ 0
-unfolding goesOn
+pub goes-reply : (last : RunAnswer) (n : ℕ) → runGoesOn last n ≡ true → last .reply ≡ 0
+unfolding runGoesOn
 goes-reply last n g = eqb-true (last .reply) 0 (and-both _ _ (and-both _ _ (and-both _ _ g .0) .0) .0)
 
 -- ---- Images and letters do not change; the run comes to `ended` and leaves `end`.
@@ -50,10 +50,10 @@ module _ (images letters : List ℕ) (ended : RunAnswer) (end : Kept) where
     here = kept (last .bus) ts images os letters ns
 
     -- the run has come to its end
-    pub going-ends : goesOn last left ≡ false → (last ≡ ended) × (here ≡ end)
+    pub going-ends : runGoesOn last left ≡ false → (last ≡ ended) × (here ≡ end)
     going-ends g = (sym (ran-ends left last here g) ∙ i .ran-to, sym (kept-ends left last here g) ∙ i .kept-to)
 
-    module _ (g : goesOn last left ≡ true) where
+    module _ (g : runGoesOn last left ≡ true) where
       in-order-here : InOrder here
       in-order-here = i .order (goes-reply last left g)
 
@@ -79,7 +79,7 @@ module _ (images letters : List ℕ) (ended : RunAnswer) (end : Kept) where
       -- after it
       pub going-on : Going (stepAnswer (last .bus) ts images os letters) (left - 1) (stepTerminals (last .bus) ts images letters)
           (stepOctets (last .bus) ts images os letters) (stepNotes (last .bus) ts images letters)
-      going-on = rw (step-here .ran-is, step-here .terminals-are, step-here .octets-are, step-here .notes-are) after-period
+      going-on = rw (step-here .answer-is, step-here .terminals-are, step-here .octets-are, step-here .notes-are) after-period
 
 -- ---- The first turn.
 pub going-first : (most : ℕ) (bus : BusRecord) (ts : List Terminal) (images os letters : List ℕ) (ns : List UnitNotes) →

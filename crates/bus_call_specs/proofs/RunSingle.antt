@@ -12,7 +12,7 @@ use Rattle.bus_record.specs.NetworkSide.{refusedRun}
 use Rattle.bus_record.specs.declared.side.RunAnswer.{RunAnswer}
 use Rattle.bus_call_specs.specs.Kept.{Kept}
 use Rattle.bus_call_specs.specs.Period.{periodAnswer, keptRun}
-use Rattle.bus_call_specs.specs.Ready.{runReason, runReply, goesOn}
+use Rattle.bus_call_specs.specs.Ready.{runReason, runReply, runGoesOn}
 use Rattle.bus_call_specs.specs.Run.{answerOn, keptOn, notYet, runAnswer, keptAfter, SinglePeriods, RunSingle, PeriodSingle}
 use Rattle.bus_call_specs.proofs.InOrder.{one-left}
 use Rattle.bus_call_specs.proofs.ReadyKept.{ready-kept}
@@ -27,16 +27,16 @@ unfolding notYet
 same-start n k = rw (same-reply n k)
 
 -- ---- Whether a run goes on.
-starts : (n : ℕ) (k : Kept) → runReply (suc n) k ≡ 0 → goesOn (notYet (suc n) k) (suc n) ≡ true
-unfolding goesOn notYet refusedRun
+starts : (n : ℕ) (k : Kept) → runReply (suc n) k ≡ 0 → runGoesOn (notYet (suc n) k) (suc n) ≡ true
+unfolding runGoesOn notYet refusedRun
 starts n k h = rw (h, lt-ltb 0 (suc n) (omega arith), one-left (suc n) k (omega arith) h)
 
-pub stays : (n m : ℕ) (k : Kept) → eqb (runReply n k) 0 ≡ false → goesOn (notYet n k) m ≡ false
-unfolding goesOn notYet refusedRun
+pub stays : (n m : ℕ) (k : Kept) → eqb (runReply n k) 0 ≡ false → runGoesOn (notYet n k) m ≡ false
+unfolding runGoesOn notYet refusedRun
 stays n m k h = rw h
 
-pub goes-facts : (last : RunAnswer) (n : ℕ) → goesOn last n ≡ true → (ltb 0 n ≡ true) × (allRun (last .bus .periods) ≡ false)
-unfolding goesOn
+pub goes-facts : (last : RunAnswer) (n : ℕ) → runGoesOn last n ≡ true → (ltb 0 n ≡ true) × (allRun (last .bus .periods) ≡ false)
+unfolding runGoesOn
 goes-facts last n g =
     let a = and-both _ (not (allRun (last .bus .periods))) g in
     (and-both (eqb (last .reply) 0 && not (last .told)) (ltb 0 n) (a .0) .1, not-true _ (a .1))
@@ -51,28 +51,28 @@ unfolding keptAfter keptOn
 first-kept n k h = rw (starts n k h)
 
 -- ---- Where it goes on, what is left to run begins with a period that is not refused.
-module _ (n : ℕ) (k : Kept) (h : runReply 1 k ≡ 0) (g : goesOn (periodAnswer k) n ≡ true) where
+module _ (n : ℕ) (k : Kept) (h : runReply 1 k ≡ 0) (g : runGoesOn (periodAnswer k) n ≡ true) where
   next-reply : runReply n (keptRun k) ≡ 0
   unfolding keptRun
   next-reply = ready-kept 1 k h (one-left 1 k (omega arith) h) n ∙ rw (goes-facts (periodAnswer k) n g .0, goes-facts (periodAnswer k) n g .1)
 
-ran-on : (n : ℕ) (k : Kept) → runReply 1 k ≡ 0 → goesOn (periodAnswer k) n ≡ true → answerOn n (periodAnswer k) (keptRun k) ≡ runAnswer n (keptRun k)
+answer-on : (n : ℕ) (k : Kept) → runReply 1 k ≡ 0 → runGoesOn (periodAnswer k) n ≡ true → answerOn n (periodAnswer k) (keptRun k) ≡ runAnswer n (keptRun k)
 unfolding answerOn
-ran-on zero k h g = absurd (omega (arith, ltb-true 0 0 (goes-facts (periodAnswer k) 0 g .0)))
-ran-on (suc n) k h g = rw g (sym (first-ran n (keptRun k) (next-reply (suc n) k h g)))
+answer-on zero k h g = absurd (omega (arith, ltb-true 0 0 (goes-facts (periodAnswer k) 0 g .0)))
+answer-on (suc n) k h g = rw g (sym (first-ran n (keptRun k) (next-reply (suc n) k h g)))
 
-kept-on : (n : ℕ) (k : Kept) → runReply 1 k ≡ 0 → goesOn (periodAnswer k) n ≡ true → keptOn n (periodAnswer k) (keptRun k) ≡ keptAfter n (keptRun k)
+kept-on : (n : ℕ) (k : Kept) → runReply 1 k ≡ 0 → runGoesOn (periodAnswer k) n ≡ true → keptOn n (periodAnswer k) (keptRun k) ≡ keptAfter n (keptRun k)
 unfolding keptOn
 kept-on zero k h g = absurd (omega (arith, ltb-true 0 0 (goes-facts (periodAnswer k) 0 g .0)))
 kept-on (suc n) k h g = rw g (sym (first-kept n (keptRun k) (next-reply (suc n) k h g)))
 
 -- .. and else it has ended
-pub ran-ends : (n : ℕ) (last : RunAnswer) (k : Kept) → goesOn last n ≡ false → answerOn n last k ≡ last
+pub ran-ends : (n : ℕ) (last : RunAnswer) (k : Kept) → runGoesOn last n ≡ false → answerOn n last k ≡ last
 unfolding answerOn
 ran-ends zero last k g = refl
 ran-ends (suc n) last k g = rw g
 
-pub kept-ends : (n : ℕ) (last : RunAnswer) (k : Kept) → goesOn last n ≡ false → keptOn n last k ≡ k
+pub kept-ends : (n : ℕ) (last : RunAnswer) (k : Kept) → runGoesOn last n ≡ false → keptOn n last k ≡ k
 unfolding keptOn
 kept-ends zero last k g = refl
 kept-ends (suc n) last k g = rw g
@@ -80,21 +80,21 @@ kept-ends (suc n) last k g = rw g
 -- ---- One period.
 pub period-single : PeriodSingle
 unfolding answerOn keptOn
-period-single k h = record { ran-is = first-ran 0 k h; kept-is = first-kept 0 k h }
+period-single k h = record { answer-is = first-ran 0 k h; kept-is = first-kept 0 k h }
 
 -- ---- One period, and the rest.
 runs : (n : ℕ) (k : Kept) → runReply 1 k ≡ 0 → SinglePeriods n k
 runs n k h =
     let one = period-single k h in
     let all : runReply (suc n) k ≡ 0 = same-reply n k ∙ h in
-    by-test (goesOn (periodAnswer k) n)
+    by-test (runGoesOn (periodAnswer k) n)
     (λ g. record {
-      ran-is = rw (one .ran-is, one .kept-is, g) (first-ran n k all ∙ ran-on n k h g);
-      kept-is = rw (one .ran-is, one .kept-is, g) (first-kept n k all ∙ kept-on n k h g);
+      answer-is = rw (one .answer-is, one .kept-is, g) (first-ran n k all ∙ answer-on n k h g);
+      kept-is = rw (one .answer-is, one .kept-is, g) (first-kept n k all ∙ kept-on n k h g);
     })
     (λ g. record {
-      ran-is = rw (one .ran-is, g) (first-ran n k all ∙ ran-ends n (periodAnswer k) (keptRun k) g);
-      kept-is = rw (one .ran-is, one .kept-is, g) (first-kept n k all ∙ kept-ends n (periodAnswer k) (keptRun k) g);
+      answer-is = rw (one .answer-is, g) (first-ran n k all ∙ ran-ends n (periodAnswer k) (keptRun k) g);
+      kept-is = rw (one .answer-is, one .kept-is, g) (first-kept n k all ∙ kept-ends n (periodAnswer k) (keptRun k) g);
     })
 
 -- a run that is refused
@@ -110,7 +110,7 @@ module _ (k : Kept) (h : eqb (runReply 1 k) 0 ≡ false) where
   refused : (n : ℕ) → SinglePeriods n k
   refused n =
       record {
-        ran-is = rw (refused-ran n, refused-ran 0, stays 1 n k h);
+        answer-is = rw (refused-ran n, refused-ran 0, stays 1 n k h);
         kept-is = rw (refused-kept n, refused-ran 0, stays 1 n k h) (sym (refused-kept 0));
       }
 

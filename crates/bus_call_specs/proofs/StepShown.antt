@@ -217,9 +217,9 @@ module _ (k : Kept) (o : InOrder k) (l : k .bus .periods .0 < mostPeriods) where
       let same : k .bus .opportunities .0 + 0 ≡ k .bus .opportunities .0 = omega arith in
       by-test (eqb (k .bus .network .state) G3) (λ t. rw (t, le-leb (k .bus .opportunities .0) (4 * mostPeriods) few)) (λ t. rw (t, same))
 
-  ran-is : stepAnswer (k .bus) (k .terminals) (k .images) (k .octets) (k .letters) ≡ periodAnswer k
+  answer-is : stepAnswer (k .bus) (k .terminals) (k .images) (k .octets) (k .letters) ≡ periodAnswer k
   unfolding stepAnswer side.answerAfter side.answerWith side.readerAfter side.periodHasNote periodAnswer period.readerRun period.hasNotes anyUnitNote hasNote doneOctet period.doneMask periodRun timed heardBy busIn
-  ran-is =
+  answer-is =
       rw (
         tally-is,
         spoken-is,
@@ -236,7 +236,7 @@ module _ (k : Kept) (o : InOrder k) (l : k .bus .periods .0 < mostPeriods) where
 pub order-shows : (k : Kept) → InOrder k → allRun (k .bus .periods) ≡ false → StepShows k
 order-shows k o e =
     let l : k .bus .periods .0 < mostPeriods = leb-false mostPeriods (k .bus .periods .0) e in
-    record { ran-is = ran-is k o l; terminals-are = terminals-are k o l; octets-are = octets-are k o l; notes-are = notes-are k o l }
+    record { answer-is = answer-is k o l; terminals-are = terminals-are k o l; octets-are = octets-are k o l; notes-are = notes-are k o l }
 
 pub step-shown : StepShown
 step-shown k h = order-shows k (in-order 1 k h) (one-left 1 k (omega arith) h)

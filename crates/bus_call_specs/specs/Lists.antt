@@ -36,7 +36,7 @@ use Rattle.bus_record.specs.declared.side.RunAnswer.{RunAnswer}
 use Rattle.bus_event.specs.declared.event.Told.{Told}
 use Rattle.bus_call_specs.specs.Kept.{Kept, kept, found, settled}
 use Rattle.bus_record.specs.Echo.{hitIn}
-use Rattle.bus_call_specs.specs.Ready.{eightInRange, lentFits, goesOn}
+use Rattle.bus_call_specs.specs.Ready.{eightInRange, lentFits, runGoesOn}
 use Rattle.bus_call_specs.specs.Run.{runAnswer, keptAfter}
 use Rattle.bus_call_specs.specs.Event.{eventTold, terminalsAfter, imagesAfter, lettersAfter}
 
@@ -323,7 +323,7 @@ OctetValues (c ∷ more) = OctetValue c × OctetValues more
 -- before left them
 unfoldable pub callsIn : ℕ → Kept → List LentCall
 callsIn zero k = []
-callsIn (suc n) k = runs (k .notes) ∷ cond (goesOn (runAnswer 1 k) n) (callsIn n (keptAfter 1 k)) []
+callsIn (suc n) k = runs (k .notes) ∷ cond (runGoesOn (runAnswer 1 k) n) (callsIn n (keptAfter 1 k)) []
 
 -- the notes of a run of at least one period: the last one's number is one less than the periods run
 unfoldable pub runTold : ℕ → Kept → List Note

@@ -1,6 +1,6 @@
 -- Calls: refusals 1, 2 and 9 of a call that runs periods (document 01, "Reasons a call is turned
 -- down").
--- Interface: `eightInRange`, `runReason`, `runReply`, `goesOn`. Assumes nothing.
+-- Interface: `eightInRange`, `runReason`, `runReply`, `runGoesOn`. Assumes nothing.
 use mathlib.Core.Bool.{Bool, cond, not, _&&_}
 use mathlib.Core.List.{List}
 use Prim.Native.Nat.{ℕ}
@@ -35,5 +35,5 @@ runReply most k =
     runReason (eightInRange (k .terminals)) (k .bus) (length (k .images)) (length (k .octets)) (k .letters) (length (k .notes)) most
 
 -- whether a run goes on with `left` periods left
-unfoldable pub goesOn : RunAnswer → ℕ → Bool
-goesOn last left = ((eqb (last .reply) 0 && not (last .told)) && ltb 0 left) && not (allRun (last .bus .periods))
+unfoldable pub runGoesOn : RunAnswer → ℕ → Bool
+runGoesOn last left = ((eqb (last .reply) 0 && not (last .told)) && ltb 0 left) && not (allRun (last .bus .periods))

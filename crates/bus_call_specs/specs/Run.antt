@@ -11,16 +11,16 @@ use Rattle.bus_record.specs.NetworkSide.{refusedRun}
 use Rattle.bus_record.specs.declared.side.RunAnswer.{RunAnswer}
 use Rattle.bus_call_specs.specs.Kept.{Kept}
 use Rattle.bus_call_specs.specs.Period.{periodAnswer, keptRun}
-use Rattle.bus_call_specs.specs.Ready.{runReply, goesOn}
+use Rattle.bus_call_specs.specs.Ready.{runReply, runGoesOn}
 
 -- at most n periods more: what the last one gave, and what it left
 unfoldable pub answerOn : ℕ → RunAnswer → Kept → RunAnswer
 answerOn zero last k = last
-answerOn (suc n) last k = cond (goesOn last (suc n)) (answerOn n (periodAnswer k) (keptRun k)) last
+answerOn (suc n) last k = cond (runGoesOn last (suc n)) (answerOn n (periodAnswer k) (keptRun k)) last
 
 unfoldable pub keptOn : ℕ → RunAnswer → Kept → Kept
 keptOn zero last k = k
-keptOn (suc n) last k = cond (goesOn last (suc n)) (keptOn n (periodAnswer k) (keptRun k)) k
+keptOn (suc n) last k = cond (runGoesOn last (suc n)) (keptOn n (periodAnswer k) (keptRun k)) k
 
 -- nothing has been run yet: the reply is 0, or the number of the refusal
 unfoldable pub notYet : ℕ → Kept → RunAnswer
@@ -43,15 +43,15 @@ ReadyKept =
 -- ---- A run is a single call of `period`, `runAnswer 1`, and, where that has no notes and another
 -- can be run, the run of the rest from what it left (proofs/RunSingle.antt).
 pub record SinglePeriods (n : ℕ) (k : Kept) : Type 0 where
-  pub ran-is : runAnswer (suc n) k ≡ cond (goesOn (runAnswer 1 k) n) (runAnswer n (keptAfter 1 k)) (runAnswer 1 k)
-  pub kept-is : keptAfter (suc n) k ≡ cond (goesOn (runAnswer 1 k) n) (keptAfter n (keptAfter 1 k)) (keptAfter 1 k)
+  pub answer-is : runAnswer (suc n) k ≡ cond (runGoesOn (runAnswer 1 k) n) (runAnswer n (keptAfter 1 k)) (runAnswer 1 k)
+  pub kept-is : keptAfter (suc n) k ≡ cond (runGoesOn (runAnswer 1 k) n) (keptAfter n (keptAfter 1 k)) (keptAfter 1 k)
 
 abbrev pub RunSingle : Type 0
 RunSingle = (n : ℕ) (k : Kept) → SinglePeriods n k
 
 -- such a call, where it is not refused, is document 01's period
 pub record SinglePeriod (k : Kept) : Type 0 where
-  pub ran-is : runAnswer 1 k ≡ periodAnswer k
+  pub answer-is : runAnswer 1 k ≡ periodAnswer k
   pub kept-is : keptAfter 1 k ≡ keptRun k
 
 abbrev pub PeriodSingle : Type 0

@@ -40,7 +40,7 @@ stepOctets bus ts images octets letters = octetsAfter bus (stepTally bus ts imag
 
 -- ---- Where no reason holds, it is document 01's period (proofs/StepShown.antt).
 pub record StepShows (k : Kept) : Type 0 where
-  pub ran-is : stepAnswer (k .bus) (k .terminals) (k .images) (k .octets) (k .letters) ≡ periodAnswer k
+  pub answer-is : stepAnswer (k .bus) (k .terminals) (k .images) (k .octets) (k .letters) ≡ periodAnswer k
   pub terminals-are : stepTerminals (k .bus) (k .terminals) (k .images) (k .letters) ≡ keptRun k .terminals
   pub octets-are : stepOctets (k .bus) (k .terminals) (k .images) (k .octets) (k .letters) ≡ keptRun k .octets
   pub notes-are : stepNotes (k .bus) (k .terminals) (k .images) (k .letters) ≡ keptRun k .notes

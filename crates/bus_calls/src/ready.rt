@@ -1,7 +1,7 @@
 // The checks before a run: refusals 1, 2 and 9; and whether a run goes on. `in_range` serves
 // `event` too.
 ghost use mathlib.Core.Path.{_≡_};
-ghost use Rattle.bus_call_specs.specs.Ready.{eightInRange, runReason, goesOn};
+ghost use Rattle.bus_call_specs.specs.Ready.{eightInRange, runReason, runGoesOn};
 use bus_event::event::IMAGES_ROOM;
 use bus_record::record::BusRecord;
 use bus_record::side::RunAnswer;
@@ -57,7 +57,7 @@ pub fn run_reason(
 // Tests whether a run goes on with `left` periods left: the last one has no note, and one more can
 // be run.
 pub fn goes_on(last: RunAnswer, left: u32) -> bool
-    ensures { λ r. ⌜ r ≡ goesOn last left ⌝ }
+    ensures { λ r. ⌜ r ≡ runGoesOn last left ⌝ }
 {
     (last.reply == 0) & !last.told & (0 < left) & !last.bus.periods.all_run()
 }

@@ -80,7 +80,7 @@ terminal-bars number now t k =
 -- ---- a frame with a body: 6 outside F7, 8 where one is held
 pub frame-reply : (class : Class) (body : List ℕ) (t : Terminal) → terminalCalls.terminalInRange t ≡ true → isBody body ≡ true →
     terminalCalls.handOverCall class (length (image body)) t .reply ≡ cond (eqb (t .state) F7) (cond (eqb (t .access .held) 0) 0 8) 6
-unfolding terminal.handsOver terminal.holding handed
+unfolding terminalCalls.handsOver terminalCalls.holding handed
 frame-reply class body t h k =
     rw (handed-over-called class (length (image body)) t h)
     (by-test (eqb (t .state) F7)

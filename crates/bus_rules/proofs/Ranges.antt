@@ -80,7 +80,7 @@ module _ (now : ℕ) (l : now ≤ mostPeriods) where
 -- a frame that a terminal takes
 pub hand-over-called : (class : Class) (body : List ℕ) (s : Station) → terminalCalls.terminalInRange (s .terminal) ≡ true → Takes s body →
     terminalCalls.handOverCall class (length (image body)) (s .terminal) .terminal ≡ withFrame (classNumber class) body s .terminal
-unfolding terminal.handsOver terminal.holding withFrame
+unfolding terminalCalls.handsOver terminalCalls.holding withFrame
 hand-over-called class body s r k =
     rw (
       terminal-laws.handed-over-called class (length (image body)) (s .terminal) r,

@@ -24,7 +24,8 @@ use Rattle.terminal.proofs.Laws.{isTerminalNote}
 use Rattle.bus_rules.specs.Bus.{Station, Bus, Note, freshStation, notesOf}
 use Rattle.bus_rules.specs.Exchange.{Sender, Opportunity, stationsOf, doneOf, hearsE, eComes, sendersAfter, onward, asSender, begins, opportunitiesOf, exchanged, wholeDown, wholeUp}
 use Rattle.bus_rules.specs.Order.{unitByUnit}
-use Rattle.bus_rules.specs.Period.{networkHears, terminalHears, saidNotes, doneCodes, hearingCodes, timerCodes, heardBy, notesHeard, notesTimed, periodNotes, TwoParts}
+use Rattle.bus_rules.specs.Period.{networkHears, terminalHears, saidNotes, doneCodes, hearingCodes, timerCodes, heardBy, periodNotes}
+use Rattle.bus_rules.specs.TwoParts.{notesHeard, notesTimed, TwoParts}
 use Rattle.bus_rules.specs.Event.{stationOf, classOf, networkDoes, terminalDoes, eventNotes}
 use Rattle.notes_and_cells.specs.Events.{ON, OFF, AR, HIT}
 use Rattle.bus_rules.specs.Calls.{Call, reply, tells, after, notes}

@@ -53,13 +53,13 @@ notesOfAll b (c ∷ more) = notes b c ++ notesOfAll (after b c) more
 
 -- whether it goes on after a period on this bus: that one hands back no notes, and the next one is
 -- not refused
-unfoldable pub goesOn : Bus → Bool
-goesOn b = eqb (length (notes b period)) 0 && eqb (reply (after b period) period) 0
+unfoldable pub runGoesOn : Bus → Bool
+runGoesOn b = eqb (length (notes b period)) 0 && eqb (reply (after b period) period) 0
 
 -- the calls of a run of at most n periods
 unfoldable pub runCalls : ℕ → Bus → List Call
 runCalls zero b = []
-runCalls (suc n) b = period ∷ cond (goesOn b) (runCalls n (after b period)) []
+runCalls (suc n) b = period ∷ cond (runGoesOn b) (runCalls n (after b period)) []
 
 -- The number that comes back: the first period's, since no later one is called that would be
 -- refused. A run of no periods runs nothing, and is not refused.

@@ -1,6 +1,6 @@
 -- Rules: the exchange of a period by lines (document 01, "The line" and "Order inside a period"). A
--- line is written from the bits that are known so far, with 1 for the rest; the law `as-taken` says
--- that nothing later changes what was taken from it.
+-- line is written from the bits that are known so far, with 1 for the rest; nothing later changes
+-- what was taken from it (the law `as-taken`, Later.antt).
 -- Interface: `sentDown`, `anySends`, `anyInfo1`, `anyInfo3`, `Sender`, `stationsOf`, `inF7`,
 -- `accessStepOf`, `stationAfterE`, `dOf`, `dComes`, `opportunitiesOf`, `exchanged`, `wholeDown`,
 -- `wholeUp`. Assumes nothing.
@@ -75,7 +75,7 @@ pub record Opportunity : Type 0 where
   pub network : ℕ
   pub hit : Hit
   pub senders : List Sender
-  -- the E bits sent
+  -- the E bits so far; INFO 4 carries them, INFO 0 and INFO 2 do not
   pub es : List Bool
   -- the last combined D that the network end heard, and its reader
   pub heardD : Bool

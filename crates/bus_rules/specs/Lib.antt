@@ -5,6 +5,7 @@ pub mod Bus
 pub mod Order
 pub mod Exchange
 pub mod Period
+pub mod TwoParts
 pub mod Event
 pub mod Calls
 pub mod Ranges

@@ -2,8 +2,7 @@
 -- the next one's start".
 -- Interface: `networkHears`, `stepped`, `heardBy`, `periodRun`. Assumes nothing.
 use mathlib.Core.Bool.{cond}
-use mathlib.Core.List.{List, [], _∷_, _++_, map}
-use mathlib.Core.Path.{_≡_}
+use mathlib.Core.List.{List, [], _∷_, map}
 use Prim.Native.Nat.{ℕ, _+_}
 use lib.Dec.{eqb}
 use Rattle.notes_and_cells.specs.Notes.{HEARD, TORN, DONE1, DONE2, noted}
@@ -18,7 +17,7 @@ use Rattle.network.specs.declared.NetworkStep.{NetworkStep}
 use Rattle.terminal.specs.declared.Terminal.{Terminal}
 use Rattle.terminal.specs.declared.TerminalStep.{TerminalStep}
 use Rattle.bus_rules.specs.Bus.{Station, Hit, Bus, Note}
-use Rattle.bus_rules.specs.Order.{ByUnit, dFirst, partInOrder, periodInOrder}
+use Rattle.bus_rules.specs.Order.{ByUnit, dFirst, periodInOrder}
 use Rattle.bus_rules.specs.Exchange.{Sender, Opportunity, stationsOf, exchanged, wholeDown, wholeUp}
 
 -- "Leaving G3 clears the reader silently."
@@ -81,9 +80,6 @@ heardByUnit m b =
       terminals = map (hearingCodes (wholeDown m) (b .periods)) (m .senders);
     }
 
-unfoldable pub notesHeard : Opportunity → Bus → List Note
-notesHeard m b = partInOrder (b .periods) (heardByUnit m b)
-
 -- ---- "Timers that are due (unit 0, then 1 to 8)", at the start of the period that comes.
 unfoldable pub timed : Bus → Bus
 timed b =
@@ -106,16 +102,9 @@ timedByUnit b =
       terminals = map (timerCodes (b .periods)) (b .stations);
     }
 
-unfoldable pub notesTimed : Bus → List Note
-notesTimed b = partInOrder (b .periods) (timedByUnit b)
-
 -- ---- The whole.
 unfoldable pub periodRun : Bus → Bus
 periodRun b = timed (heardBy (exchanged b) b)
 
 unfoldable pub periodNotes : Bus → List Note
 periodNotes b = periodInOrder (b .periods) (heardByUnit (exchanged b) b) (timedByUnit (heardBy (exchanged b) b))
-
--- its two parts (proofs/Telling.antt)
-abbrev pub TwoParts : Type 0
-TwoParts = (b : Bus) → periodNotes b ≡ notesHeard (exchanged b) b ++ notesTimed (heardBy (exchanged b) b)

@@ -26,7 +26,7 @@ use Rattle.dchannel.specs.Handing as handing
 use Rattle.dchannel.specs.declared.access.Access.{Access}
 use Rattle.contention.specs.Change.{change}
 use Rattle.notes_and_cells.specs.Notes.{PH-ACT, PH-DEACT, MPH-ACT, MPH-DEACT, MPH-EI, MPH-EI1, MPH-EI2, MPH-II-CONNECTED, HEARD}
-use Rattle.notes_and_cells.specs.Notes.{DONE1, DROPPED1, REFUSED, noted}
+use Rattle.notes_and_cells.specs.Notes.{MPH-II-DISCONNECTED, TORN, DONE1, DROPPED1, REFUSED, noted}
 use Rattle.notes_and_cells.specs.Cells.{cellIn, infoIn}
 use Rattle.table_6_2.specs.Table62.{F2, F4, F6, F7}
 use Rattle.table_6_3.specs.Table63.{G1, G2, G3, G4}
@@ -45,11 +45,12 @@ use Rattle.bus_rules.specs.Exchange.{Opportunity, sentDown, sentUp, acce
 use Rattle.bus_rules.specs.Exchange.{lineDown, lineUp, eComes, sendersAfter, dComes, saidTo, onward, asSender, begins}
 use Rattle.bus_rules.specs.Exchange.{opportunitiesOf, exchanged, wholeDown, wholeUp}
 use Rattle.bus_rules.specs.Period.{readingAfter, networkHears, terminalHears, stepped, saidNotes, doneCodes, heardBy}
-use Rattle.bus_rules.specs.Period.{notesHeard, timed, notesTimed, periodRun, periodNotes}
+use Rattle.bus_rules.specs.Period.{timed, periodRun, periodNotes}
+use Rattle.bus_rules.specs.TwoParts.{notesHeard, notesTimed}
 use Rattle.bus_rules.specs.Event.{classOf, eventFor, barsNetwork, barsTerminal, bars, reasons, firstHolding, refusal}
 use Rattle.bus_rules.specs.Event.{networkDoes, networkDone, hitGiven, terminalDoes, withFrame, stationAfter, stationDone}
 use Rattle.bus_rules.specs.Event.{eventDone, eventNotes}
-use Rattle.bus_rules.specs.Calls.{Call, reply, does, tells, after, notes, afterAll, notesOfAll, goesOn, runCalls, runReply}
+use Rattle.bus_rules.specs.Calls.{Call, reply, does, tells, after, notes, afterAll, notesOfAll, runGoesOn, runCalls, runReply}
 use Rattle.bus_rules.specs.Calls.{runNotes, runLeaves}
 use Rattle.notes_and_cells.specs.Events.{ON, OFF, AR, DR, D1, D2, HIT}
 use Rattle.bus_rules.specs.Calls.Call.{event, period}
@@ -95,7 +96,7 @@ unfolding within fits tabulate sameSymbols bits.octetBits bits.zeros polarity.al
     terminalHears stepped saidNotes doneCodes heardBy notesHeard timed notesTimed periodRun periodNotes classOf eventFor barsNetwork
     barsTerminal bars reasons firstHolding refusal networkDoes networkDone hitGiven terminalDoes withFrame stationAfter stationDone
     eventDone eventNotes reply does tells after notes afterAll opportunitiesOfCall opportunitiesIn stationThen buses powered
-    poweredFrom poweredIn longestOf longestIn network.bars terminal.bars unitByUnit notesOfAll goesOn runCalls runReply runNotes
+    poweredFrom poweredIn longestOf longestIn network.bars terminal.bars unitByUnit notesOfAll runGoesOn runCalls runReply runNotes
     runLeaves
 handedBack b calls = reportFrom b calls
 
@@ -196,6 +197,21 @@ pub d-notes-first :
     ≡ note 16 0 HEARD (0 ∷ []) ∷ note 16 1 DONE1 [] ∷ note 16 1 MPH-EI1 [] ∷ []
 unfolding handedBack
 d-notes-first = refl
+
+-- The reader's notes come before the table's of unit 0: terminal 1 is switched off while its frame
+-- is sent, and in period 16 the network end reads seven 1s and hears INFO 0.
+pub reader-first :
+    handedBack activated (event 1 D1 (0 ∷ []) ∷ periods 7 (event 1 OFF [] ∷ periods 1 []))
+    ≡ note 16 1 DROPPED1 []
+    ∷ note 16 1 MPH-II-DISCONNECTED []
+    ∷ note 16 1 MPH-DEACT []
+    ∷ note 16 1 PH-DEACT []
+    ∷ note 16 0 TORN []
+    ∷ note 16 0 MPH-DEACT []
+    ∷ note 16 0 MPH-EI []
+    ∷ []
+unfolding handedBack
+reader-first = refl
 
 -- The order of the refusals: 2 before 3, 3 before 4, 6 before 7, 7 before 8. Terminal 1 is in F7,
 -- terminal 2 in F1.

@@ -1,6 +1,6 @@
 -- Rules: hits (document 01, "Bench book and report": `hit`, 48 letters, k keep, p plus, m minus, n
 -- none; refusal 2).
--- Interface: `keepLetter`, `noneLetter`, `struck`, `hit`, `hitFits`, `struckBit`. Assumes nothing.
+-- Interface: `keepLetter`, `minusLetter`, `noneLetter`, `struck`, `hit`, `hitFits`, `struckBit`. Assumes nothing.
 use mathlib.Core.Bool.{Bool, true, false, cond, _&&_}
 use mathlib.Core.List.{List}
 use Prim.Native.Nat.{ℕ}

@@ -41,7 +41,7 @@ pub record IsBody (body : List ℕ) : Type 0 where
   pub at-most : length body ≤ longestBody
   pub octet : (i : ℕ) → getD body i 0 < 256
 
--- the same as a test (`is-body`, `body-is` of ImageLaws)
+-- the same as a test (`is-body`, `body-is` of proofs/ImageLaws.antt)
 unfoldable pub allOctets : List ℕ → Bool
 allOctets [] = true
 allOctets (o ∷ os) = cond (ltb o 256) (allOctets os) false

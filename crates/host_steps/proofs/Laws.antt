@@ -16,7 +16,7 @@ use Rattle.bus_rules.specs.Calls.{Call, reply, after, afterAll, notesOfAll}
 use Rattle.bus_rules.specs.Calls.Call.{event, period}
 use Rattle.bus_event.specs.Event.{imagesRoom, areLetters}
 use Rattle.bus_call_specs.specs.Kept.{Kept, settled}
-use Rattle.bus_call_specs.specs.Ready.{goesOn}
+use Rattle.bus_call_specs.specs.Ready.{runGoesOn}
 use Rattle.bus_call_specs.specs.Lists.{Carries, isCode, coded, told, called, replied, notesTold, runTold, OctetValue, LentCall, callOf, finds, leftBy, isLent, Same, made, leftAll, notesOfCalls, AllAdmitted, lend, callsIn}
 use Rattle.bus_call_specs.specs.Run.{runAnswer as once, keptOn, keptAfter}
 use Rattle.bus_call_specs.proofs.InOrder.{InOrder, order-reply}
@@ -115,7 +115,7 @@ left-stored s c h =
 periods-admitted : (n : ℕ) (k : Kept) → AllAdmitted (callsIn n k)
 unfolding callsIn AllAdmitted
 periods-admitted zero k = tt
-periods-admitted (suc n) k = (tt, by-test (goesOn (once 1 k) n) (λ t. rw t (periods-admitted n (keptAfter 1 k))) (λ t. rw t tt))
+periods-admitted (suc n) k = (tt, by-test (runGoesOn (once 1 k) n) (λ t. rw t (periods-admitted n (keptAfter 1 k))) (λ t. rw t tt))
 
 admitted : (c : Call) → OctetValue c → AllAdmitted (lend c ∷ [])
 unfolding lend AllAdmitted

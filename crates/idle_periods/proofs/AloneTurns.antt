@@ -25,7 +25,7 @@ use Rattle.lone_sender.specs.declared.search.Search.{Search}
 use Rattle.lone_sender.proofs.FoundAlone.{found-alone}
 use Rattle.lone_sender.proofs.Period.{goes-facts, period-alone, clear-on}
 use Rattle.bus_call_specs.specs.Kept.{Kept, kept}
-use Rattle.bus_call_specs.specs.Ready.{goesOn}
+use Rattle.bus_call_specs.specs.Ready.{runGoesOn}
 use Rattle.bus_call_specs.specs.Period.{periodAnswer, keptRun}
 use Rattle.bus_call_specs.specs.Run.{answerOn, keptOn}
 use Rattle.bus_call_specs.specs.Step.{stepTold, stepAnswer, stepTerminals, stepOctets, stepNotes}
@@ -42,8 +42,8 @@ same-place images s = (refl, refl)
 
 -- ---- What goes on alone goes on.
 module _ (images : List ℕ) (a : Alone) (g : goesAlone images a ≡ true) where
-  goes-so : (left : ℕ) → 0 < left → goesOn (a .answer) left ≡ true
-  unfolding goesOn
+  goes-so : (left : ℕ) → 0 < left → runGoesOn (a .answer) left ≡ true
+  unfolding runGoesOn
   goes-so left some = let f = goes-facts images a g in rw (f .no-reply, f .none-told, f .more, lt-ltb 0 left some)
 
   next-period : (os : List ℕ) → aloneAfter images a os .answer .bus .periods .0 ≡ a .answer .bus .periods .0 + 1

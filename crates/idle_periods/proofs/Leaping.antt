@@ -17,7 +17,7 @@ use Rattle.bus_record.specs.NetworkSide.{noNotes, refusedRun}
 use Rattle.bus_record.specs.declared.record.BusRecord.{BusRecord}
 use Rattle.bus_record.specs.declared.side.RunAnswer.{RunAnswer}
 use Rattle.bus_call_specs.specs.Kept.{Kept, kept}
-use Rattle.bus_call_specs.specs.Ready.{runReply, goesOn}
+use Rattle.bus_call_specs.specs.Ready.{runReply, runGoesOn}
 use Rattle.bus_call_specs.specs.Run.{runAnswer, keptAfter}
 use Rattle.bus_call_specs.specs.Step.{stepAnswer, stepTerminals, stepOctets, stepNotes}
 use Rattle.bus_call_specs.proofs.InOrder.{InOrder, in-order, order-reply, one-left}
@@ -72,8 +72,8 @@ unfolding leapt
 leapt-periods j b l = rw (le-leb (b .periods .0 + j) mostPeriods l)
 
 -- after a step over j periods, one can be run
-goes-leapt : (j : ℕ) (b : BusRecord) (left : ℕ) → b .periods .0 + j < mostPeriods → 0 < left → goesOn (refusedRun 0 (leapt j b)) left ≡ true
-unfolding goesOn refusedRun
+goes-leapt : (j : ℕ) (b : BusRecord) (left : ℕ) → b .periods .0 + j < mostPeriods → 0 < left → runGoesOn (refusedRun 0 (leapt j b)) left ≡ true
+unfolding runGoesOn refusedRun
 goes-leapt j b left l some =
     let less : leapt j b .periods .0 < mostPeriods = rw (leapt-periods j b (omega arith)) l in
     rw (lt-ltb 0 left some, lt-leb mostPeriods (leapt j b .periods .0) less)
@@ -87,14 +87,14 @@ module _ (images letters : List ℕ) (ended : RunAnswer) (end : Kept) (ts : List
   none-noted = replicate (length ts) noNotes
 
   -- one
-  over-one : (j : ℕ) (last : RunAnswer) (left : ℕ) (ns : List UnitNotes) → GoesFrom last left ns → goesOn last left ≡ true → Still (suc j) (last .bus) ts
+  over-one : (j : ℕ) (last : RunAnswer) (left : ℕ) (ns : List UnitNotes) → GoesFrom last left ns → runGoesOn last left ≡ true → Still (suc j) (last .bus) ts
       → GoesFrom (refusedRun 0 (leapt 1 (last .bus))) (left - 1) none-noted
   over-one j last left ns i g s =
       rw (still-ran images os letters j (last .bus) ts s, still-terminals images os letters j (last .bus) ts s, still-octets images os letters j (last .bus) ts s, still-notes images os letters j (last .bus) ts s)
       at (going-on images letters ended end last left ts os ns i g)
 
   -- and so many
-  pub over : (j : ℕ) (last : RunAnswer) (left : ℕ) (ns : List UnitNotes) → GoesFrom last left ns → goesOn last left ≡ true → last .bus .opportunities .0 ≤ 4 * last .bus .periods .0
+  pub over : (j : ℕ) (last : RunAnswer) (left : ℕ) (ns : List UnitNotes) → GoesFrom last left ns → runGoesOn last left ≡ true → last .bus .opportunities .0 ≤ 4 * last .bus .periods .0
       → Still (suc j) (last .bus) ts → suc j ≤ left → GoesFrom (refusedRun 0 (leapt (suc j) (last .bus))) (left - suc j) none-noted
   unfolding refusedRun
   over zero last left ns i g m s l = over-one 0 last left ns i g s
@@ -106,7 +106,7 @@ module _ (images letters : List ℕ) (ended : RunAnswer) (end : Kept) (ts : List
       rw (leapt-more b m (suc j) (omega (arith, s .one-left)), fewer) at rest
 
   -- ---- A turn of the loop: a leap, and the period after it.
-  module _ (last : RunAnswer) (left : ℕ) (ns : List UnitNotes) (i : GoesFrom last left ns) (g : goesOn last left ≡ true) where
+  module _ (last : RunAnswer) (left : ℕ) (ns : List UnitNotes) (i : GoesFrom last left ns) (g : runGoesOn last left ≡ true) where
     abbrev far : ℕ
     far = reach (last .bus) ts left
 
@@ -148,7 +148,7 @@ module _ (images letters : List ℕ) (ended : RunAnswer) (end : Kept) (ts : List
 
 -- ---- The law.
 pub leap : Leap
-unfolding refusedRun goesOn
+unfolding refusedRun runGoesOn
 leap left zero k r some h = absurd (omega arith)
 leap left (suc j) k r some h =
     let o = in-order left k r in
@@ -162,4 +162,4 @@ leap left (suc j) k r some h =
     (rw (lt-ltb 0 (suc j) some, more)) (o .opportunities-fit) s (omega arith) in
     let none : suc j - suc j ≡ 0 = omega arith in
     let e = going-ends (k .images) (k .letters) (runAnswer (suc j) k) (keptAfter (suc j) k) (refusedRun 0 (leapt (suc j) (k .bus))) (suc j - suc j) (k .terminals) (k .octets) (replicate (length (k .terminals)) noNotes) last (rw none) in
-    record { ran-is = sym (e .0); kept-is = sym (e .1) ∙ rw (o .eight) }
+    record { answer-is = sym (e .0); kept-is = sym (e .1) ∙ rw (o .eight) }

@@ -12,7 +12,7 @@ use Rattle.bus_record.specs.declared.record.BusRecord.{BusRecord}
 use Rattle.bus_record.specs.declared.side.RunAnswer.{RunAnswer}
 use Rattle.bus_call_specs.specs.Kept.{Kept, kept}
 use Rattle.bus_call_specs.specs.Period.{periodAnswer, keptRun}
-use Rattle.bus_call_specs.specs.Ready.{runReply, goesOn}
+use Rattle.bus_call_specs.specs.Ready.{runReply, runGoesOn}
 use Rattle.bus_call_specs.specs.Run.{answerOn, keptOn}
 use Rattle.bus_call_specs.specs.Step.{stepAnswer, stepTerminals, stepOctets, stepNotes}
 use Rattle.bus_call_specs.proofs.InOrder.{InOrder, in-order, order-reply, one-left}
@@ -24,7 +24,7 @@ use Rattle.idle_periods.proofs.Leaping.{turn-less, turn-on}
 
 -- ---- A run that goes on by turns.
 module _ (images letters : List ℕ) (ended : RunAnswer) (end : Kept) (last : RunAnswer) (left : ℕ) (ts : List Terminal) (os : List ℕ) (ns : List UnitNotes)
-    (i : Going images letters ended end last left ts os ns) (g : goesOn last left ≡ true) where
+    (i : Going images letters ended end last left ts os ns) (g : runGoesOn last left ≡ true) where
   abbrev here : Kept
   here = kept (last .bus) ts images os letters ns
 
@@ -46,7 +46,7 @@ module _ (images letters : List ℕ) (ended : RunAnswer) (end : Kept) (last : Ru
         let o = t some-left reply-here in
         record {
           order = λ _. in-order 0 (kept (r .bus) ts′ images os′ letters ns′) (o .ready);
-          ran-to = sym (o .ran-on) ∙ sym (ran-goes left last here g) ∙ i .ran-to;
+          ran-to = sym (o .answer-on) ∙ sym (ran-goes left last here g) ∙ i .ran-to;
           kept-to = sym (o .kept-on) ∙ sym (kept-goes left last here g) ∙ i .kept-to;
         }
 
@@ -59,8 +59,8 @@ module _ (left : ℕ) (k : Kept) (some : 0 < left) (h : runReply 1 k ≡ 0) wher
   abbrev first : RunAnswer
   first = refusedRun 0 (k .bus)
 
-  goes-first : goesOn first left ≡ true
-  unfolding goesOn refusedRun
+  goes-first : runGoesOn first left ≡ true
+  unfolding runGoesOn refusedRun
   goes-first = rw (lt-ltb 0 left some, one-left 1 k (omega arith) h)
 
   pub from-first : Going (k .images) (k .letters) (answerOn (left - 1) (periodAnswer k) (keptRun k)) (keptOn (left - 1) (periodAnswer k) (keptRun k)) first left (k .terminals) (k .octets) (k .notes)
@@ -71,7 +71,7 @@ module _ (left : ℕ) (k : Kept) (some : 0 < left) (h : runReply 1 k ≡ 0) wher
       → Going (k .images) (k .letters) (answerOn (left - 1) (periodAnswer k) (keptRun k)) (keptOn (left - 1) (periodAnswer k) (keptRun k)) r (left - (1 + over)) ts′ os′ ns′
       → SameEnd left k r over (kept (r .bus) ts′ (k .images) os′ (k .letters) ns′)
   shown-turn r over ts′ os′ ns′ z l i =
-      record { within = l; ready = order-reply 0 (kept (r .bus) ts′ (k .images) os′ (k .letters) ns′) (i .order z); ran-on = sym (i .ran-to); kept-on = sym (i .kept-to) }
+      record { within = l; ready = order-reply 0 (kept (r .bus) ts′ (k .images) os′ (k .letters) ns′) (i .order z); answer-on = sym (i .ran-to); kept-on = sym (i .kept-to) }
 
 -- ---- A leap, and the period after it.
 step-reply : (b : BusRecord) (ts : List Terminal) (images os letters : List ℕ) → stepAnswer b ts images os letters .reply ≡ 0

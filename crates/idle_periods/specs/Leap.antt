@@ -17,7 +17,7 @@ abbrev pub keptLeapt : ℕ → Kept → Kept
 keptLeapt j k = kept (leapt j (k .bus)) (k .terminals) (k .images) (k .octets) (k .letters) (replicate terminals noNotes)
 
 pub record Leaps (j : ℕ) (k : Kept) : Type 0 where
-  pub ran-is : runAnswer j k ≡ refusedRun 0 (leapt j (k .bus))
+  pub answer-is : runAnswer j k ≡ refusedRun 0 (leapt j (k .bus))
   pub kept-is : keptAfter j k ≡ keptLeapt j k
 
 -- of every call that is not refused

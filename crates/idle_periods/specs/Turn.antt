@@ -14,7 +14,7 @@ use Rattle.bus_call_specs.specs.Run.{answerOn, keptOn}
 pub record SameEnd (left : ℕ) (k : Kept) (r : RunAnswer) (over : ℕ) (k′ : Kept) : Type 0 where
   pub within : 1 + over ≤ left
   pub ready : runReply 0 k′ ≡ 0
-  pub ran-on : answerOn (left - 1) (periodAnswer k) (keptRun k) ≡ answerOn (left - (1 + over)) r k′
+  pub answer-on : answerOn (left - 1) (periodAnswer k) (keptRun k) ≡ answerOn (left - (1 + over)) r k′
   pub kept-on : keptOn (left - 1) (periodAnswer k) (keptRun k) ≡ keptOn (left - (1 + over)) r k′
 
 -- the same, where a period can be run and is not refused

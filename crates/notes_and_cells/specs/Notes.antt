@@ -59,7 +59,8 @@ DROPPED2 = 15
 abbrev pub REFUSED : ℕ
 REFUSED = 16
 
--- A call's notes: how many, and the codes in their order. A place that has none is 0.
+-- A call's notes: how many, and the codes in their order. A place that has none is 0. There are four
+-- places: no cell, and no two that act in one call, have more.
 abbrev pub packedNotes : List ℕ → Notes
 packedNotes codes = (length codes, getD codes 0 0, getD codes 1 0, getD codes 2 0, getD codes 3 0)
 

@@ -25,7 +25,7 @@ use Rattle.bus_record.specs.declared.side.RunAnswer.{RunAnswer}
 use Rattle.bus_call_specs.specs.Kept.{Kept, settled}
 use Rattle.bus_call_specs.specs.Shown.{busIn}
 use Rattle.bus_call_specs.specs.Period.{dRead, readerRun, octetsRun, bodyOf, answersIn, hasNotes, periodAnswer, keptRun}
-use Rattle.bus_call_specs.specs.Ready.{runReply, goesOn}
+use Rattle.bus_call_specs.specs.Ready.{runReply, runGoesOn}
 use Rattle.bus_call_specs.specs.Run.{answerOn, notYet, runAnswer, keptAfter}
 use Rattle.bus_call_specs.specs.Lists.{called, replied, notesTold, periodTold, runTold, readerTold}
 use Rattle.bus_call_specs.proofs.InOrder.{InOrder, in-order, order-reply}
@@ -52,11 +52,11 @@ module _ (k : Kept) (o : InOrder k) (l : k .bus .periods .0 < mostPeriods) where
 
   one-accepted : runAnswer 1 k .reply ≡ 0
   unfolding periodAnswer
-  one-accepted = rw (period-single k (not-refused 0) .ran-is)
+  one-accepted = rw (period-single k (not-refused 0) .answer-is)
 
   one-more : runAnswer 1 k .bus .periods .0 ≡ k .bus .periods .0 + 1
   unfolding periodAnswer periodRun timed heardBy busIn
-  one-more = rw (period-single k (not-refused 0) .ran-is)
+  one-more = rw (period-single k (not-refused 0) .answer-is)
 
   period-told : bookTold k period ≡ periodTold (k .bus .periods .0) (runAnswer 1 k) (keptAfter 1 k .notes) (keptAfter 1 k .octets)
   unfolding bookTold notesTold replied
@@ -67,7 +67,7 @@ module _ (k : Kept) (o : InOrder k) (l : k .bus .periods .0 < mostPeriods) where
   told-book = rw one-accepted
 
   -- the run ends after it
-  run-ends : (n : ℕ) → goesOn (runAnswer 1 k) n ≡ false → RunAsPeriods k (suc n)
+  run-ends : (n : ℕ) → runGoesOn (runAnswer 1 k) n ≡ false → RunAsPeriods k (suc n)
   unfolding doneAll done called allBookTold
   run-ends n g =
       let s = run-single n k in
@@ -76,17 +76,17 @@ module _ (k : Kept) (o : InOrder k) (l : k .bus .periods .0 < mostPeriods) where
         count = 1;
         some = omega arith;
         within = omega arith;
-        accepted = rw (s .ran-is, g) one-accepted;
+        accepted = rw (s .answer-is, g) one-accepted;
         left = rw (s .kept-is, g);
-        run = rw (s .ran-is, g) one-more;
+        run = rw (s .answer-is, g) one-more;
         tells =
-            rw (s .ran-is, s .kept-is, g, now, append-nil (bookTold k period), period-told);
+            rw (s .answer-is, s .kept-is, g, now, append-nil (bookTold k period), period-told);
       }
 
 -- a run of one ends there
-no-more : (last : RunAnswer) → goesOn last 0 ≡ false
+no-more : (last : RunAnswer) → runGoesOn last 0 ≡ false
 no-more last =
-    by-test (goesOn last 0) (λ g. absurd (omega (arith, ltb-true 0 0 (goes-facts last 0 g .0)))) (λ g. g)
+    by-test (runGoesOn last 0) (λ g. absurd (omega (arith, ltb-true 0 0 (goes-facts last 0 g .0)))) (λ g. g)
 
 -- ---- What a run tells.
 run-told : (n : ℕ) (k : Kept) → runAnswer n k .reply ≡ 0
@@ -94,11 +94,11 @@ run-told : (n : ℕ) (k : Kept) → runAnswer n k .reply ≡ 0
 unfolding runTold
 run-told n k e = rw e
 
-told-on : (n : ℕ) (k : Kept) → goesOn (runAnswer 1 k) (suc n) ≡ true → runTold (suc (suc n)) k ≡ notesTold k period ++ runTold (suc n) (keptAfter 1 k)
+told-on : (n : ℕ) (k : Kept) → runGoesOn (runAnswer 1 k) (suc n) ≡ true → runTold (suc (suc n)) k ≡ notesTold k period ++ runTold (suc n) (keptAfter 1 k)
 told-on n k g = quiet.told-on (suc n) k g ∙ rw (quiet.goes-quiet k (suc n) g)
 
 -- ---- .. or goes on from there, whatever the notes of the first: it has none.
-module _ (n : ℕ) (k : Kept) (o : InOrder k) (l : k .bus .periods .0 + 1 < mostPeriods) (g : goesOn (runAnswer 1 k) (suc n) ≡ true) where
+module _ (n : ℕ) (k : Kept) (o : InOrder k) (l : k .bus .periods .0 + 1 < mostPeriods) (g : runGoesOn (runAnswer 1 k) (suc n) ≡ true) where
   abbrev next : Kept
   next = keptAfter 1 k
 
@@ -119,8 +119,8 @@ module _ (n : ℕ) (k : Kept) (o : InOrder k) (l : k .bus .periods .0 + 1 < most
   again : next .bus .periods .0 < mostPeriods
   again = omega (arith, next-periods)
 
-  ran-on : runAnswer (suc n) (settled next) ≡ runAnswer (suc n) next
-  ran-on =
+  answer-on : runAnswer (suc n) (settled next) ≡ runAnswer (suc n) next
+  answer-on =
       first-ran n (settled next) (not-refused (settled next) (order-settled next next-order) (omega (arith, settled-periods)) n)
       ∙ (rw (settled-ran next, settled-kept next) (sym (first-ran n next (not-refused next next-order again n))))
 
@@ -133,21 +133,21 @@ module _ (n : ℕ) (k : Kept) (o : InOrder k) (l : k .bus .periods .0 + 1 < most
   unfolding doneAll done called allBookTold
   run-on r =
       let s = run-single (suc n) k in
-      let ran-is : runAnswer (suc (suc n)) k ≡ runAnswer (suc n) next = s .ran-is ∙ rw g in
+      let answer-is : runAnswer (suc (suc n)) k ≡ runAnswer (suc n) next = s .answer-is ∙ rw g in
       let kept-is : keptAfter (suc (suc n)) k ≡ keptAfter (suc n) next = s .kept-is ∙ rw g in
-      let accepted : runAnswer (suc n) next .reply ≡ 0 = rw ran-on at (r .accepted) in
-      let all : runAnswer (suc (suc n)) k .reply ≡ 0 = rw ran-is accepted in
+      let accepted : runAnswer (suc n) next .reply ≡ 0 = rw answer-on at (r .accepted) in
+      let all : runAnswer (suc (suc n)) k .reply ≡ 0 = rw answer-is accepted in
       record {
         count = suc (r .count);
         some = omega arith;
         within = omega (arith, r .within);
         accepted = all;
         left = rw kept-is (rw kept-on at (r .left));
-        run = rw ran-is (omega (arith, settled-periods, rw ran-on at (r .run)));
+        run = rw answer-is (omega (arith, settled-periods, rw answer-on at (r .run)));
         tells =
             sym (run-told (suc (suc n)) k all)
             ∙ (told-on n k g
-            ∙ (ap (λ (ns : List Note). notesTold k period ++ ns) (run-told (suc n) next accepted ∙ (rw (ran-on, kept-on) at (r .tells)))
+            ∙ (ap (λ (ns : List Note). notesTold k period ++ ns) (run-told (suc n) next accepted ∙ (rw (answer-on, kept-on) at (r .tells)))
             ∙ ap (λ (ns : List Note). ns ++ allBookTold (settled next) (replicate (r .count) period)) (told-book k o first)));
       }
 
@@ -155,7 +155,7 @@ module _ (n : ℕ) (k : Kept) (o : InOrder k) (l : k .bus .periods .0 + 1 < most
 runs-on : (n : ℕ) (k : Kept) → InOrder k → k .bus .periods .0 + suc n ≤ mostPeriods → RunAsPeriods k (suc n)
 runs-on zero k o l = run-ends k o (omega arith) 0 (no-more (runAnswer 1 k))
 runs-on (suc n) k o l =
-    by-test (goesOn (runAnswer 1 k) (suc n))
+    by-test (runGoesOn (runAnswer 1 k) (suc n))
     (λ g.
     run-on n k o (omega arith) g
     (runs-on n (settled (keptAfter 1 k)) (order-settled (keptAfter 1 k) (next-order n k o (omega arith) g))
@@ -186,7 +186,7 @@ ran-body : (n : ℕ) (last : RunAnswer) (k : Kept) → last .body ≤ longestBod
 unfolding answerOn periodAnswer answersIn
 ran-body zero last k h = h
 ran-body (suc n) last k h =
-    by-test (goesOn last (suc n))
+    by-test (runGoesOn last (suc n))
     (λ g. rw g (ran-body n (periodAnswer k) (keptRun k) (body-most (dRead (busIn k)) (k .bus .reader) (k .octets))))
     (λ g. rw g h)
 

@@ -24,8 +24,8 @@ use Rattle.alignment.specs.Alignment.{framedToGain, unframedToLose, followed}
 use Rattle.heard_line.specs.Heard.{downwardEvent}
 use Rattle.alignment.specs.declared.Followed.{Followed}
 use Rattle.heard_line.specs.declared.heard.Downward.{Downward}
-use Rattle.terminal.specs.Terminal.{accessAfter, droppedNote, moved, acts, happens, aligned, noTimer, bars, switchesOn, switchesOff, requests, handsOver, holding, timer, heardAs, hears}
-use Rattle.terminal.specs.Calls.{terminalInRange, ready, checked, switchOnCall, switchOffCall, requestCall, timerCall, hearCall, handOverCall}
+use Rattle.terminal.specs.Terminal.{accessAfter, droppedNote, moved, acts, happens, aligned, noTimer, bars, switchesOn, switchesOff, requests, timer, heardAs, hears}
+use Rattle.terminal.specs.Calls.{terminalInRange, ready, checked, switchOnCall, switchOffCall, requestCall, timerCall, hearCall, handOverCall, handsOver, holding}
 use Rattle.terminal.specs.declared.Terminal.{Terminal}
 use Rattle.terminal.specs.declared.TerminalStep.{TerminalStep}
 

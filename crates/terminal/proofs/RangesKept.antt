@@ -28,8 +28,8 @@ use Rattle.dchannel.specs.Ranges.{accessInRange}
 use Rattle.dchannel.specs.declared.access.Access.{Access}
 use Rattle.dchannel.specs.declared.access.Class.{Class}
 use Rattle.dchannel.proofs.RangesKept as dchannel
-use Rattle.terminal.specs.Terminal.{fresh, accessAfter, acts, moved, happens, aligned, noTimer, bars, switchesOn, switchesOff, requests, holding, handsOver, timer, heardAs, hears}
-use Rattle.terminal.specs.Calls.{terminalInRange, ready, checked, switchOnCall, switchOffCall, requestCall, timerCall, hearCall, handOverCall}
+use Rattle.terminal.specs.Terminal.{fresh, accessAfter, acts, moved, happens, aligned, noTimer, bars, switchesOn, switchesOff, requests, timer, heardAs, hears}
+use Rattle.terminal.specs.Calls.{terminalInRange, ready, checked, switchOnCall, switchOffCall, requestCall, timerCall, hearCall, handOverCall, holding, handsOver}
 use Rattle.terminal.specs.declared.Terminal.{Terminal}
 use Rattle.terminal.specs.declared.TerminalStep.{TerminalStep}
 

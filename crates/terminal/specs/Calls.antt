@@ -2,18 +2,22 @@
 -- down"). The rules are in specs/Terminal.antt.
 -- Interface: every name. Assumes nothing.
 use mathlib.Core.Bool.{Bool, false, cond}
+use mathlib.Core.List.{[]}
 use Prim.Native.Nat.{ℕ, _+_}
-use lib.Dec.{ltb}
+use lib.Dec.{eqb, ltb}
 use Rattle.dchannel.specs.Access.{normal2}
+use Rattle.dchannel.specs.Handing.{handed}
 use Rattle.dchannel.specs.Ranges.{accessInRange}
+use Rattle.notes_and_cells.specs.Notes.{packedNotes}
 use Rattle.dchannel.specs.declared.access.Class.{Class}
-use Rattle.table_6_2.specs.Table62.{F1, F8}
+use Rattle.dchannel.specs.declared.access.Handed.{Handed}
+use Rattle.table_6_2.specs.Table62.{F1, F7, F8}
 use Rattle.timing.specs.Counts.{mostPeriods, periodsInRange}
 use Rattle.timing.specs.Timers.{T3}
 use Rattle.timing.specs.declared.counts.Periods.{Periods}
 use Rattle.alignment.specs.Alignment.{alignmentInRange}
 use Rattle.heard_line.specs.declared.heard.Downward.{Downward}
-use Rattle.terminal.specs.Terminal.{unchanged, switchesOn, switchesOff, requests, handsOver, timer, hears}
+use Rattle.terminal.specs.Terminal.{unchanged, switchesOn, switchesOff, requests, timer, hears}
 use Rattle.terminal.specs.declared.Terminal.{Terminal}
 use Rattle.terminal.specs.declared.TerminalStep.{TerminalStep}
 
@@ -48,6 +52,19 @@ timerCall now t = checked timer now t
 
 abbrev pub hearCall : Downward → Periods → Terminal → TerminalStep
 hearCall line now t = checked (hears line) now t
+
+-- What the access answers to a hand-over, taken into the record.
+unfoldable pub holding : Handed → Terminal → TerminalStep
+holding h t =
+    record {
+      terminal = record { t3 = t .t3; access = h .access; state = t .state; alignment = t .alignment };
+      notes = packedNotes [];
+      reply = h .reply;
+    }
+
+-- A frame whose image has n bits is handed over: refusal 6 outside F7, then 7 and 8.
+unfoldable pub handsOver : Class → ℕ → Terminal → TerminalStep
+handsOver class n t = cond (eqb (t .state) F7) (holding (handed class n (t .access)) t) (unchanged 6 t)
 
 -- Handing a frame over takes no period.
 unfoldable pub handOverCall : Class → ℕ → Terminal → TerminalStep

@@ -9,10 +9,8 @@ use Prim.Native.Nat.{ℕ}
 use lib.Dec.{eqb}
 use Rattle.dchannel.specs.Access.{entered}
 use Rattle.dchannel.specs.Access as dchannel
-use Rattle.dchannel.specs.Handing.{handed, left}
+use Rattle.dchannel.specs.Handing.{left}
 use Rattle.dchannel.specs.declared.access.Access.{Access}
-use Rattle.dchannel.specs.declared.access.Class.{Class}
-use Rattle.dchannel.specs.declared.access.Handed.{Handed}
 use Rattle.dchannel.specs.declared.access.Left.{Left}
 use Rattle.notes_and_cells.specs.Notes.{DROPPED1, DROPPED2, packedNotes, noted}
 use Rattle.notes_and_cells.specs.Cells.{cellOf}
@@ -105,19 +103,6 @@ switchesOff now t = cond (bars OFF-ROW (t .state)) (unchanged 5 t) (happens OFF-
 -- `ar`, the request for activation.
 unfoldable pub requests : ℕ → Terminal → TerminalStep
 requests now t = cond (bars AR-ROW (t .state)) (unchanged 5 t) (happens AR-ROW now t)
-
--- What the access answers to a hand-over, taken into the record.
-unfoldable pub holding : Handed → Terminal → TerminalStep
-holding h t =
-    record {
-      terminal = record { t3 = t .t3; access = h .access; state = t .state; alignment = t .alignment };
-      notes = packedNotes [];
-      reply = h .reply;
-    }
-
--- A frame whose image has n bits is handed over: refusal 6 outside F7, then 7 and 8.
-unfoldable pub handsOver : Class → ℕ → Terminal → TerminalStep
-handsOver class n t = cond (eqb (t .state) F7) (holding (handed class n (t .access)) t) (unchanged 6 t)
 
 -- The start of a period: T3, spent whatever the cell (docs/DECISIONS.md, reading 12), where it is
 -- due.

@@ -12,7 +12,7 @@ use Rattle.bus_record.specs.declared.side.RunAnswer.{RunAnswer}
 use Rattle.bus_record.proofs.record.BusRecord as B
 use Rattle.bus_record.proofs.side.RunAnswer as R
 use Rattle.bus_call_specs.specs.Kept.{Kept, kept}
-use Rattle.bus_call_specs.specs.Ready.{eightInRange, runReason, runReply, goesOn}
+use Rattle.bus_call_specs.specs.Ready.{eightInRange, runReason, runReply, runGoesOn}
 use Rattle.bus_call_specs.specs.Run.{runAnswer, keptAfter}
 use Rattle.bus_calls.proofs.Structs.{buses, runs, turns}
 use Rattle.bus_call_specs.proofs.RunLoop.{Going, going-first, going-left, going-lengths, going-ends}
@@ -93,7 +93,7 @@ module _ (bus : BusRecord) (ys : List Terminal) (es os ls : List ℕ) (us : List
     same₅ : length (s .notes) ≡ length us
     last-is : Is R.the-row (s .last) (runs .val (s .last) ∷ [])
     left-fits : s .left < 2 ^ 32
-    going-is : s .going ≡ goesOn (s .last) (s .left)
+    going-is : s .going ≡ runGoesOn (s .last) (s .left)
     so-far : GoesFrom (s .last) (s .left) (s .terminals) (s .octets) (s .notes)
 
   -- what `advance` says, given this record
@@ -111,7 +111,7 @@ module _ (bus : BusRecord) (ys : List Terminal) (es os ls : List ℕ) (us : List
   first-goes w k r is-w is-k is-r = rw (is-r, is-k, is-w) (going-first most bus ys es os ls us)
 
   module _ (s : State) (i : Inv s) (on : s .going ≡ true) where
-    goes-here : goesOn (s .last) (s .left) ≡ true
+    goes-here : runGoesOn (s .last) (s .left) ≡ true
     goes-here = sym (i .going-is) ∙ on
 
     lengths-here : length (s .notes) ≡ length (s .terminals)
@@ -244,7 +244,7 @@ module _ {M : Type 1} (𝓤 : URA M) (H : Heap 𝓤) (A : Atoms 𝓤) (W : Given
     last = λ ns ws. ws;
     finals = λ ns ws. id⊢ 𝓤 _;
     result = λ ns. bool-kind;
-    Said = λ ns g ws. g ≡ goesOn r n;
+    Said = λ ns g ws. g ≡ runGoesOn r n;
     ensured = λ ns g ws. id⊢ 𝓤 _;
   }
 

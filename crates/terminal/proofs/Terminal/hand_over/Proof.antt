@@ -1,6 +1,5 @@
 use borrow.Author.Tests.{eq-eqb, ne-eqb}
-use Rattle.terminal.specs.Terminal.{holding, handsOver}
-use Rattle.terminal.specs.Calls.{handOverCall}
+use Rattle.terminal.specs.Calls.{holding, handsOver, handOverCall}
 use borrow.Author.Needs.{needs}
 use Rattle.terminal.proofs.Terminal.hand_over.Statement.{statement}
 use Rattle.terminal.proofs.Terminal.hand_over.Tie as tie
