@@ -7,7 +7,8 @@ use native.Mathlib.Omega.{arith}
 use lib.Dec.{eqb}
 use lib.ListN.{length, getD}
 use Rattle.test_lemmas.proofs.ByCases.{by-test}
-use Rattle.symbols.specs.Symbols.{lineLength, none, minus, isLine, leaves, tabulate}
+use Rattle.symbols.specs.Symbols.{lineLength, none, minus, isLine, tabulate}
+use Rattle.symbols.specs.Calls.{leaves}
 use Rattle.symbols.proofs.Lines.{line-small, line-by}
 use Rattle.symbols.proofs.Written.{left-written}
 use Rattle.frame.specs.declared.fields.Four.{Four}

@@ -7,7 +7,7 @@ use mathlib.Core.Bool.{Bool, cond}
 use mathlib.Core.List.{List}
 use Prim.Native.Nat.{ℕ}
 use lib.ListN.{getD}
-use Rattle.symbols.specs.Symbols.{leaves, hasLineLength}
+use Rattle.symbols.specs.Calls.{leaves, hasLineLength}
 use Rattle.frame.specs.declared.fields.Four.{Four}
 use Rattle.combining.specs.Hit.{keepLetter, hit, hitFits}
 use Rattle.heard_line.specs.Sensing.{shownDown}

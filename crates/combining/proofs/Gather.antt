@@ -9,7 +9,8 @@ use lib.Bits.{bitOr}
 use lib.Dec.{eqb}
 use lib.ListN.{length, getD, take, drop, length-drop, getD-replicate}
 use lib.Seq.{drop-drop, length-take-le}
-use Rattle.symbols.specs.Symbols.{none, plus, minus, lineLength, fits, lineBy, leaves}
+use Rattle.symbols.specs.Symbols.{none, plus, minus, lineLength, fits, lineBy}
+use Rattle.symbols.specs.Calls.{leaves}
 use Rattle.frame.specs.Bits.{bit}
 use Rattle.info.specs.Info.{info0}
 use Rattle.combining.specs.Combine.{isSent, only, combinedSymbol, column, combined}

@@ -5,7 +5,8 @@ use mathlib.Core.Bool.{Bool, cond, _&&_}
 use mathlib.Core.List.{List, [], _∷_, _++_}
 use Prim.Native.Nat.{ℕ, zero, suc, _*_}
 use lib.ListN.{take, drop}
-use Rattle.symbols.specs.Symbols.{lineLength, minus, fits, hasLineLength}
+use Rattle.symbols.specs.Symbols.{lineLength, minus, fits}
+use Rattle.symbols.specs.Calls.{hasLineLength}
 use Rattle.combining.specs.Combine.{combined}
 use Rattle.combining.specs.declared.combine.Combined.{Combined}
 

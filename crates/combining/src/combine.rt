@@ -3,7 +3,8 @@
 ghost use mathlib.Core.Path.{_≡_};
 ghost use lib.Bits.{bitOr};
 ghost use lib.ListN.{length, getD};
-ghost use Rattle.symbols.specs.Symbols.{none, lineLength, lineBy, leaves};
+ghost use Rattle.symbols.specs.Symbols.{none, lineLength, lineBy};
+ghost use Rattle.symbols.specs.Calls.{leaves};
 ghost use Rattle.combining.specs.Combine.{column};
 ghost use Rattle.combining.specs.Gathering.{gathered, gatheredSymbol};
 ghost use Rattle.combining.specs.Calls.{terminals, linesLength, rows, combineFits, combinedReply, eight};

@@ -2,7 +2,8 @@
 // for none.
 ghost use mathlib.Core.Path.{_≡_};
 ghost use lib.ListN.{length};
-ghost use Rattle.symbols.specs.Symbols.{lineLength, reply, leaves};
+ghost use Rattle.symbols.specs.Symbols.{lineLength};
+ghost use Rattle.symbols.specs.Calls.{reply, leaves};
 ghost use Rattle.combining.specs.Hit.{struck, hit, hitFits};
 use symbols::LINE_LENGTH;
 use symbols::MINUS;

@@ -2,7 +2,8 @@
 ghost use mathlib.Core.Path.{_≡_};
 ghost use Prim.Native.Nat.{_+_, _<_, _≤_};
 ghost use lib.ListN.{length, take, drop};
-ghost use Rattle.symbols.specs.Symbols.{lineLength, levels, tested};
+ghost use Rattle.symbols.specs.Symbols.{lineLength, levels};
+ghost use Rattle.symbols.specs.Calls.{tested};
 ghost use Rattle.frame.specs.Bits.{numberHighFirst, fourAt, dBits};
 ghost use Rattle.frame.specs.Down.{downFieldsOf, eBits};
 ghost use Rattle.frame.specs.Up.{upFieldsOf};

@@ -2,7 +2,8 @@
 ghost use mathlib.Core.Path.{_≡_};
 ghost use Prim.Native.Nat.{_+_, _≤_};
 ghost use lib.ListN.{length};
-ghost use Rattle.symbols.specs.Symbols.{lineLength, tested};
+ghost use Rattle.symbols.specs.Symbols.{lineLength};
+ghost use Rattle.symbols.specs.Calls.{tested};
 ghost use Rattle.framed.specs.Framed.{firstPulse, framedIn, framedDown, framedUp, hasPulse};
 use symbols::LINE_LENGTH;
 use symbols::MINUS;

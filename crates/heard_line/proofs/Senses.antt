@@ -7,7 +7,8 @@ use Prim.Native.Nat.{ℕ}
 use native.Mathlib.Omega.{arith}
 use types.Run.{OneOf}
 use denote.Enum.Declared.{tagOf}
-use Rattle.symbols.specs.Symbols.{isLine, tested, answer}
+use Rattle.symbols.specs.Symbols.{isLine}
+use Rattle.symbols.specs.Calls.{tested, answer}
 use Rattle.symbols.specs.declared.TestAnswer.{TestAnswer}
 use Rattle.symbols.specs.declared.TestAnswer.the-variants.{Refused}
 use Rattle.symbols.proofs.TestAnswer.{the-type}

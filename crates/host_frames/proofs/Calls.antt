@@ -9,7 +9,8 @@ use lib.Dec.{eqb}
 use lib.ListN.{length, take, drop, length-drop}
 use lib.Seq.{take-all}
 use Rattle.test_lemmas.proofs.ByCases.{by-test, clash}
-use Rattle.symbols.specs.Symbols.{within, fits, hasLineLength, reply, leaves}
+use Rattle.symbols.specs.Symbols.{within, fits}
+use Rattle.symbols.specs.Calls.{hasLineLength, reply, leaves}
 use Rattle.frame.specs.Down.{downLine}
 use Rattle.frame.specs.Up.{upLine}
 use Rattle.frame.specs.declared.fields.DownFields.{DownFields}

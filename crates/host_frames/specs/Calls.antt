@@ -7,7 +7,7 @@ use mathlib.Core.List.{List}
 use Prim.Native.Nat.{ℕ}
 use lib.Dec.{eqb}
 use lib.ListN.{length}
-use Rattle.symbols.specs.Symbols.{hasLineLength}
+use Rattle.symbols.specs.Calls.{hasLineLength}
 use Rattle.frame.specs.Down.{downLine}
 use Rattle.frame.specs.Up.{upLine}
 use Rattle.frame_reader.specs.Read.{downRead, upRead}

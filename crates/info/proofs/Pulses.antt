@@ -6,7 +6,8 @@ use Prim.Native.Nat.{ℕ}
 use native.Mathlib.Omega.{arith}
 use lib.Dec.{eqb}
 use lib.ListN.{length, set}
-use Rattle.symbols.specs.Symbols.{none, plus, minus, lineLength, reply}
+use Rattle.symbols.specs.Symbols.{none, plus, minus, lineLength}
+use Rattle.symbols.specs.Calls.{reply}
 use Rattle.frame.specs.Bits.{octetBits, zeros}
 use Rattle.frame.specs.Polarity.{opposite, alternate, symbols}
 use Rattle.frame.specs.Down.{downBody, downBits, downLine}

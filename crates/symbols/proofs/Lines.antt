@@ -8,7 +8,8 @@ use borrow.Author.Tests.{eqb-true, eq-eqb, leb-true, le-leb}
 use lib.Dec.{eqb, leb}
 use lib.ListN.{length, getD}
 use Rattle.test_lemmas.proofs.ByCases.{by-test}
-use Rattle.symbols.specs.Symbols.{minus, lineLength, sameSymbols, within, fits, isLine, answer, tested, tabulate, lineBy}
+use Rattle.symbols.specs.Symbols.{minus, lineLength, sameSymbols, within, fits, isLine, tabulate, lineBy}
+use Rattle.symbols.specs.Calls.{answer, tested}
 use Rattle.symbols.specs.declared.TestAnswer.{TestAnswer}
 use Rattle.symbols.proofs.Fill.{length-tabulate}
 

@@ -5,7 +5,8 @@ use mathlib.Core.List.{List}
 use Prim.Native.Nat.{ℕ}
 use borrow.Author.Tests.{eq-eqb, ne-eqb}
 use lib.ListN.{length}
-use Rattle.symbols.specs.Symbols.{lineLength, hasLineLength, reply, leaves}
+use Rattle.symbols.specs.Symbols.{lineLength}
+use Rattle.symbols.specs.Calls.{hasLineLength, reply, leaves}
 
 pub reply-refused : (good : Bool) (new lent : List ℕ) → good ≡ false → (2 ≡ reply good) × (lent ≡ leaves good new lent)
 reply-refused good new lent h = (rw h, rw h)

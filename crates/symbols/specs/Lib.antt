@@ -1,2 +1,3 @@
 -- Symbols, lines and refusal 2.
 pub mod Symbols
+pub mod Calls

@@ -6,7 +6,6 @@ use mathlib.Core.List.{List, [], _∷_, map}
 use Prim.Native.Nat.{ℕ, zero, suc}
 use lib.Dec.{eqb, leb}
 use lib.ListN.{length}
-use Rattle.symbols.specs.declared.TestAnswer.{TestAnswer}
 
 -- A symbol is plus, minus or none.
 abbrev pub none : ℕ
@@ -57,24 +56,3 @@ sameSymbols [] [] = true
 sameSymbols [] (y ∷ ys) = false
 sameSymbols (x ∷ xs) [] = false
 sameSymbols (x ∷ xs) (y ∷ ys) = cond (eqb x y) (sameSymbols xs ys) false
-
--- Whether a line can be written into a lent slice: it is 48 long.
-abbrev pub hasLineLength : List ℕ → Bool
-hasLineLength lent = eqb (length lent) lineLength
-
--- The reply of a call that changes what it is lent: 0, or refusal 2 where it is lent something
--- wrong.
-abbrev pub reply : Bool → ℕ
-reply good = cond good 0 2
-
--- What such a call leaves in a lent slice: what it writes there, or every octet as it was.
-abbrev pub leaves : Bool → List ℕ → List ℕ → List ℕ
-leaves good new lent = cond good new lent
-
--- What a test of a line answers: yes or no, or refusal 2 where what is lent is no line.
-abbrev pub answer : Bool → TestAnswer
-answer true = TestAnswer.Yes
-answer false = TestAnswer.No
-
-abbrev pub tested : (List ℕ → Bool) → List ℕ → TestAnswer
-tested test l = cond (isLine l) (answer (test l)) (TestAnswer.Refused 2)

@@ -3,6 +3,7 @@
 // changes. Of a slice that is written to, only the length counts.
 ghost use mathlib.Core.Path.{_≡_};
 ghost use Rattle.symbols.specs.Symbols as spec;
+ghost use Rattle.symbols.specs.Calls as calls;
 
 // The codes of the three symbols.
 pub const NONE: u8 = 0;
@@ -56,7 +57,7 @@ pub fn same_symbols(a: &[u8], b: &[u8]) -> bool
 
 // Gives the answer of a test of a line that comes out as b.
 pub fn answer(b: bool) -> TestAnswer
-    ensures { λ r. ⌜ r ≡ spec.answer b ⌝ }
+    ensures { λ r. ⌜ r ≡ calls.answer b ⌝ }
 {
     if b { TestAnswer::Yes } else { TestAnswer::No }
 }

@@ -3,7 +3,8 @@ use mathlib.Core.Path.{sym, ap, _∙_}
 use borrow.Author.Tests.{eq-eqb, ne-eqb}
 use lib.ListN.{length}
 use Rattle.test_lemmas.proofs.ByCases.{and-both-true, and-left-false, and-right-false}
-use Rattle.symbols.specs.Symbols.{minus, hasLineLength, fits}
+use Rattle.symbols.specs.Symbols.{minus, fits}
+use Rattle.symbols.specs.Calls.{hasLineLength}
 use Rattle.symbols.proofs.Lines.{fits-length}
 use Rattle.symbols.proofs.Written.{left-written}
 use Rattle.info.specs.Info.{info0}

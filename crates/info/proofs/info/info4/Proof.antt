@@ -1,5 +1,5 @@
 -- `info4` meets its contract: a line of nones, and then its pulses.
-use Rattle.symbols.specs.Symbols.{hasLineLength}
+use Rattle.symbols.specs.Calls.{hasLineLength}
 use Rattle.symbols.proofs.Written.{reply-done}
 use Rattle.info.proofs.Pulses.{good-reply, bad-reply}
 use borrow.Author.Needs.{needs}
