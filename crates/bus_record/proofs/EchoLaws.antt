@@ -17,7 +17,7 @@ use Rattle.info.specs.Info.{info2Fields, info4Fields}
 use Rattle.combining.specs.Hit.{keepLetter, plusLetter, minusLetter, struck, hit, hitFits}
 use Rattle.notes_and_cells.specs.Cells.{infoIn}
 use Rattle.table_6_3.specs.Table63.{infoSent}
-use Rattle.heard_line.specs.Sensing.{sensedDown}
+use Rattle.heard_line.specs.Calls.{sensedDown}
 use Rattle.heard_line.specs.declared.heard.Downward.{Downward}
 use Rattle.heard_line.specs.declared.heard.Upward.{Upward}
 use Rattle.heard_line.specs.declared.sensing.SensedDown.{SensedDown}

@@ -13,7 +13,7 @@ use Rattle.symbols.specs.declared.TestAnswer.{TestAnswer}
 use Rattle.symbols.specs.declared.TestAnswer.the-variants.{Refused}
 use Rattle.symbols.proofs.TestAnswer.{the-type}
 use Rattle.framed.specs.Framed.{hasPulse}
-use Rattle.heard_line.specs.Sensing.{isYes}
+use Rattle.heard_line.specs.Calls.{isYes}
 
 -- a test of a line that is refused, and one that is not: its answer's place among the variants is 0 or 1
 refused : (g x : Bool) {k : ℕ} → cond g (answer x) (Refused 2) ≡ Refused k → (g ≡ false) × (k ≡ 2)

@@ -1,7 +1,7 @@
 // What a lent line of 48 symbols shows: worked out once for a period, and then heard by the network
 // end, or by every powered terminal.
 ghost use mathlib.Core.Path.{_≡_};
-ghost use Rattle.heard_line.specs.Sensing as spec;
+ghost use Rattle.heard_line.specs.Calls as calls;
 use super::heard::Downward;
 use super::heard::Upward;
 use frame_reader::read::a_bit;
@@ -25,7 +25,7 @@ pub enum SensedUp {
 
 // Works out what a downward line shows, or refuses with 2 what is no line.
 pub fn sense_down(line: &[u8]) -> SensedDown
-    ensures { λ r. ⌜ r ≡ spec.sensedDown (now (line .entry)) ⌝ }
+    ensures { λ r. ⌜ r ≡ calls.sensedDown (now (line .entry)) ⌝ }
 {
     let pulse = has_pulse(line);
     if let TestAnswer::Refused(k) = pulse {
@@ -40,7 +40,7 @@ pub fn sense_down(line: &[u8]) -> SensedDown
 
 // Works out what an upward line shows, or refuses with 2 what is no line.
 pub fn sense_up(line: &[u8]) -> SensedUp
-    ensures { λ r. ⌜ r ≡ spec.sensedUp (now (line .entry)) ⌝ }
+    ensures { λ r. ⌜ r ≡ calls.sensedUp (now (line .entry)) ⌝ }
 {
     let pulse = has_pulse(line);
     if let TestAnswer::Refused(k) = pulse {
@@ -55,7 +55,7 @@ pub fn sense_up(line: &[u8]) -> SensedUp
 
 // Tests whether an answer is yes.
 fn is_yes(answer: TestAnswer) -> bool
-    ensures { λ r. ⌜ r ≡ spec.isYes answer ⌝ }
+    ensures { λ r. ⌜ r ≡ calls.isYes answer ⌝ }
 {
     match answer {
         TestAnswer::Yes => true,

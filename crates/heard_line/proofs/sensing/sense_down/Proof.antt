@@ -1,6 +1,7 @@
 use Rattle.framed.specs.Framed.{framedDown}
 use Rattle.frame_reader.specs.Read.{aLevel}
-use Rattle.heard_line.specs.Sensing.{shownDown, sensedDown}
+use Rattle.heard_line.specs.Sensing.{shownDown}
+use Rattle.heard_line.specs.Calls.{sensedDown}
 use Rattle.heard_line.proofs.Senses.{refused-line, shown}
 use borrow.Author.Needs.{needs}
 use Rattle.heard_line.proofs.sensing.sense_down.Statement.{statement}

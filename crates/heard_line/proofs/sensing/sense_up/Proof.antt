@@ -1,6 +1,7 @@
 use Rattle.framed.specs.Framed.{framedUp}
 use Rattle.info.specs.Info.{isInfo1}
-use Rattle.heard_line.specs.Sensing.{shownUp, sensedUp}
+use Rattle.heard_line.specs.Sensing.{shownUp}
+use Rattle.heard_line.specs.Calls.{sensedUp}
 use Rattle.heard_line.proofs.Senses.{refused-line, shown}
 use borrow.Author.Needs.{needs}
 use Rattle.heard_line.proofs.sensing.sense_up.Statement.{statement}
