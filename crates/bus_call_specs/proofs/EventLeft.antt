@@ -13,7 +13,7 @@ use Rattle.notes_and_cells.specs.declared.cell.Cell.{Cell}
 use Rattle.notes_and_cells.specs.declared.cell.Cell.the-variants.{To, Stay, Impossible, Absent}
 use Rattle.table_6_3.specs.Table63.{table63, G3}
 use Rattle.table_6_3.specs.Table63 as table63
-use Rattle.timing.specs.Counts.{atPeriod}
+use Rattle.timing.specs.Calls.{atPeriod}
 use Rattle.hdlc.specs.Reading.{Reading}
 use Rattle.d_reader.specs.ReaderRange.{readerInRange}
 use Rattle.d_reader.specs.StandsFor.{StandsFor}

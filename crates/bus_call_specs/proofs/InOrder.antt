@@ -12,7 +12,8 @@ use Rattle.test_lemmas.proofs.Operators.{and-both}
 use Rattle.slice_lemmas.proofs.Over.{length-mapped}
 use Rattle.slice_lemmas.specs.Over.{mapFrom, foldFrom}
 use Rattle.hdlc.specs.Image.{longestBody}
-use Rattle.timing.specs.Counts.{mostPeriods, periodsInRange, opportunitiesInRange, allRun}
+use Rattle.timing.specs.Counts.{mostPeriods}
+use Rattle.timing.specs.Calls.{periodsInRange, opportunitiesInRange, allRun}
 use Rattle.network.specs.Calls.{networkInRange}
 use Rattle.d_reader.specs.ReaderRange.{readerInRange}
 use Rattle.terminal.specs.Calls.{terminalInRange}

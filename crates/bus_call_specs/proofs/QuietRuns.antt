@@ -12,7 +12,7 @@ use Rattle.notes_and_cells.specs.Notes.{noted}
 use Rattle.notes_and_cells.specs.declared.notes.Notes.{Notes}
 use Rattle.hdlc.specs.Bits.{numberLowFirst, bitOf}
 use Rattle.hdlc.proofs.OctetLaws.{number-bit}
-use Rattle.timing.specs.Counts.{allRun}
+use Rattle.timing.specs.Calls.{allRun}
 use Rattle.bus_rules.specs.Bus.{notesOf}
 use Rattle.bus_rules.specs.Order.{unitByUnit}
 use Rattle.bus_rules.specs.Period.{heardBy, timed, periodRun}

@@ -6,7 +6,8 @@ use Prim.Native.Nat.{ℕ, _<_}
 use lib.ListN.{length, length-map}
 use borrow.Author.Tests.{leb-false}
 use Rattle.test_lemmas.proofs.ByCases.{by-test}
-use Rattle.timing.specs.Counts.{mostPeriods, allRun}
+use Rattle.timing.specs.Counts.{mostPeriods}
+use Rattle.timing.specs.Calls.{allRun}
 use Rattle.d_reader.specs.Counters.{readBit, readOctets}
 use Rattle.d_reader.specs.ReaderRange.{readerInRange}
 use Rattle.d_reader.specs.Calls.{octetsAfter}

@@ -20,7 +20,7 @@ use Rattle.dchannel.specs.Handing.{isImageLength, handed}
 use Rattle.dchannel.specs.declared.access.Class.{Class}
 use Rattle.table_6_2.specs.Table62.{F7}
 use Rattle.table_6_2.specs.Table62 as table62
-use Rattle.timing.specs.Counts.{allRun}
+use Rattle.timing.specs.Calls.{allRun}
 use Rattle.timing.specs.declared.counts.Periods.{Periods}
 use Rattle.network.specs.Network as network
 use Rattle.network.specs.Calls as networkCalls

@@ -10,7 +10,8 @@ use lib.ListN.{length}
 use borrow.Author.Tests.{eqb-true, lt-ltb}
 use Rattle.test_lemmas.proofs.ByCases.{by-test, clash}
 use Rattle.test_lemmas.proofs.Operators.{and-both}
-use Rattle.timing.specs.Counts.{mostPeriods, allRun}
+use Rattle.timing.specs.Counts.{mostPeriods}
+use Rattle.timing.specs.Calls.{allRun}
 use Rattle.bus_rules.specs.Bus.{Bus, Note, freshBus}
 use Rattle.bus_rules.specs.Period.{periodRun, periodNotes}
 use Rattle.bus_rules.specs.Calls as bus

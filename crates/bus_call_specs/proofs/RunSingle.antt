@@ -7,7 +7,7 @@ use lib.Dec.{eqb, ltb}
 use borrow.Author.Tests.{eqb-true, lt-ltb, ltb-true, not-true}
 use Rattle.test_lemmas.proofs.ByCases.{by-test}
 use Rattle.test_lemmas.proofs.Operators.{and-both}
-use Rattle.timing.specs.Counts.{allRun}
+use Rattle.timing.specs.Calls.{allRun}
 use Rattle.bus_record.specs.NetworkSide.{refusedRun}
 use Rattle.bus_record.specs.declared.side.RunAnswer.{RunAnswer}
 use Rattle.bus_call_specs.specs.Kept.{Kept}

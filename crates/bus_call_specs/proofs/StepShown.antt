@@ -15,7 +15,8 @@ use Rattle.notes_and_cells.specs.Cells.{infoIn}
 use Rattle.table_6_3.specs.Table63.{G3}
 use Rattle.table_6_3.specs.Table63 as table63
 use Rattle.slice_lemmas.specs.Over.{mapFrom, foldFrom}
-use Rattle.timing.specs.Counts.{mostPeriods, atPeriod, allRun, nextPeriod, fourMore}
+use Rattle.timing.specs.Counts.{mostPeriods}
+use Rattle.timing.specs.Calls.{atPeriod, allRun, nextPeriod, fourMore}
 use Rattle.timing.specs.declared.counts.Periods.{Periods}
 use Rattle.heard_line.specs.Sensing.{shownUp, shownDown}
 use Rattle.heard_line.specs.declared.heard.Downward.{Downward}

@@ -7,7 +7,7 @@ use Prim.Native.Nat.{ℕ, _+_}
 use lib.Dec.{eqb}
 use Rattle.notes_and_cells.specs.Notes.{HEARD, TORN}
 use Rattle.table_6_3.specs.Table63.{G3}
-use Rattle.timing.specs.Counts.{atPeriod}
+use Rattle.timing.specs.Calls.{atPeriod}
 use Rattle.heard_line.specs.Sensing.{shownDown}
 use Rattle.network.specs.Network as network
 use Rattle.d_reader.specs.Counters.{freshReader}

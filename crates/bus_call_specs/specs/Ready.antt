@@ -7,7 +7,7 @@ use Prim.Native.Nat.{ℕ}
 use lib.Dec.{eqb, ltb, leb}
 use lib.ListN.{length}
 use Rattle.hdlc.specs.Image.{longestBody}
-use Rattle.timing.specs.Counts.{allRun}
+use Rattle.timing.specs.Calls.{allRun}
 use Rattle.terminal.specs.declared.Terminal.{Terminal}
 use Rattle.bus_rules.specs.Bus.{terminals}
 use Rattle.period_hearing.specs.Shown.{allInRange}

@@ -11,7 +11,7 @@ use borrow.Author.Tests.{lt-ltb}
 use Rattle.test_lemmas.proofs.ByCases.{by-test, and-left, and-right}
 use Rattle.hdlc.specs.Image.{image}
 use Rattle.hdlc.proofs.ImageLaws.{image-most}
-use Rattle.timing.specs.Counts.{periodsInRange, opportunitiesInRange}
+use Rattle.timing.specs.Calls.{periodsInRange, opportunitiesInRange}
 use Rattle.network.specs.Calls.{networkInRange}
 use Rattle.network.proofs.RangesKept as network
 use Rattle.d_reader.specs.ReaderRange.{readerInRange}

@@ -17,7 +17,7 @@ use lib.ListN.{length, getD, take, drop, replicate}
 use Rattle.notes_and_cells.specs.Names.{ascii}
 use Rattle.hdlc.specs.Image.{longestBody}
 use Rattle.symbols.specs.Symbols.{lineLength, sameSymbols}
-use Rattle.timing.specs.Counts.{atPeriod}
+use Rattle.timing.specs.Calls.{atPeriod}
 use Rattle.terminal.specs.declared.Terminal.{Terminal}
 use Rattle.bus_rules.specs.Bus.{terminals}
 use Rattle.bus_record.specs.Record.{recordInRange}

@@ -10,7 +10,7 @@ use Rattle.test_lemmas.proofs.Operators.{and-both}
 use Rattle.notes_and_cells.specs.Notes.{packedNotes, noted}
 use Rattle.notes_and_cells.specs.Cells.{cellIn}
 use Rattle.table_6_3.specs.Table63.{G1, G2, G3, G4}
-use Rattle.timing.specs.Counts.{nextPeriod}
+use Rattle.timing.specs.Calls.{nextPeriod}
 use Rattle.timing.specs.Timers.{due}
 use Rattle.timing.specs.declared.counts.Periods.{Periods}
 use Rattle.alignment.specs.Alignment.{framedPeriod, unframedPeriod, followed}

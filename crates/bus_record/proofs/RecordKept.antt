@@ -7,7 +7,7 @@ use lib.Dec.{eqb}
 use Rattle.test_lemmas.proofs.ByCases.{by-test, and-left, and-right}
 use Rattle.frame.specs.declared.fields.Four.{Four}
 use Rattle.table_6_3.specs.Table63.{G3}
-use Rattle.timing.specs.Counts.{periodsInRange, opportunitiesInRange, allRun, nextPeriod}
+use Rattle.timing.specs.Calls.{periodsInRange, opportunitiesInRange, allRun, nextPeriod}
 use Rattle.timing.specs.declared.counts.Periods.{Periods}
 use Rattle.timing.specs.declared.counts.Opportunities.{Opportunities}
 use Rattle.timing.proofs.RangesKept.{next-in-range, four-more-in-range, none-more-in-range}

@@ -8,7 +8,7 @@ use mathlib.Core.List.{List}
 use Prim.Native.Nat.{ℕ}
 use lib.Dec.{eqb, ltb}
 use Rattle.table_6_3.specs.Table63.{G1, G2, G3, G4}
-use Rattle.timing.specs.Counts.{nextPeriod, fourMore}
+use Rattle.timing.specs.Calls.{nextPeriod, fourMore}
 use Rattle.timing.specs.declared.counts.Periods.{Periods}
 use Rattle.timing.specs.declared.counts.Opportunities.{Opportunities}
 use Rattle.heard_line.specs.declared.heard.Upward.{Upward}

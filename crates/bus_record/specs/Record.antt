@@ -1,7 +1,7 @@
 -- Calls: the bus record (document 01, "Order inside a period" and "D access (6.1)").
 -- Interface: every name. Assumes nothing.
 use mathlib.Core.Bool.{Bool, true, false, _&&_}
-use Rattle.timing.specs.Counts.{atPeriod, periodsInRange, opportunitiesInRange}
+use Rattle.timing.specs.Calls.{atPeriod, periodsInRange, opportunitiesInRange}
 use Rattle.network.specs.Calls.{networkInRange}
 use Rattle.network.specs.Network as network
 use Rattle.d_reader.specs.Counters.{freshReader}

@@ -5,7 +5,7 @@ use mathlib.Core.Bool.{Bool, true, false}
 use mathlib.Core.List.{List}
 use mathlib.Core.Path.{_≡_}
 use Prim.Native.Nat.{ℕ}
-use Rattle.timing.specs.Counts.{allRun}
+use Rattle.timing.specs.Calls.{allRun}
 use Rattle.exchange.specs.declared.tally.Tally.{Tally}
 use Rattle.bus_record.specs.Record.{freshRecord, recordInRange}
 use Rattle.bus_record.specs.NetworkSide.{answerAfter}

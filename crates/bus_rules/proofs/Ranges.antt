@@ -22,7 +22,8 @@ use Rattle.dchannel.proofs.AccessLaws.{takes-body}
 use Rattle.dchannel.proofs.RangesKept.{access-fits, access-step-in-range}
 use Rattle.table_6_3.specs.Table63.{G3}
 use Rattle.table_6_3.specs.Table63 as table63
-use Rattle.timing.specs.Counts.{mostPeriods, atPeriod}
+use Rattle.timing.specs.Counts.{mostPeriods}
+use Rattle.timing.specs.Calls.{atPeriod}
 use Rattle.contention.proofs.Change.{length-change}
 use Rattle.heard_line.specs.Sensing.{shownUp, shownDown}
 use Rattle.network.specs.Network as network

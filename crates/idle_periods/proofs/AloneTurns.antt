@@ -9,7 +9,7 @@ use borrow.Author.Tests.{lt-ltb}
 use Rattle.test_lemmas.proofs.ByCases.{by-test, behind}
 use Rattle.test_lemmas.proofs.Operators.{and-both}
 use Rattle.slice_lemmas.specs.Over.{mapFrom}
-use Rattle.timing.specs.Counts.{nextPeriod}
+use Rattle.timing.specs.Calls.{nextPeriod}
 use Rattle.terminal.specs.declared.Terminal.{Terminal}
 use Rattle.period_hearing.specs.Hears.{silenced}
 use Rattle.period_hearing.specs.declared.hears.UnitNotes.{UnitNotes}

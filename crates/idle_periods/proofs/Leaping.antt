@@ -10,7 +10,8 @@ use lib.ListN.{length, replicate}
 use borrow.Author.Tests.{eqb-true, eqb-false, le-leb, leb-false, lt-leb, lt-ltb, ltb-true}
 use Rattle.test_lemmas.proofs.ByCases.{by-test}
 use Rattle.table_6_3.specs.Table63.{G3}
-use Rattle.timing.specs.Counts.{mostPeriods, allRun}
+use Rattle.timing.specs.Counts.{mostPeriods}
+use Rattle.timing.specs.Calls.{allRun}
 use Rattle.terminal.specs.declared.Terminal.{Terminal}
 use Rattle.period_hearing.specs.declared.hears.UnitNotes.{UnitNotes}
 use Rattle.bus_record.specs.NetworkSide.{noNotes, refusedRun}

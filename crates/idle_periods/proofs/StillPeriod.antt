@@ -15,7 +15,8 @@ use Rattle.notes_and_cells.specs.Cells.{infoIn}
 use Rattle.table_6_2.specs.Table62.{F1, F7}
 use Rattle.table_6_3.specs.Table63.{G3, G4}
 use Rattle.table_6_3.specs.Table63 as table63
-use Rattle.timing.specs.Counts.{mostPeriods, fourMore}
+use Rattle.timing.specs.Counts.{mostPeriods}
+use Rattle.timing.specs.Calls.{fourMore}
 use Rattle.timing.proofs.TimerLaws.{next-is, clear-due}
 use Rattle.timing.specs.declared.counts.Periods.{Periods}
 use Rattle.heard_line.specs.declared.heard.Downward.{Downward}

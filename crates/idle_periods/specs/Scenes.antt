@@ -11,7 +11,7 @@ use Rattle.slice_lemmas.specs.Over.{foldFrom}
 use Rattle.notes_and_cells.specs.Cells.{infoIn}
 use Rattle.table_6_2.specs.Table62.{F3, F4, F5, F7}
 use Rattle.table_6_3.specs.Table63.{G1, G2, G3, G4}
-use Rattle.timing.specs.Counts.{atPeriod}
+use Rattle.timing.specs.Calls.{atPeriod}
 use Rattle.timing.specs.Clear.{clear}
 use Rattle.dchannel.specs.AtRest.{atRest}
 use Rattle.dchannel.specs.Access as dchannel

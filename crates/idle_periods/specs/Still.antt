@@ -11,7 +11,8 @@ use Rattle.slice_lemmas.specs.Over.{foldFrom}
 use Rattle.notes_and_cells.specs.Cells.{infoIn}
 use Rattle.table_6_2.specs.Table62.{infoSent}
 use Rattle.table_6_3.specs.Table63.{G3}
-use Rattle.timing.specs.Counts.{mostPeriods, atPeriod}
+use Rattle.timing.specs.Counts.{mostPeriods}
+use Rattle.timing.specs.Calls.{atPeriod}
 use Rattle.timing.specs.Clear.{clear}
 use Rattle.timing.specs.declared.counts.Opportunities.{Opportunities}
 use Rattle.network.specs.declared.Network.{Network}

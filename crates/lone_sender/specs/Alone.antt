@@ -7,7 +7,7 @@ use Prim.Native.Nat.{ℕ, zero, suc, _+_}
 use lib.Dec.{eqb}
 use Rattle.hdlc.specs.Bits.{sameBit}
 use Rattle.table_6_3.specs.Table63.{G3}
-use Rattle.timing.specs.Counts.{allRun}
+use Rattle.timing.specs.Calls.{allRun}
 use Rattle.exchange.specs.declared.tally.Tally.{Tally}
 use Rattle.bus_record.specs.NetworkSide.{answerAfter, octetsAfter, refusedRun}
 use Rattle.bus_record.specs.declared.record.BusRecord.{BusRecord}

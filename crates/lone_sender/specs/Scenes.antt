@@ -9,7 +9,7 @@ use lib.ListN.{replicate}
 use Rattle.slice_lemmas.specs.Over.{foldFrom}
 use Rattle.notes_and_cells.specs.Cells.{infoIn}
 use Rattle.table_6_2.specs.Table62.{F7}
-use Rattle.timing.specs.Counts.{atPeriod}
+use Rattle.timing.specs.Calls.{atPeriod}
 use Rattle.timing.specs.Clear.{clear}
 use Rattle.dchannel.specs.Access.{countAfter}
 use Rattle.hdlc.specs.Bits.{bitOf}

@@ -11,7 +11,7 @@ use Rattle.notes_and_cells.specs.declared.cell.Cell.the-variants.{To, Stay, Imp
 use Rattle.notes_and_cells.proofs.Everywhere.{at-state}
 use Rattle.notes_and_cells.proofs.NextState.{alike, alike-is}
 use Rattle.table_6_3.specs.Table63.{table63, G1, G4, AR-ROW, DR-ROW}
-use Rattle.timing.specs.Counts.{periodsInRange}
+use Rattle.timing.specs.Calls.{periodsInRange}
 use Rattle.timing.specs.declared.counts.Periods.{Periods}
 use Rattle.network.specs.Network.{unchanged, acts, happens, bars, requests}
 use Rattle.network.specs.Calls.{networkInRange, ready, checked, requestCall}

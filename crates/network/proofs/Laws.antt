@@ -15,7 +15,8 @@ use Rattle.notes_and_cells.specs.declared.cell.Cell.the-variants.{To, Stay, Imp
 use Rattle.notes_and_cells.proofs.NotesKept.{noted-packed, everyNote, every-append, isIndication}
 use Rattle.table_6_3.specs.Table63.{table63, G3, T1-ROW, T2-ROW, INFO-1-ROW, LOSS-ROW}
 use Rattle.table_6_3.proofs.Laws.{notes-two, notes-indications, t1-keeps-G3, t2-keeps-G3}
-use Rattle.timing.specs.Counts.{mostPeriods, atPeriod}
+use Rattle.timing.specs.Counts.{mostPeriods}
+use Rattle.timing.specs.Calls.{atPeriod}
 use Rattle.timing.specs.Timers.{due, startedBy, timerAfter}
 use Rattle.alignment.specs.Alignment.{framedToGain, unframedToLose, followed}
 use Rattle.heard_line.specs.Heard.{upwardEvent, lossUp}

@@ -12,7 +12,8 @@ use Rattle.notes_and_cells.specs.declared.cell.Cell.the-variants.{To, Stay, Imp
 use Rattle.notes_and_cells.proofs.NextState.{nextTo, next-fits}
 use Rattle.table_6_3.specs.Table63.{table63, G1, G4, T1-ROW, T2-ROW}
 use Rattle.table_6_3.proofs.Laws.{next-state}
-use Rattle.timing.specs.Counts.{mostPeriods, periodsInRange}
+use Rattle.timing.specs.Counts.{mostPeriods}
+use Rattle.timing.specs.Calls.{periodsInRange}
 use Rattle.timing.specs.Timers.{T1, T2, due}
 use Rattle.timing.specs.declared.counts.Periods.{Periods}
 use Rattle.timing.proofs.RangesKept.{started-at-most, timer-at-most}

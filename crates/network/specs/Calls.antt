@@ -5,7 +5,8 @@ use mathlib.Core.Bool.{Bool, false, cond}
 use Prim.Native.Nat.{ℕ, _+_}
 use lib.Dec.{ltb}
 use Rattle.table_6_3.specs.Table63.{G1, G4}
-use Rattle.timing.specs.Counts.{mostPeriods, periodsInRange}
+use Rattle.timing.specs.Counts.{mostPeriods}
+use Rattle.timing.specs.Calls.{periodsInRange}
 use Rattle.timing.specs.Timers.{T1, T2}
 use Rattle.timing.specs.declared.counts.Periods.{Periods}
 use Rattle.alignment.specs.Alignment.{alignmentInRange}

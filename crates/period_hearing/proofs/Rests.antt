@@ -14,7 +14,7 @@ use Rattle.notes_and_cells.specs.Notes.{packedNotes}
 use Rattle.notes_and_cells.specs.Cells.{cellIn}
 use Rattle.dchannel.specs.declared.access.Access.{Access}
 use Rattle.table_6_2.specs.Table62.{F1, F3, F4, F5, F7}
-use Rattle.timing.specs.Counts.{nextPeriod}
+use Rattle.timing.specs.Calls.{nextPeriod}
 use Rattle.timing.specs.Timers.{due}
 use Rattle.timing.specs.declared.counts.Periods.{Periods}
 use Rattle.alignment.specs.Alignment.{framedPeriod, followed}

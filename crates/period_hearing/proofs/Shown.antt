@@ -11,7 +11,8 @@ use Rattle.test_lemmas.proofs.Operators.{and-both}
 use Rattle.test_lemmas.proofs.ByCases.{by-test, clash}
 use Rattle.notes_and_cells.specs.Notes.{noted}
 use Rattle.notes_and_cells.specs.declared.notes.Notes.{Notes}
-use Rattle.timing.specs.Counts.{mostPeriods, atPeriod, nextPeriod}
+use Rattle.timing.specs.Counts.{mostPeriods}
+use Rattle.timing.specs.Calls.{atPeriod, nextPeriod}
 use Rattle.heard_line.specs.declared.heard.Downward.{Downward}
 use Rattle.terminal.specs.Terminal as terminal
 use Rattle.terminal.specs.Calls as terminalCalls

@@ -9,7 +9,7 @@ use lib.Dec.{eqb, ltb, leb}
 use lib.ListN.{length}
 use Rattle.slice_lemmas.specs.Over.{mapFrom, foldFrom}
 use Rattle.table_6_2.specs.Table62.{F1, F3, F5, F7}
-use Rattle.timing.specs.Counts.{nextPeriod}
+use Rattle.timing.specs.Calls.{nextPeriod}
 use Rattle.timing.specs.declared.counts.Periods.{Periods}
 use Rattle.heard_line.specs.declared.heard.Downward.{Downward}
 use Rattle.terminal.specs.Calls as terminalCalls

@@ -8,7 +8,8 @@ use mathlib.Core.List.{List, [], _∷_, map}
 use Prim.Native.Nat.{ℕ, _+_, _≤_}
 use Rattle.notes_and_cells.specs.Notes.{noted}
 use Rattle.notes_and_cells.specs.declared.notes.Notes.{Notes}
-use Rattle.timing.specs.Counts.{mostPeriods, atPeriod}
+use Rattle.timing.specs.Counts.{mostPeriods}
+use Rattle.timing.specs.Calls.{atPeriod}
 use Rattle.heard_line.specs.declared.heard.Downward.{Downward}
 use Rattle.terminal.specs.Terminal as terminal
 use Rattle.terminal.specs.Calls as terminalCalls

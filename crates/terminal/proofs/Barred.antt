@@ -11,7 +11,7 @@ use Rattle.notes_and_cells.proofs.Everywhere.{at-state}
 use Rattle.notes_and_cells.proofs.NextState.{alike, alike-is}
 use Rattle.dchannel.specs.declared.access.Access.{Access}
 use Rattle.table_6_2.specs.Table62.{table62, F1, F8, AR-ROW}
-use Rattle.timing.specs.Counts.{periodsInRange}
+use Rattle.timing.specs.Calls.{periodsInRange}
 use Rattle.timing.specs.declared.counts.Periods.{Periods}
 use Rattle.alignment.specs.Alignment.{framedToGain, unframedToLose, followed}
 use Rattle.alignment.specs.declared.Alignment.{Alignment}

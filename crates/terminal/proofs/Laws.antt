@@ -18,7 +18,8 @@ use Rattle.dchannel.specs.declared.access.Class.{Class}
 use Rattle.table_6_2.specs.Table62.{table62, F1, F7, ON-ROW, OFF-ROW, AR-ROW, T3-ROW}
 use Rattle.table_6_2.specs.States.{nextState}
 use Rattle.table_6_2.proofs.Laws.{notes-three, notes-indications, t3-keeps-F7}
-use Rattle.timing.specs.Counts.{mostPeriods, atPeriod}
+use Rattle.timing.specs.Counts.{mostPeriods}
+use Rattle.timing.specs.Calls.{atPeriod}
 use Rattle.timing.specs.Timers.{due}
 use Rattle.alignment.specs.Alignment.{framedToGain, unframedToLose, followed}
 use Rattle.heard_line.specs.Heard.{downwardEvent}

@@ -13,7 +13,8 @@ use Rattle.notes_and_cells.specs.declared.cell.Cell.the-variants.{To, Stay, Imp
 use Rattle.notes_and_cells.proofs.NextState.{nextTo, next-fits}
 use Rattle.table_6_2.specs.Table62.{table62, F1, F7, F8, ON-ROW, OFF-ROW, AR-ROW, T3-ROW}
 use Rattle.table_6_2.proofs.Laws.{next-state}
-use Rattle.timing.specs.Counts.{mostPeriods, periodsInRange}
+use Rattle.timing.specs.Counts.{mostPeriods}
+use Rattle.timing.specs.Calls.{periodsInRange}
 use Rattle.timing.specs.Timers.{T3, due}
 use Rattle.timing.specs.declared.counts.Periods.{Periods}
 use Rattle.timing.proofs.RangesKept.{timer-at-most}

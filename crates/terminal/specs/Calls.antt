@@ -12,7 +12,8 @@ use Rattle.notes_and_cells.specs.Notes.{packedNotes}
 use Rattle.dchannel.specs.declared.access.Class.{Class}
 use Rattle.dchannel.specs.declared.access.Handed.{Handed}
 use Rattle.table_6_2.specs.Table62.{F1, F7, F8}
-use Rattle.timing.specs.Counts.{mostPeriods, periodsInRange}
+use Rattle.timing.specs.Counts.{mostPeriods}
+use Rattle.timing.specs.Calls.{periodsInRange}
 use Rattle.timing.specs.Timers.{T3}
 use Rattle.timing.specs.declared.counts.Periods.{Periods}
 use Rattle.alignment.specs.Alignment.{alignmentInRange}

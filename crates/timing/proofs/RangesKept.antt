@@ -7,7 +7,8 @@ use lib.Dec.{eqb}
 use borrow.Author.Tests.{leb-true, leb-false, le-leb, ne-eqb}
 use Rattle.test_lemmas.proofs.ByCases.{by-test}
 use Rattle.notes_and_cells.specs.Cells.{START, STOP}
-use Rattle.timing.specs.Counts.{mostPeriods, periodsInRange, opportunitiesInRange, allRun, nextPeriod, fourMore}
+use Rattle.timing.specs.Counts.{mostPeriods}
+use Rattle.timing.specs.Calls.{periodsInRange, opportunitiesInRange, allRun, nextPeriod, fourMore}
 use Rattle.timing.specs.Timers.{due, startedBy, timerAfter}
 use Rattle.timing.specs.declared.counts.Periods.{Periods}
 use Rattle.timing.specs.declared.counts.Opportunities.{Opportunities}

@@ -7,7 +7,8 @@ use native.Mathlib.Omega.{arith}
 use lib.Dec.{eqb, ltb, leb}
 use borrow.Author.Tests.{ltb-true, ltb-false, leb-true, leb-false, lt-leb, ne-eqb}
 use Rattle.test_lemmas.proofs.ByCases.{by-test}
-use Rattle.timing.specs.Counts.{mostPeriods, atPeriod, nextPeriod}
+use Rattle.timing.specs.Counts.{mostPeriods}
+use Rattle.timing.specs.Calls.{atPeriod, nextPeriod}
 use Rattle.timing.specs.declared.counts.Periods.{Periods}
 use Rattle.timing.specs.Timers.{due}
 use Rattle.timing.specs.Clear.{Clear, clear}

@@ -1,7 +1,7 @@
 // Periods run and D opportunities run: two types, so that one cannot be given where the other is
 // due.
 ghost use mathlib.Core.Path.{_≡_};
-ghost use Rattle.timing.specs.Counts.{periodsInRange, opportunitiesInRange, allRun, nextPeriod, fourMore};
+ghost use Rattle.timing.specs.Calls.{periodsInRange, opportunitiesInRange, allRun, nextPeriod, fourMore};
 
 // The most periods that a bus runs.
 pub const MOST_PERIODS: u32 = 4_000_000;

@@ -1,5 +1,5 @@
 use borrow.Author.Tests.{le-leb, lt-leb}
-use Rattle.timing.specs.Counts.{fourMore}
+use Rattle.timing.specs.Calls.{fourMore}
 use borrow.Author.Needs.{needs}
 use Rattle.timing.proofs.counts.Opportunities.four_more.Statement.{statement}
 use Rattle.timing.proofs.counts.Opportunities.four_more.Tie as tie

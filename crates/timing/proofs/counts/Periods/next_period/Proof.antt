@@ -1,5 +1,5 @@
 use borrow.Author.Tests.{le-leb, lt-leb}
-use Rattle.timing.specs.Counts.{nextPeriod}
+use Rattle.timing.specs.Calls.{nextPeriod}
 use borrow.Author.Needs.{needs}
 use Rattle.timing.proofs.counts.Periods.next_period.Statement.{statement}
 use Rattle.timing.proofs.counts.Periods.next_period.Tie as tie
