@@ -14,7 +14,8 @@ use Rattle.symbols.proofs.Written.{left-written}
 use Rattle.frame.specs.declared.fields.Four.{Four}
 use Rattle.frame.proofs.Frames.{down-line}
 use Rattle.info.specs.Info.{info2Fields, info4Fields}
-use Rattle.combining.specs.Hit.{keepLetter, plusLetter, minusLetter, struck, hit, hitFits}
+use Rattle.combining.specs.Hit.{keepLetter, plusLetter, minusLetter, struck, hit}
+use Rattle.combining.specs.Calls.{hitFits}
 use Rattle.notes_and_cells.specs.Cells.{infoIn}
 use Rattle.table_6_3.specs.Table63.{infoSent}
 use Rattle.heard_line.specs.Calls.{sensedDown}

@@ -9,7 +9,8 @@ use Prim.Native.Nat.{ℕ}
 use lib.ListN.{getD}
 use Rattle.symbols.specs.Calls.{leaves, hasLineLength}
 use Rattle.frame.specs.declared.fields.Four.{Four}
-use Rattle.combining.specs.Hit.{keepLetter, hit, hitFits}
+use Rattle.combining.specs.Hit.{keepLetter, hit}
+use Rattle.combining.specs.Calls.{hitFits}
 use Rattle.heard_line.specs.Sensing.{shownDown}
 use Rattle.heard_line.specs.declared.heard.Downward.{Downward}
 use Rattle.terminal.specs.declared.Terminal.{Terminal}

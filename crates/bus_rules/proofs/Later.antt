@@ -10,7 +10,7 @@ use Rattle.frame.specs.Four.{pick, andAll}
 use Rattle.frame.specs.Bits.{dBits}
 use Rattle.frame.specs.Down.{eBits}
 use Rattle.frame.proofs.Laws.{pick-and}
-use Rattle.combining.specs.Sent.{sentD}
+use Rattle.combining.specs.SentD.{sentD}
 use Rattle.bus_rules.specs.Bus.{Hit, Bus}
 use Rattle.bus_rules.specs.Exchange.{Sender, Opportunity, dOf, hearsE, sentOf, lineDown, lineUp, eComes, sendersAfter, dComes, onward, begins, opportunitiesOf, exchanged, wholeDown, wholeUp}
 use Rattle.bus_rules.specs.Claims.{at}

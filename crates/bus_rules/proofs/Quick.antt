@@ -22,7 +22,7 @@ use Rattle.framed.specs.Framed.{firstPulse, framedIn, framedUp, hasPulse}
 use Rattle.info.specs.Info.{info1, info3, isInfo1}
 use Rattle.info.proofs.Laws.{e-info0, e-info2, e-info4, line-info1}
 use Rattle.combining.specs.Combine.{isSent, combined}
-use Rattle.combining.specs.Sent.{sentD, anyCalling, frames, framesLine}
+use Rattle.combining.specs.SentD.{sentD, anyCalling, frames, framesLine}
 use Rattle.combining.proofs.Laws.{combined-one, combined-info0, combined-sent, combined-calling, combined-sent-d, pick-heard, e-hit, pick-struck-e}
 use Rattle.combining.proofs.Beside.{at-each-four}
 use Rattle.notes_and_cells.specs.Cells.{infoIn}

@@ -10,7 +10,8 @@ use lib.Dec.{eqb}
 use lib.ListN.{length, getD}
 use Rattle.frame.specs.Down.{eIndex}
 use Rattle.frame.specs.declared.fields.Four.{Four}
-use Rattle.combining.specs.Hit.{keepLetter, struckBit}
+use Rattle.combining.specs.Hit.{keepLetter}
+use Rattle.combining.specs.StruckBits.{struckBit}
 use Rattle.notes_and_cells.specs.Cells.{infoIn}
 use Rattle.table_6_3.specs.Table63 as table63
 use Rattle.heard_line.specs.Sensing.{shownUp, shownDown}

@@ -16,7 +16,8 @@ use Rattle.frame.specs.Up.{upBits, upLine}
 use Rattle.frame.specs.declared.fields.Four.{Four}
 use Rattle.info.specs.Info.{info1, info3}
 use Rattle.combining.specs.Combine.{isSent, only, combinedSymbol, column, combined}
-use Rattle.combining.specs.Sent.{Sent, sentLine, anyCalling, frames, framesLine}
+use Rattle.combining.specs.Sent.{Sent, sentLine}
+use Rattle.combining.specs.SentD.{anyCalling, frames, framesLine}
 use Rattle.combining.specs.Sent.Sent.{silent, calling, frame}
 use Rattle.combining.proofs.Columns.{combined-at}
 use Rattle.combining.proofs.Senders.{of-frames}

@@ -21,7 +21,8 @@ use Rattle.combining.specs.Combine.{isSent, only, combinedSymbol, column
 use Rattle.combining.specs.Calls.{rows, laid}
 use Rattle.combining.specs.Sent.{Sent, sentLine}
 use Rattle.combining.specs.Sent.Sent.{silent, calling, frame}
-use Rattle.combining.specs.Hit.{keepLetter, plusLetter, minusLetter, struck, hit, struckBit, struckE, struckA}
+use Rattle.combining.specs.Hit.{keepLetter, plusLetter, minusLetter, struck, hit}
+use Rattle.combining.specs.StruckBits.{struckBit, struckE, struckA}
 use Rattle.combining.specs.Laws
 use Rattle.combining.proofs.Columns as columns
 use Rattle.combining.proofs.ByGroup as by-group

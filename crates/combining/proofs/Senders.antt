@@ -15,7 +15,8 @@ use Rattle.frame.specs.declared.fields.Four.{Four}
 use Rattle.frame.proofs.Laws.{d-symbol-up, pick-and, pick-ones, pick-d, pick-same, d-index-in-line}
 use Rattle.info.specs.Info.{info0, info1, info3, info3Fields}
 use Rattle.combining.specs.Combine.{isSent, only, column, combined}
-use Rattle.combining.specs.Sent.{Sent, sentLine, sentD, isCalling, anyCalling, frames, framesLine, heardWithInfo1}
+use Rattle.combining.specs.Sent.{Sent, sentLine}
+use Rattle.combining.specs.SentD.{sentD, isCalling, anyCalling, frames, framesLine, heardWithInfo1}
 use Rattle.combining.specs.Sent.Sent.{silent, calling, frame}
 use Rattle.combining.proofs.Columns.{combined-at, combined-silent, de-morgan}
 use Rattle.combining.proofs.ByGroup.{combined-info3}

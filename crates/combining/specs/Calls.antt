@@ -1,14 +1,16 @@
--- Calls: what the call that combines the eight terminals' lines is lent, and what it replies.
--- Interface: `terminals`, `linesLength`, `rows`, `combineFits`, `combinedReply`, `eight`. Assumes
--- nothing.
+-- Calls: what the call that combines the eight terminals' lines is lent, and what it replies; what
+-- a hit is lent.
+-- Interface: `terminals`, `linesLength`, `rows`, `combineFits`, `combinedReply`, `eight`,
+-- `hitFits`. Assumes nothing.
 use mathlib.Core.Bool.{Bool, cond, _&&_}
 use mathlib.Core.List.{List, [], _∷_, _++_}
 use Prim.Native.Nat.{ℕ, zero, suc, _*_}
 use lib.ListN.{take, drop}
-use Rattle.symbols.specs.Symbols.{lineLength, minus, fits}
+use Rattle.symbols.specs.Symbols.{lineLength, minus, fits, isLine}
 use Rattle.symbols.specs.Calls.{hasLineLength}
 use Rattle.combining.specs.Combine.{combined}
 use Rattle.combining.specs.declared.combine.Combined.{Combined}
+use Rattle.combining.specs.Hit.{noneLetter}
 
 -- The number of terminals of a bus, and the number of symbols of all their lines.
 abbrev pub terminals : ℕ
@@ -39,3 +41,7 @@ combinedReply good = cond good Combined.Line (Combined.Refused 2)
 -- The combined line of the eight.
 abbrev pub eight : List ℕ → List ℕ
 eight lines = combined (rows terminals lines)
+
+-- A hit wants a line and 48 letters: refusal 2 for a wrong length or code of either.
+abbrev pub hitFits : List ℕ → List ℕ → Bool
+hitFits letters l = isLine l && fits lineLength noneLetter letters

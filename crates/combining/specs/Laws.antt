@@ -19,8 +19,10 @@ use Rattle.info.specs.Info.{info0, info1, info3}
 use Rattle.combining.specs.Combine.{combinedOver, combined}
 use Rattle.combining.specs.Calls.{terminals, linesLength, rows, laid, eight}
 use Rattle.combining.specs.Groups.{Combines, allOf, ofSender}
-use Rattle.combining.specs.Sent.{Sent, sentLine, sentD, anyCalling, frames, framesLine, heardWithInfo1}
-use Rattle.combining.specs.Hit.{keepLetter, plusLetter, minusLetter, noneLetter, struck, hit, struckBit, struckE, struckA}
+use Rattle.combining.specs.Sent.{Sent, sentLine}
+use Rattle.combining.specs.SentD.{sentD, anyCalling, frames, framesLine, heardWithInfo1}
+use Rattle.combining.specs.Hit.{keepLetter, plusLetter, minusLetter, noneLetter, struck, hit}
+use Rattle.combining.specs.StruckBits.{struckBit, struckE, struckA}
 
 -- ---- What is combined, and a line after a hit, is a line.
 abbrev pub LineCombined : Type 0

@@ -4,5 +4,7 @@ pub mod Calls
 pub mod Gathering
 pub mod Groups
 pub mod Sent
+pub mod SentD
 pub mod Hit
+pub mod StruckBits
 pub mod Laws

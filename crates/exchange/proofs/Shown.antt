@@ -12,7 +12,8 @@ use borrow.Author.Tests.{lt-ltb, le-ltb, eq-eqb, eqb-true, eqb-false, ne-eqb}
 use Rattle.test_lemmas.proofs.ByCases.{by-test}
 use Rattle.frame.specs.Four.{filledWithOnes}
 use Rattle.frame.specs.Down.{eIndex}
-use Rattle.combining.specs.Hit.{keepLetter, struckBit}
+use Rattle.combining.specs.Hit.{keepLetter}
+use Rattle.combining.specs.StruckBits.{struckBit}
 use Rattle.hdlc.specs.Bits.{numberLowFirst}
 use Rattle.slice_lemmas.proofs.Over.{length-mapped}
 use Rattle.slice_lemmas.specs.Over.{mapFrom, foldFrom}

@@ -9,7 +9,7 @@ use mathlib.Core.Bool.{Bool, true, false, cond, not, _&&_, _||_}
 use mathlib.Core.List.{List, [], _∷_, map}
 use Prim.Native.Nat.{ℕ}
 use lib.Dec.{eqb}
-use Rattle.combining.specs.Hit.{struckBit}
+use Rattle.combining.specs.StruckBits.{struckBit}
 use Rattle.notes_and_cells.specs.Cells.{infoIn}
 use Rattle.table_6_2.specs.Table62.{F7, infoSent}
 use Rattle.dchannel.specs.Access.{normal2}

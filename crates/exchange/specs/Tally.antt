@@ -6,7 +6,8 @@ use mathlib.Core.Bool.{Bool, true, false, cond, not, _&&_, _||_}
 use Prim.Native.Nat.{ℕ, _+_, _%_}
 use lib.Dec.{eqb, ltb}
 use Rattle.frame.specs.Four.{allFour}
-use Rattle.combining.specs.Hit.{keepLetter, struckBit}
+use Rattle.combining.specs.Hit.{keepLetter}
+use Rattle.combining.specs.StruckBits.{struckBit}
 use Rattle.notes_and_cells.specs.Cells.{infoIn}
 use Rattle.table_6_2.specs.Table62.{infoSent}
 use Rattle.packing.specs.Octets.{shifted}

@@ -2,7 +2,7 @@
 // of a period takes: no symbol is built.
 ghost use mathlib.Core.Path.{_≡_};
 ghost use mathlib.Core.Bool.{false, not};
-ghost use Rattle.combining.specs.Hit.{struckBit};
+ghost use Rattle.combining.specs.StruckBits.{struckBit};
 ghost use Rattle.bus_rules.specs.Quick.{sentE};
 ghost use Rattle.exchange.specs.Tally as spec;
 ghost use Rattle.exchange.specs.Rest as rest;

@@ -1,7 +1,8 @@
 -- `combining::hit::apply_hit` meets its contract.
 use mathlib.Core.Path.{sym, _∙_}
 use Rattle.symbols.specs.Symbols.{lineLength, isLine, fits}
-use Rattle.combining.specs.Hit.{noneLetter, hit, hitFits}
+use Rattle.combining.specs.Hit.{noneLetter, hit}
+use Rattle.combining.specs.Calls.{hitFits}
 use Rattle.symbols.proofs.Lines.{fits-length, line-length}
 use Rattle.test_lemmas.proofs.ByCases.{and-both-true, and-left-false, and-right-false}
 use Rattle.symbols.proofs.Written.{reply-refused, reply-done}
