@@ -13,7 +13,8 @@ use Rattle.bus_call_specs.specs.Event as events
 use Rattle.bus_call_specs.specs.Lists as lists
 use Rattle.bus_call_specs.specs.Lists.{called}
 use Rattle.bus_by_value.specs.declared.HeldEvent.{HeldEvent}
-use Rattle.book_line.specs.Value.{Laid, valueOctets}
+use Rattle.book_line.specs.Value.{valueOctets}
+use Rattle.book_line.specs.Laying.{Laid}
 use Rattle.note_text.specs.Room.{Put}
 use Rattle.note_text.specs.NoteText.{notesText}
 use Rattle.period_text.specs.PeriodText.{periodRoom, eventNoted}

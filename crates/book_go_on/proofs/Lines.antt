@@ -10,7 +10,8 @@ use borrow.Author.Tests.{ltb-true, ltb-false, leb-true}
 use Rattle.test_lemmas.proofs.ByCases.{by-test}
 use Rattle.text.specs.declared.field.Ends.{Ends}
 use Rattle.book_line.specs.Line.{isEnd}
-use Rattle.book_line.specs.Value.{valueOctets, valueRoom}
+use Rattle.book_line.specs.Value.{valueOctets}
+use Rattle.book_line.specs.Laying.{valueRoom}
 use Rattle.book_line.proofs.Values.{value-length}
 use Rattle.book_reader.specs.Step.{AT-LINES, AFTER-END, lineAt, valueAt}
 use Rattle.book_reader.specs.Laws.{Entered}

@@ -9,7 +9,7 @@ use lib.ListN.{length, getD, set, take, drop, drop-of-length-le, length-set}
 use lib.Seq.{paste-suc, take-all, take-nil}
 use borrow.Author.Tests.{ltb-true, ltb-false}
 use Rattle.test_lemmas.proofs.ByCases.{by-test}
-use Rattle.book_line.specs.Value.{Laid}
+use Rattle.book_line.specs.Laying.{Laid}
 
 -- n octets have been laid
 pub record Laying (octets room : List ℕ) (n : ℕ) (room′ : List ℕ) : Type 0 where

@@ -15,7 +15,8 @@ use Rattle.text.specs.Text.{space, all, isLetter}
 use Rattle.text.proofs.Pieces.{piece-le, same-length}
 use Rattle.book_line.specs.Line.{longestLine, isAbsent, isHit, valueFits, eventOf, valueOf, formed}
 use Rattle.notes_and_cells.specs.Events.{D1, D2, HIT}
-use Rattle.book_line.specs.Value.{hexDigit, pairs, bodyOf, letterCode, valueOctets, valueRoom}
+use Rattle.book_line.specs.Value.{hexDigit, pairs, bodyOf, letterCode, valueOctets}
+use Rattle.book_line.specs.Laying.{valueRoom}
 use Rattle.book_line.proofs.Judging.{formed-parts}
 
 pub hex-digit-small : (c : ℕ) → hexDigit c < 16

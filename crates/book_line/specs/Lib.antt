@@ -1,3 +1,4 @@
 pub mod Line
 pub mod Judging
 pub mod Value
+pub mod Laying

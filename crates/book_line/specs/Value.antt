@@ -1,15 +1,12 @@
 -- Rules: what the value of a line says in octets (document 01, "Bench book and report": "value the
 -- body in lower-case hexadecimal, `-` an empty one", "48 letters, k keep, p plus, m minus, n
 -- none").
--- Interface: `hexDigit`, `pairs`, `letterCode`, `valueOctets`, `valueRoom`, `Laid`. Assumes
--- nothing.
-use mathlib.Core.Path.{_≡_}
+-- Interface: `hexDigit`, `pairs`, `letterCode`, `valueOctets`. Assumes nothing.
 use mathlib.Core.Bool.{cond, _||_}
-use mathlib.Core.List.{List, [], _∷_, _++_, map}
+use mathlib.Core.List.{List, [], _∷_, map}
 use Prim.Native.Char.{code}
-use Prim.Native.Nat.{ℕ, _+_, _*_, _%_, min}
+use Prim.Native.Nat.{ℕ, _+_, _*_, _%_}
 use lib.Dec.{eqb, leb}
-use lib.ListN.{length, take, drop}
 use Rattle.book_line.specs.Line.{isAbsent}
 use Rattle.notes_and_cells.specs.Events.{D1, D2, HIT}
 
@@ -35,14 +32,3 @@ letterCode c = cond (eqb c (code "k")) 0 (cond (eqb c (code "p")) 1 (cond (eqb c
 -- The octets of an event's value: a body's, the codes of a hit's letters, and of other events none.
 unfoldable pub valueOctets : ℕ → List ℕ → List ℕ
 valueOctets event v = cond (eqb event D1 || eqb event D2) (bodyOf v) (cond (eqb event HIT) (map letterCode v) [])
-
--- Room for the octets of the value of any line of right form: two characters an octet, of fewer
--- than 600.
-abbrev pub valueRoom : ℕ
-valueRoom = 300
-
--- Octets laid into lent room from its front, as many as there is room for; what lies behind them
--- stays. Their number is handed back.
-pub record Laid (octets room : List ℕ) (laid : ℕ) (room′ : List ℕ) : Type 0 where
-  pub count : laid ≡ min (length octets) (length room)
-  pub lies : room′ ≡ take (length room) octets ++ drop (length octets) room

@@ -7,6 +7,7 @@ ghost use mathlib.Core.Path.{_≡_};
 ghost use mathlib.Core.List.{map};
 ghost use Prim.Native.Nat.{_+_, _*_};
 ghost use Rattle.book_line.specs.Value as spec;
+ghost use Rattle.book_line.specs.Laying as laying;
 
 // Room for the octets of the value of any line of right form.
 pub const VALUE_ROOM: usize = 300;
@@ -39,7 +40,7 @@ fn octet(high: u8, low: u8) -> u8
 
 // Writes the octets of a body into `out`, as many as there is room for, and gives their number.
 fn body(value: &[u8], out: &mut [u8]) -> usize
-    ensures { λ r. ⌜ spec.Laid (spec.pairs (now (value .entry))) (now (out .entry)) r (now (out .exit)) ⌝ }
+    ensures { λ r. ⌜ laying.Laid (spec.pairs (now (value .entry))) (now (out .entry)) r (now (out .exit)) ⌝ }
 {
     let most = least(value.len() / 2, out.len());
     let mut n: usize = 0;
@@ -53,7 +54,7 @@ fn body(value: &[u8], out: &mut [u8]) -> usize
 // Writes the codes of a hit's letters into `out`, as many as there is room for, and gives their
 // number.
 fn letters(value: &[u8], out: &mut [u8]) -> usize
-    ensures { λ r. ⌜ spec.Laid (map spec.letterCode (now (value .entry))) (now (out .entry)) r (now (out .exit)) ⌝ }
+    ensures { λ r. ⌜ laying.Laid (map spec.letterCode (now (value .entry))) (now (out .entry)) r (now (out .exit)) ⌝ }
 {
     let most = least(value.len(), out.len());
     let mut n: usize = 0;
@@ -67,7 +68,7 @@ fn letters(value: &[u8], out: &mut [u8]) -> usize
 // Writes the octets of an event's value into `out`, from its front, as many as there is room for,
 // and gives their number.
 pub fn octets(event: u8, value: &[u8], out: &mut [u8]) -> usize
-    ensures { λ r. ⌜ spec.Laid (spec.valueOctets event (now (value .entry))) (now (out .entry)) r (now (out .exit)) ⌝ }
+    ensures { λ r. ⌜ laying.Laid (spec.valueOctets event (now (value .entry))) (now (out .entry)) r (now (out .exit)) ⌝ }
 {
     if (event == D1) | (event == D2) {
         return body(value, out);

@@ -6,7 +6,8 @@ use Prim.Native.Nat.{ℕ, _+_, _≤_}
 use native.Mathlib.Omega.{arith}
 use lib.ListN.{length}
 use borrow.Author.Needs.{needs}
-use Rattle.book_line.specs.Value.{valueOctets, valueRoom}
+use Rattle.book_line.specs.Value.{valueOctets}
+use Rattle.book_line.specs.Laying.{valueRoom}
 use Rattle.book_reader.specs.Step.{AT-LINES, takenBy, valueAt}
 use Rattle.book_reader.proofs.RunOn.{entered}
 use Rattle.bus_call_specs.specs.Kept.{found}
