@@ -8,7 +8,8 @@ use Rattle.symbols.specs.Symbols.{lineLength, none, plus, minus, within, tabula
 use Rattle.frame.specs.Four.{pick, andAll}
 use Rattle.frame.specs.Bits.{octetBits, zeros}
 use Rattle.frame.specs.Polarity.{alternate}
-use Rattle.frame.specs.Up.{upLine, groupSymbols, upGroups, laidOut}
+use Rattle.frame.specs.Up.{upLine}
+use Rattle.frame.specs.Groups.{groupSymbols, upGroups, laidOut}
 use Rattle.frame.specs.declared.fields.Four.{Four}
 use Rattle.frame.specs.declared.fields.UpFields.{UpFields}
 use Rattle.frame.proofs.Laws.{groups-up, pick-and, pick-ones}

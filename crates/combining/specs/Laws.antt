@@ -11,7 +11,8 @@ use Rattle.symbols.specs.Symbols.{lineLength, none, plus, minus, level, levels,
 use Rattle.frame.specs.Four.{pick, andAll}
 use Rattle.frame.specs.Bits.{dBits}
 use Rattle.frame.specs.Down.{downLine, eBits, eIndex, aBit}
-use Rattle.frame.specs.Up.{upLine, groupSymbols, upGroups}
+use Rattle.frame.specs.Up.{upLine}
+use Rattle.frame.specs.Groups.{groupSymbols, upGroups}
 use Rattle.frame.specs.declared.fields.Four.{Four}
 use Rattle.frame.specs.declared.fields.DownFields.{DownFields}
 use Rattle.frame.specs.declared.fields.UpFields.{UpFields}

@@ -12,7 +12,8 @@ use Rattle.symbols.specs.Symbols.{none, plus, minus}
 use Rattle.frame.specs.Bits.{octetBits, zeros, balanced, dIndex}
 use Rattle.frame.specs.Four.{pick}
 use Rattle.frame.specs.Polarity.{opposite, alternate, nextPulse, symbols}
-use Rattle.frame.specs.Up.{upBits, upLine, groupSymbols, upGroups, laidOut}
+use Rattle.frame.specs.Up.{upBits, upLine}
+use Rattle.frame.specs.Groups.{groupSymbols, upGroups, laidOut}
 use Rattle.frame.specs.declared.fields.UpFields.{UpFields}
 
 alternate-append : (s : ℕ) (xs ys : List Bool) → alternate s (xs ++ ys) ≡ alternate s xs ++ alternate (nextPulse s xs) ys

@@ -11,7 +11,8 @@ use Rattle.frame.specs.Four.{pick, filledWithOnes, allFour, andFour}
 use Rattle.frame.specs.Bits.{balanced, dBits, dIndex}
 use Rattle.frame.specs.Polarity.{nextPulse}
 use Rattle.frame.specs.Down.{downBits, downLine, eBits, aBit, eIndex}
-use Rattle.frame.specs.Up.{upBits, upLine, groupSymbols, upGroups, laidOut}
+use Rattle.frame.specs.Up.{upBits, upLine}
+use Rattle.frame.specs.Groups.{groupSymbols, upGroups, laidOut}
 use Rattle.frame.specs.declared.fields.Four.{Four}
 use Rattle.frame.specs.declared.fields.DownFields.{DownFields}
 use Rattle.frame.specs.declared.fields.UpFields.{UpFields}

@@ -4,5 +4,6 @@ pub mod Bits
 pub mod Polarity
 pub mod Down
 pub mod Up
+pub mod Groups
 pub mod Word
 pub mod Laws

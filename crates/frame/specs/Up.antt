@@ -1,12 +1,11 @@
 -- Rules: the frame from a terminal to the network (document 01, "Terminals to network"; table 5-1).
--- Interface: `single`, `upBits`, `upLine`, `upFieldsOf`, `groupSymbols`, `upGroups`. Assumes
--- nothing.
+-- Interface: `single`, `upBits`, `upLine`, `upFieldsOf`. Assumes nothing.
 use mathlib.Core.Bool.{Bool, false}
 use mathlib.Core.List.{List, [], _∷_, _++_}
 use Prim.Native.Nat.{ℕ}
 use Rattle.frame.specs.Bits.{octetBits, balanced, octetAt, dBits}
-use Rattle.frame.specs.Polarity.{alternate, symbols}
-use Rattle.symbols.specs.Symbols.{plus, minus, levels}
+use Rattle.frame.specs.Polarity.{symbols}
+use Rattle.symbols.specs.Symbols.{levels}
 use Rattle.frame.specs.declared.fields.UpFields.{UpFields}
 
 -- A group of one bit with its L.
@@ -44,28 +43,3 @@ upFields bits = record {
 -- The fields that a line holds at symbol level.
 abbrev pub upFieldsOf : List ℕ → UpFields
 upFieldsOf line = upFields (levels line)
-
--- The symbols of a group with its L, where the next pulse is minus.
-abbrev pub groupSymbols : List Bool → List ℕ
-groupSymbols bs = alternate minus (balanced bs)
-
--- The symbols of the ten groups, in the order of the line: F with its L, then B1, D, FA, B2, D, B1,
--- D, B2, D with theirs.
-abbrev pub upGroups : List (UpFields → List ℕ)
-upGroups =
-    (λ f. plus ∷ minus ∷ [])
-    ∷ (λ f. groupSymbols (octetBits (f .b1first)))
-    ∷ (λ f. groupSymbols (f .d .first ∷ []))
-    ∷ (λ f. groupSymbols (false ∷ []))
-    ∷ (λ f. groupSymbols (octetBits (f .b2first)))
-    ∷ (λ f. groupSymbols (f .d .second ∷ []))
-    ∷ (λ f. groupSymbols (octetBits (f .b1second)))
-    ∷ (λ f. groupSymbols (f .d .third ∷ []))
-    ∷ (λ f. groupSymbols (octetBits (f .b2second)))
-    ∷ (λ f. groupSymbols (f .d .fourth ∷ []))
-    ∷ []
-
--- Groups one after the other.
-abbrev pub laidOut : {X : Type 0} → List (X → List ℕ) → X → List ℕ
-laidOut [] x = []
-laidOut (g ∷ gs) x = g x ++ laidOut gs x
