@@ -9,7 +9,8 @@ use lib.ListN.{length, length-append}
 use borrow.Author.Tests.{le-leb}
 use Rattle.test_lemmas.proofs.ByCases.{by-test}
 use Rattle.notes_and_cells.specs.Notes.{noted}
-use Rattle.notes_and_cells.specs.Cells.{cellIn, cellOf, stateAfter}
+use Rattle.notes_and_cells.specs.Cells.{cellIn, cellOf}
+use Rattle.notes_and_cells.specs.CellParts.{stateAfter}
 use Rattle.notes_and_cells.specs.declared.cell.Cell.{Cell}
 use Rattle.notes_and_cells.specs.declared.cell.Cell.the-variants.{To, Stay, Impossible, Absent}
 use Rattle.notes_and_cells.proofs.NotesKept.{noted-packed, everyNote, every-append, isIndication}

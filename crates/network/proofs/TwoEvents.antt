@@ -6,7 +6,8 @@ use Prim.Native.Nat.{ℕ}
 use lib.Dec.{eqb}
 use Rattle.test_lemmas.proofs.ByCases.{by-test, clash}
 use Rattle.notes_and_cells.specs.Notes.{packedNotes, noted}
-use Rattle.notes_and_cells.specs.Cells.{cellOf, cellNotes}
+use Rattle.notes_and_cells.specs.Cells.{cellOf}
+use Rattle.notes_and_cells.specs.CellParts.{cellNotes}
 use Rattle.notes_and_cells.specs.declared.cell.Cell.{Cell}
 use Rattle.notes_and_cells.specs.declared.cell.Cell.the-variants.{To, Stay, Impossible, Absent}
 use Rattle.table_6_3.specs.Table63.{table63, AR-ROW, DR-ROW, T1-ROW, T2-ROW, INFO-0-ROW, INFO-1-ROW, INFO-3-ROW}

@@ -1,7 +1,8 @@
 // The network end: states G1 to G4, alignment, T1 and T2.
 ghost use mathlib.Core.Bool.{cond};
 ghost use mathlib.Core.Path.{_≡_};
-ghost use Rattle.notes_and_cells.specs.Cells.{cellOf, isVoid};
+ghost use Rattle.notes_and_cells.specs.Cells.{cellOf};
+ghost use Rattle.notes_and_cells.specs.CellParts.{isVoid};
 ghost use Rattle.network.specs.Calls as calls;
 ghost use Rattle.network.specs.Network as spec;
 ghost use Rattle.table_6_3.specs.Table63.{table63};

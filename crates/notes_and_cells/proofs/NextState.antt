@@ -6,7 +6,8 @@ use Prim.Native.Nat.{ℕ, _≤_}
 use lib.Dec.{eqb, ltb, leb}
 use borrow.Author.Tests.{ltb-false, leb-true}
 use Rattle.test_lemmas.proofs.ByCases.{neither}
-use Rattle.notes_and_cells.specs.Cells.{cellIn, stateAfter}
+use Rattle.notes_and_cells.specs.Cells.{cellIn}
+use Rattle.notes_and_cells.specs.CellParts.{stateAfter}
 use Rattle.notes_and_cells.specs.declared.cell.Cell.{Cell}
 use Rattle.notes_and_cells.specs.declared.cell.Cell.the-variants.{To, Stay, Impossible, Absent}
 use Rattle.notes_and_cells.proofs.Everywhere.{everyState, in-row}

@@ -11,7 +11,7 @@ use lib.ListN.{getD, length, take, length-take}
 use borrow.Author.Tests.{eqb-true, leb-true}
 use Rattle.test_lemmas.proofs.ByCases.{both}
 use Rattle.notes_and_cells.specs.Notes.{PH-ACT, MPH-II-DISCONNECTED, packedNotes, noted}
-use Rattle.notes_and_cells.specs.Cells.{cellNotes}
+use Rattle.notes_and_cells.specs.CellParts.{cellNotes}
 use Rattle.notes_and_cells.specs.declared.cell.Cell.{Cell}
 use Rattle.notes_and_cells.specs.declared.notes.Notes.{Notes}
 use Rattle.notes_and_cells.proofs.Rows.{sameNumbers, same-numbers}

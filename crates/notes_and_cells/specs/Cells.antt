@@ -1,15 +1,12 @@
 -- Rules: the cells of tables 6-2 and 6-3, in the tables' signs.
 -- Interface: `START`, `STOP`, `START-T2`, `to`, `starts-to`, `stops-to`, `starts-T2-to`, `stay`,
--- `stay-with`, `impossible`, `absent`, `cellIn`, `cellOf`, `infoIn`, `stateAfter`, `isVoid`.
--- Assumes nothing.
-use mathlib.Core.Bool.{Bool, true, false}
+-- `stay-with`, `impossible`, `absent`, `cellIn`, `cellOf`, `infoIn`. Assumes nothing.
 use mathlib.Core.List.{List, [], _∷_}
 use Prim.Native.Nat.{ℕ}
 use lib.ListN.{getD}
 use Rattle.notes_and_cells.specs.Notes.{packedNotes}
 use Rattle.notes_and_cells.specs.declared.cell.Cell.{Cell}
 use Rattle.notes_and_cells.specs.declared.cell.Cell.the-variants.{To, Stay, Impossible, Absent}
-use Rattle.notes_and_cells.specs.declared.notes.Notes.{Notes}
 
 -- What a cell does to a timer: START and STOP are for T3 in table 6-2 and for T1 in table 6-3. No
 -- cell stops T2.
@@ -71,24 +68,3 @@ cellOf table event state = cellIn (rowOf table event) state
 -- state it is INFO 0.
 unfoldable pub infoIn : List ℕ → ℕ → ℕ
 infoIn sent state = getD (0 ∷ sent) state 0
-
--- The state that a cell leads to from a state.
-abbrev pub stateAfter : Cell → ℕ → ℕ
-stateAfter (To next action notes) state = next
-stateAfter (Stay notes) state = state
-stateAfter Impossible state = state
-stateAfter Absent state = state
-
--- The notes of a cell.
-abbrev pub cellNotes : Cell → Notes
-cellNotes (To next action notes) = notes
-cellNotes (Stay notes) = notes
-cellNotes Impossible = packedNotes []
-cellNotes Absent = packedNotes []
-
--- Whether a cell is impossible or empty: an event changes nothing there.
-abbrev pub isVoid : Cell → Bool
-isVoid (To next action notes) = false
-isVoid (Stay notes) = false
-isVoid Impossible = true
-isVoid Absent = true

@@ -3,3 +3,4 @@ pub mod Events
 pub mod Notes
 pub mod Names
 pub mod Cells
+pub mod CellParts

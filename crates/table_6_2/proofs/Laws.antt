@@ -8,7 +8,8 @@ use lib.Dec.{eqb}
 use lib.ListN.{length}
 use borrow.Author.Tests.{eqb-true, ne-eqb}
 use Rattle.notes_and_cells.specs.Notes.{packedNotes, noted}
-use Rattle.notes_and_cells.specs.Cells.{rowOf, cellIn, cellOf, infoIn, stateAfter, cellNotes, isVoid}
+use Rattle.notes_and_cells.specs.Cells.{rowOf, cellIn, cellOf, infoIn}
+use Rattle.notes_and_cells.specs.CellParts.{stateAfter, cellNotes, isVoid}
 use Rattle.notes_and_cells.specs.declared.cell.Cell.{Cell}
 use Rattle.notes_and_cells.specs.declared.cell.Cell.the-variants.{To}
 use Rattle.notes_and_cells.specs.declared.notes.Notes.{Notes}

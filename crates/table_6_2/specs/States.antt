@@ -4,7 +4,8 @@
 use mathlib.Core.Bool.{Bool, true, false, cond, not}
 use Prim.Native.Nat.{ℕ}
 use lib.Dec.{eqb}
-use Rattle.notes_and_cells.specs.Cells.{cellOf, stateAfter}
+use Rattle.notes_and_cells.specs.Cells.{cellOf}
+use Rattle.notes_and_cells.specs.CellParts.{stateAfter}
 use Rattle.table_6_2.specs.Table62.{table62, F1, F6, F7, ON-ROW, OFF-ROW, INFO-0-ROW, INFO-2-ROW, INFO-4-ROW, LOSS-ROW}
 
 -- The state that an event leads to.

@@ -6,7 +6,8 @@ use Prim.Native.Nat.{ℕ, _≤_}
 use lib.Dec.{eqb}
 use lib.ListN.{length}
 use Rattle.notes_and_cells.specs.Notes.{packedNotes, noted}
-use Rattle.notes_and_cells.specs.Cells.{cellIn, cellOf, stateAfter, cellNotes, isVoid}
+use Rattle.notes_and_cells.specs.Cells.{cellIn, cellOf}
+use Rattle.notes_and_cells.specs.CellParts.{stateAfter, cellNotes, isVoid}
 use Rattle.notes_and_cells.proofs.Everywhere.{in-row, in-table}
 use Rattle.notes_and_cells.proofs.NextState.{nextTo, row-keeps}
 use Rattle.notes_and_cells.proofs.NotesKept.{quiet, quiet-is, tidy, tidy-is, atMost, at-most-is, everyNote, isIndication, indications}

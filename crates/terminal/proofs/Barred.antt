@@ -4,7 +4,8 @@ use mathlib.Core.Bool.{true, cond, not}
 use Prim.Native.Nat.{ℕ, _≤_}
 use lib.Dec.{eqb}
 use Rattle.test_lemmas.proofs.ByCases.{by-test, both}
-use Rattle.notes_and_cells.specs.Cells.{rowOf, cellOf, isVoid}
+use Rattle.notes_and_cells.specs.Cells.{rowOf, cellOf}
+use Rattle.notes_and_cells.specs.CellParts.{isVoid}
 use Rattle.notes_and_cells.specs.declared.cell.Cell.{Cell}
 use Rattle.notes_and_cells.specs.declared.cell.Cell.the-variants.{To, Stay, Impossible, Absent}
 use Rattle.notes_and_cells.proofs.Everywhere.{at-state}

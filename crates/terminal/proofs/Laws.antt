@@ -9,7 +9,8 @@ use lib.ListN.{length, length-append}
 use borrow.Author.Tests.{le-leb}
 use Rattle.test_lemmas.proofs.ByCases.{by-test}
 use Rattle.notes_and_cells.specs.Notes.{DROPPED1, DROPPED2, packedNotes, noted}
-use Rattle.notes_and_cells.specs.Cells.{cellOf, stateAfter, cellNotes}
+use Rattle.notes_and_cells.specs.Cells.{cellOf}
+use Rattle.notes_and_cells.specs.CellParts.{stateAfter, cellNotes}
 use Rattle.notes_and_cells.specs.declared.cell.Cell.{Cell}
 use Rattle.notes_and_cells.specs.declared.cell.Cell.the-variants.{To, Stay, Impossible, Absent}
 use Rattle.notes_and_cells.proofs.NotesKept.{noted-packed, everyNote, every-append, every-of, isIndication}
