@@ -1,8 +1,8 @@
 -- Rules: when a line of a book is of right form, and what it then says (document 01, "Bench book
 -- and report" and "Reasons a call is turned down", 12 to 14). A line stands here with its LF left
 -- off.
--- Interface: `eventNamed`, `isEnd`, `isAbsent`, `isBody`, `isHit`, `valueFits`, `periodOf`,
--- `unitOf`, `eventOf`, `valueOf`, `longestLine`, `formed`, `inOrder`. Assumes nothing.
+-- Interface: `eventNamed`, `isEnd`, `isNumber`, `isAbsent`, `isBody`, `isHit`, `valueFits`,
+-- `periodOf`, `unitOf`, `eventOf`, `valueOf`, `longestLine`, `formed`, `inOrder`. Assumes nothing.
 use mathlib.Core.Bool.{Bool, cond, not, _&&_, _||_}
 use mathlib.Core.List.{List}
 use Prim.Native.Nat.{ℕ, _%_}

@@ -1,6 +1,6 @@
 -- Rules: the whole book (document 01, "Bench book and report" and refusals 11 to 14; readings 15 to
 -- 17 of docs/DECISIONS.md): the answers of its lines, one after the other.
--- Interface: `Answer`, `answers`. Assumes nothing.
+-- Interface: `answers`, `Answer`, `firstLine`. Assumes nothing.
 use mathlib.Core.Bool.{Bool, true, false, cond}
 use mathlib.Core.List.{List, [], _∷_}
 use Prim.Native.Nat.{ℕ}

@@ -2,7 +2,7 @@
 -- about the whole list of such calls and not one for each. The list starts with a fresh bus and its
 -- eight terminal records; every call, refused or not, gets what the one before left, and nobody
 -- else writes record or slice between."
--- Interface: none outside this crate but for proofs. Assumes nothing.
+-- Interface: none but for laws and proofs. Assumes nothing.
 use mathlib.Core.Bool.{true}
 use mathlib.Core.List.{List, _++_}
 use mathlib.Core.Path.{_≡_}

@@ -1,7 +1,7 @@
 -- Laws: calls that are turned down (document 01, "Reasons a call is turned down"): "The number
 -- comes back alone; record and lent buffers keep their contents." It holds of whatever a call
 -- finds, in range or not, and of whatever lengths are lent.
--- Interface: none outside this crate but for proofs. Assumes nothing.
+-- Interface: none but for laws and proofs. Assumes nothing.
 use mathlib.Core.List.{List, []}
 use mathlib.Core.Path.{_≡_}
 use Prim.Native.Nat.{ℕ, _≤_}

@@ -1,6 +1,6 @@
 -- Calls: the bus that a record and what is lent with it show. Its reader is apart, in counters and
 -- octets: what is exchanged and heard does not depend on it.
--- Interface: none outside this crate but for proofs. Assumes nothing.
+-- Interface: `busIn`. Assumes nothing.
 use Rattle.slice_lemmas.specs.Over.{mapFrom}
 use Rattle.hdlc.specs.Reading.{cleared}
 use Rattle.bus_rules.specs.Bus.{Bus}

@@ -1,7 +1,7 @@
 -- Laws: the octets of a bus are read back as what was stored, and only octets that a bus is stored
 -- as are taken for one. The statements are types; proofs/RoundTrip.antt and proofs/Exact.antt prove
 -- each under the same name in small letters.
--- Interface: none outside this crate but for proofs. Assumes nothing.
+-- Interface: none but for laws and proofs. Assumes nothing.
 use mathlib.Core.Bool.{true}
 use mathlib.Core.List.{List}
 use mathlib.Core.Path.{_≡_}

@@ -1,6 +1,6 @@
 -- Laws: the record stays in its range. The statements are types; proofs/RecordKept.antt proves each
 -- under the same name in small letters.
--- Interface: none outside this crate but for proofs. Assumes nothing.
+-- Interface: none but for laws and proofs. Assumes nothing.
 use mathlib.Core.Bool.{Bool, true, false}
 use mathlib.Core.List.{List}
 use mathlib.Core.Path.{_≡_}

@@ -1,7 +1,7 @@
 -- Laws: what holds of the terminals together after every list of calls, because they hear the same
 -- line: the statements, each a type. `proofs/Apart.antt` proves each under the same name in small
 -- letters.
--- Interface: none outside this crate but for proofs. Assumes nothing.
+-- Interface: none but for laws and proofs. Assumes nothing.
 use mathlib.Core.Path.{_≡_}
 use mathlib.Core.Bool.{false, _&&_}
 use mathlib.Core.List.{List}

@@ -1,7 +1,7 @@
 -- Rules: the bus (document 01, "Order inside a period" and "D access (6.1)"): one network end,
 -- terminals 1 to 8, and what the record counts.
--- Interface: `Station`, `Hit`, `Bus`, `terminals`, `stationAt`, `freshBus`, `Note`, `notesOf`.
--- Assumes nothing.
+-- Interface: `Station`, `Hit`, `Bus`, `terminals`, `freshStation`, `stationAt`, `freshBus`, `Note`,
+-- `notesOf`. Assumes nothing.
 use mathlib.Core.Bool.{Bool, true}
 use mathlib.Core.List.{List, [], _∷_}
 use Prim.Native.Nat.{ℕ}

@@ -2,7 +2,7 @@
 -- Opportunity t is the one at place t, from 0, of the stretch's D opportunities; terminal i is unit
 -- i + 1. Sentences in quotation marks are document 01's, or demand 3's, which docs/STATEMENTS.md
 -- has in full.
--- Interface: `Claimed`. Assumes nothing.
+-- Interface: `Demand3`, `Claimed`. Assumes nothing.
 use mathlib.Core.List.{List, [], _++_}
 use mathlib.Core.Path.{_≡_}
 use mathlib.Core.Bool.{true}

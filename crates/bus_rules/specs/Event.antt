@@ -1,6 +1,6 @@
 -- Rules: an event of the book on the bus (document 01, "Bench book and report" and "Reasons a call
 -- is turned down"): any unit number, any event number, any value.
--- Interface: `among`, `eventFor`. Assumes nothing.
+-- Interface: `among`, `eventFor`, `refusal`, `eventDone`, `eventNotes`. Assumes nothing.
 use mathlib.Core.Bool.{Bool, false, cond, not, _&&_, _||_}
 use mathlib.Core.List.{List, [], _∷_}
 use Prim.Native.Nat.{ℕ, suc, _-_}

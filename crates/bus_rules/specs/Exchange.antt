@@ -1,9 +1,9 @@
 -- Rules: the exchange of a period by lines (document 01, "The line" and "Order inside a period"). A
 -- line is written from the bits that are known so far, with 1 for the rest; nothing later changes
 -- what was taken from it (the law `as-taken`, Later.antt).
--- Interface: `sentDown`, `anySends`, `anyInfo1`, `anyInfo3`, `Sender`, `stationsOf`, `inF7`,
--- `accessStepOf`, `stationAfterE`, `dOf`, `dComes`, `opportunitiesOf`, `exchanged`, `wholeDown`,
--- `wholeUp`. Assumes nothing.
+-- Interface: `sentDown`, `anySends`, `anyInfo1`, `anyInfo3`, `Sender`, `stationsOf`, `Opportunity`,
+-- `inF7`, `accessStepOf`, `stationAfterE`, `dOf`, `doneOf`, `lineUp`, `eComes`, `dComes`, `saidTo`,
+-- `onward`, `begins`, `opportunitiesOf`, `exchanged`, `wholeDown`, `wholeUp`. Assumes nothing.
 use mathlib.Core.Bool.{Bool, true, false, cond, _||_}
 use mathlib.Core.List.{List, [], _∷_, _++_, map}
 use Prim.Native.Nat.{ℕ}

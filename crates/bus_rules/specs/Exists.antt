@@ -1,7 +1,7 @@
 -- Laws: stretches of any length exist, and busy ones, and what demand 3 speaks of happens in them:
 -- what it assumes can be met. The statements are types; `proofs/Exists.antt` proves each under the
 -- same name in small letters.
--- Interface: none outside this crate but for proofs. Assumes nothing.
+-- Interface: none but for laws and proofs. Assumes nothing.
 use mathlib.Core.Path.{_≡_}
 use mathlib.Core.Bool.{false}
 use mathlib.Core.List.{List, [], _∷_}

@@ -1,6 +1,6 @@
 -- Laws: nothing that comes later in a period changes what was taken from its lines: the statement.
 -- `proofs/Later.antt` proves it.
--- Interface: none outside this crate but for proofs. Assumes nothing.
+-- Interface: none but for laws and proofs. Assumes nothing.
 use mathlib.Core.Path.{_≡_}
 use Prim.Native.Nat.{ℕ, _<_}
 use Rattle.symbols.specs.Symbols.{levels}

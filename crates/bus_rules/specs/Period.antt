@@ -1,6 +1,7 @@
 -- Rules: a period (document 01, "Lists and stretches"): "exchange, hearing, then the timers due at
 -- the next one's start".
--- Interface: `networkHears`, `stepped`, `heardBy`, `periodRun`. Assumes nothing.
+-- Interface: `readingAfter`, `networkHears`, `stepped`, `doneCodes`, `heardBy`, `periodRun`,
+-- `periodNotes`. Assumes nothing.
 use mathlib.Core.Bool.{cond}
 use mathlib.Core.List.{List, [], _∷_, map}
 use Prim.Native.Nat.{ℕ, _+_}

@@ -1,6 +1,6 @@
 -- Laws: every field of the bus in its range: what reason 1 of document 01, "Reasons a call is
 -- turned down", asks of a record; and what the record counts.
--- Interface: none outside this crate but for proofs. Assumes nothing.
+-- Interface: none but for laws and proofs. Assumes nothing.
 use mathlib.Core.Bool.{Bool, true, cond}
 use mathlib.Core.List.{List, [], _∷_}
 use mathlib.Core.Path.{_≡_}

@@ -1,6 +1,6 @@
 -- Laws: scenes of the bus, computed by the definitions: lists of calls with what they hand back,
 -- and records that no list of calls leads to.
--- Interface: none outside this crate but for proofs. Assumes nothing.
+-- Interface: none but for laws and proofs. Assumes nothing.
 use mathlib.Core.Path.{_≡_, refl}
 use mathlib.Core.Bool.{Bool, true, false, cond}
 use mathlib.Core.List.{List, [], _∷_, _++_, map}

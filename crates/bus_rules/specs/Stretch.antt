@@ -1,7 +1,9 @@
 -- Rules: stretches, and document 01's words for what happens at the D opportunities in them ("Lists
 -- and stretches"). Sentences in quotation marks are document 01's, or demand 3's, which
 -- docs/STATEMENTS.md has in full.
--- Interface: `Stretch`. Assumes nothing.
+-- Interface: `Stretch`, `opportunitiesOfCall`, `opportunitiesIn`, `stationThen`, `Waits`,
+-- `Completes`, `Begins`, `bodyHeard`, `bodyCompleted`, `buses`, `poweredIn`, `longestIn`. Assumes
+-- nothing.
 use mathlib.Core.Bool.{Bool, true, false, cond, not, _&&_}
 use mathlib.Core.List.{List, [], _∷_, _++_}
 use mathlib.Core.Path.{_≡_}

@@ -1,6 +1,6 @@
 -- Rules: what the notes of a call say of its D opportunities: its `heard`, `torn`, `done1` and
 -- `done2` are what happens at them, in order.
--- Interface: none outside this crate but for proofs. Assumes nothing.
+-- Interface: `AllTell`. Assumes nothing.
 use mathlib.Core.Bool.{cond}
 use mathlib.Core.List.{List, [], _∷_, _++_}
 use mathlib.Core.Path.{_≡_}

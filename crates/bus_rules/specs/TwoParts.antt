@@ -1,7 +1,7 @@
 -- Laws: the notes of a period are those of its two parts: what is heard in it, and what comes of the
 -- timers due at the next one's start. `proofs/Telling.antt` proves it under the same name in small
 -- letters.
--- Interface: none outside this crate but for proofs. Assumes nothing.
+-- Interface: none but for laws and proofs. Assumes nothing.
 use mathlib.Core.List.{List, _++_}
 use mathlib.Core.Path.{_≡_}
 use Rattle.bus_rules.specs.Bus.{Bus, Note}

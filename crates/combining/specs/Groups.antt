@@ -1,6 +1,6 @@
 -- Laws: combining by groups: lists of symbols that are laid out in groups of the same widths are
 -- combined group by group.
--- Interface: none outside this crate but for proofs. Assumes nothing.
+-- Interface: none but for laws and proofs. Assumes nothing.
 use mathlib.Core.Path.{_≡_}
 use mathlib.Core.Bool.{Bool, true, _&&_}
 use mathlib.Core.List.{List, [], _∷_, _++_, map}

@@ -1,6 +1,7 @@
 -- Rules: hits (document 01, "Bench book and report": `hit`, 48 letters, k keep, p plus, m minus, n
 -- none).
--- Interface: `keepLetter`, `minusLetter`, `noneLetter`, `struck`, `hit`. Assumes nothing.
+-- Interface: `keepLetter`, `plusLetter`, `minusLetter`, `noneLetter`, `struck`, `hit`. Assumes
+-- nothing.
 use mathlib.Core.Bool.{cond}
 use mathlib.Core.List.{List}
 use Prim.Native.Nat.{ℕ}

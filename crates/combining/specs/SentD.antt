@@ -1,6 +1,6 @@
 -- Laws: the terms of the laws about what several terminals send: their D bits, whether one sends
 -- INFO 1, the INFO 3 among them, and the D that are heard where INFO 1 is on the line.
--- Interface: none outside this crate but for proofs. Assumes nothing.
+-- Interface: none but for laws and proofs. Assumes nothing.
 use mathlib.Core.Bool.{Bool, true, false, not, cond, _||_}
 use mathlib.Core.List.{List, [], _∷_}
 use Prim.Native.Nat.{ℕ}

@@ -1,7 +1,7 @@
 -- Laws: the D channel alone: terminals, the last D that the network end heard, and its reader
 -- (document 01, "D access (6.1)"). What happens to it is a list of actions. x1 and x2 are the
 -- normal levels of class 1 and class 2, 8 and 10 in document 01.
--- Interface: none outside this crate but for proofs. Assumes nothing.
+-- Interface: none but for laws and proofs. Assumes nothing.
 use mathlib.Core.Bool.{Bool, true, false, cond, _&&_, _||_}
 use mathlib.Core.List.{List, [], _∷_, map}
 use Prim.Native.Nat.{ℕ}

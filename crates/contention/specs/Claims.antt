@@ -2,7 +2,7 @@
 -- and the stretch (document 01, "Lists and stretches"). Opportunity t is the one at place t, from
 -- 0, of the stretch's D opportunities. `stretch-in-list` (WholeList) has a stretch as a part of a
 -- whole list.
--- Interface: none outside this crate but for proofs. Assumes nothing.
+-- Interface: none but for laws and proofs. Assumes nothing.
 use mathlib.Core.List.{List}
 use mathlib.Core.Path.{_≡_}
 use Prim.Native.Nat.{ℕ, _+_, _*_, _≤_, _<_}

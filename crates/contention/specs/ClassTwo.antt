@@ -1,6 +1,6 @@
 -- Laws: the class 2 wait (document 02, 2.11), as a statement about the channel where a stretch
 -- starts and the stretch.
--- Interface: none outside this crate but for proofs. Assumes nothing.
+-- Interface: none but for laws and proofs. Assumes nothing.
 use mathlib.Core.Bool.{Bool, false, cond, _&&_}
 use mathlib.Core.List.{List, [], _∷_}
 use Prim.Native.Nat.{ℕ, _+_, _≤_, _<_}

@@ -1,6 +1,6 @@
 -- Laws: what holds of the channel after every list of actions, hits and all, because all terminals
 -- in F7 hear the same E.
--- Interface: none outside this crate but for proofs. Assumes nothing.
+-- Interface: none but for laws and proofs. Assumes nothing.
 use mathlib.Core.Bool.{true, false}
 use mathlib.Core.Path.{_≡_}
 use Prim.Native.Nat.{ℕ, suc, _+_, _≤_, _<_}

@@ -1,6 +1,6 @@
 -- Laws: scenes of the D channel, computed by the definitions, with the levels of document 01: 8 for
 -- class 1 and 10 for class 2. Terminals and D opportunities are counted from 0.
--- Interface: none outside this crate but for proofs. Assumes nothing.
+-- Interface: none but for laws and proofs. Assumes nothing.
 use mathlib.Core.Bool.{Bool, cond}
 use mathlib.Core.Path.{_≡_, refl}
 use mathlib.Core.List.{List, [], _∷_, _++_, map}

@@ -1,7 +1,7 @@
 -- How the code goes: the network end's reader as the code has it: counters, and the frame's octets
 -- in a lent buffer. StandsFor.antt says which reading of raw bits they stand for.
--- Interface: `freshReader`, `openedReader`, `takeUp`, `afterBit`, `storeWhole`, `answerTo`,
--- `readBit`, `readOctets`. Assumes nothing.
+-- Interface: `mostBits`, `freshReader`, `openedReader`, `takeUp`, `afterBit`, `storeWhole`,
+-- `answerTo`, `readBit`, `readOctets`. Assumes nothing.
 use mathlib.Core.Bool.{Bool, true, false, cond, not}
 use mathlib.Core.List.{List}
 use Prim.Native.Nat.{ℕ, _+_, _-_, _*_, _/_, _%_}

@@ -1,6 +1,6 @@
 -- Laws: the cases marked ● in document 01, "Edges": one table, computed by the definitions, and a
 -- single fact that proves it.
--- Interface: none outside this crate but for proofs. Assumes nothing.
+-- Interface: none but for laws and proofs. Assumes nothing.
 use mathlib.Core.Path.{_≡_, refl}
 use mathlib.Core.Bool.{Bool, true, false, cond, not}
 use mathlib.Core.List.{List, [], _∷_, _++_}

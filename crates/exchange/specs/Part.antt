@@ -1,7 +1,8 @@
 -- How the code goes: one terminal's part in a D opportunity, with the images that are lent: eight
 -- of them one after the other, each in octets for the longest. The law `exchange-shown`
 -- (Shown.antt) holds it to crate `bus_rules`.
--- Interface: `imageOf`, `imageBit`, `stationIn`, `taken`. Assumes nothing.
+-- Interface: `imageOf`, `imageBit`, `stationIn`, `terminalAfterE`, `tallyWith`, `taken`. Assumes
+-- nothing.
 use mathlib.Core.Bool.{Bool, true, cond}
 use mathlib.Core.List.{List, [], _∷_}
 use Prim.Native.Nat.{ℕ, zero, suc, _+_, _*_}

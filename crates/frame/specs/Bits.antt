@@ -1,7 +1,7 @@
 -- Rules: bits, octets and counts of 0s (document 01, "The line": B octets, and what L is taken
 -- over). A bit is true for 1 and false for 0.
--- Interface: `bit`, `numberHighFirst`, `octetBits`, `zeros`, `balanced`, `fourAt`, `dBits`. Assumes
--- nothing.
+-- Interface: `bit`, `numberHighFirst`, `octetBits`, `zeros`, `balanced`, `bitAtPosition`,
+-- `octetAt`, `fourAt`, `dBits`. Assumes nothing.
 use mathlib.Core.Bool.{Bool, true, false}
 use mathlib.Core.List.{List, [], _∷_, _++_}
 use Prim.Native.Nat.{ℕ, _+_, _-_, _*_, _/_, _%_, _^_}

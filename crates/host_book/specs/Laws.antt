@@ -1,7 +1,7 @@
 -- Laws: the octets of a book are read back as what was stored, and only octets that a book is
 -- stored as are taken for one: proofs/Laws.antt proves each statement under the same name in small
 -- letters.
--- Interface: none outside this crate but for proofs. Assumes nothing.
+-- Interface: none but for laws and proofs. Assumes nothing.
 use mathlib.Core.Bool.{true}
 use mathlib.Core.List.{List}
 use mathlib.Core.Path.{_≡_}

@@ -1,7 +1,8 @@
 -- Calls: how far a book has come, as octets: its bus (crate `bus_octets`, specs/Layout.antt), and
 -- behind it the stage of the book's reader, whether the report's first line is written, and whether
 -- all of it is. 3,053 octets in all.
--- Interface: `bookLength`, `isBook`, `progressIn`, `progressLaid`. Assumes nothing.
+-- Interface: `bookLength`, `bookOctets`, `bookStateIn`, `isBook`, `progressIn`, `progressLaid`.
+-- Assumes nothing.
 use mathlib.Core.Bool.{Bool, false, cond, _&&_}
 use mathlib.Core.List.{List, [], _∷_, _++_}
 use Prim.Native.Nat.{ℕ, _+_}

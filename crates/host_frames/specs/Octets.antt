@@ -1,7 +1,8 @@
 -- Calls: the fields of a frame (document 01, "Network to terminals" and "Terminals to network") as
 -- 16 octets, with the same places in both directions: the four B octets, then bits, each an octet 0
 -- or 1.
--- Interface: `fieldsLength`, `downOctets`, `fourFrom`, `downFrom`, `asDown`. Assumes nothing.
+-- Interface: `fieldsLength`, `downOctets`, `fourFrom`, `downFrom`, `asDown`, `upFrom`, `isDown`,
+-- `isUp`. Assumes nothing.
 use mathlib.Core.Bool.{Bool, false, _&&_}
 use mathlib.Core.List.{List, [], _∷_}
 use Prim.Native.Nat.{ℕ, _+_}

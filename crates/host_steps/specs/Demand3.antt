@@ -1,7 +1,7 @@
 -- Laws: demand 3 on a host's calls (document 01, "Lists and stretches"; crate `bus_rules`,
 -- specs/Claims.antt): what `bus_call_specs` claims of the engine's calls (specs/Demand3.antt
 -- there), of the calls on a bus that is lent as octets. Proved in proofs/Demand3.antt.
--- Interface: none outside this crate but for proofs. Assumes nothing.
+-- Interface: none but for laws and proofs. Assumes nothing.
 use mathlib.Core.List.{List, [], _∷_, _++_}
 use mathlib.Core.Path.{_≡_}
 use Prim.Native.Nat.{ℕ}

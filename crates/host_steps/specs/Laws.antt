@@ -1,6 +1,6 @@
 -- Laws: what holds of the calls on a bus that is lent as octets. The statements are types;
 -- proofs/Laws.antt and Determined.antt prove each under the same name in small letters.
--- Interface: none outside this crate but for proofs. Assumes nothing.
+-- Interface: none but for laws and proofs. Assumes nothing.
 use mathlib.Core.Bool.{true, cond}
 use mathlib.Core.List.{List, [], _∷_, _++_}
 use mathlib.Core.Path.{_≡_}

@@ -1,7 +1,7 @@
 -- Laws: the law of leaps: from a still bus the step over j periods is what j single calls of
 -- `period` leave. The statement is a type; `proofs/Leaping.antt` proves it under the same name in
 -- small letters.
--- Interface: none outside this crate but for proofs. Assumes nothing.
+-- Interface: none but for laws and proofs. Assumes nothing.
 use mathlib.Core.Path.{_≡_}
 use Prim.Native.Nat.{ℕ, _≤_, _<_}
 use lib.ListN.{replicate}

@@ -1,6 +1,6 @@
 -- Laws: scenes of still buses, each computed: how far they are still, and what a leap makes of
 -- their counts.
--- Interface: none outside this crate but for proofs. Assumes nothing.
+-- Interface: none but for laws and proofs. Assumes nothing.
 use mathlib.Core.Bool.{Bool, true, false, _&&_}
 use mathlib.Core.List.{List, [], _∷_}
 use mathlib.Core.Path.{_≡_, refl}

@@ -1,6 +1,6 @@
 -- Laws: what holds of the INFO signals: the statements, each a type. `proofs/Laws.antt` proves each
 -- under the same name in small letters.
--- Interface: none outside this crate but for proofs. Assumes nothing.
+-- Interface: none but for laws and proofs. Assumes nothing.
 use mathlib.Core.Path.{_≡_}
 use mathlib.Core.Bool.{true, false}
 use mathlib.Core.Logic.{_↔_}

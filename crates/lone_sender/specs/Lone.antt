@@ -1,8 +1,8 @@
 -- How the code goes: one terminal sends on the D channel, and no other starts: four bits a period,
 -- in the few values that the sending takes. The law `lone-four` holds it to the exchange over all
 -- terminals (crate `exchange`, specs/Opportunities.antt).
--- Interface: `countedAt`, `loneAfterE`, `loneSends`, `loneStep`, `tallyOf`, `followed`. Assumes
--- nothing.
+-- Interface: `countedAt`, `loneAfterE`, `loneSends`, `loneAfterFour`, `loneGoes`, `loneStep`,
+-- `tallyOf`, `loneTally`, `followed`, `loneStations`, `senderIn`. Assumes nothing.
 use mathlib.Core.Bool.{Bool, true, false, cond, not, _&&_}
 use mathlib.Core.List.{List, [], _∷_}
 use mathlib.Core.Path.{_≡_}

@@ -1,7 +1,7 @@
 -- Laws: a period of a run alone is the period over all terminals: the exchange, the terminals'
 -- hearing and their timers (crate `bus_call_specs`, specs/Step.antt). The statements are types;
 -- `proofs/Period.antt` proves each under the same name in small letters.
--- Interface: none outside this crate but for proofs. Assumes nothing.
+-- Interface: none but for laws and proofs. Assumes nothing.
 use mathlib.Core.Bool.{true, false}
 use mathlib.Core.List.{List}
 use mathlib.Core.Path.{_≡_}

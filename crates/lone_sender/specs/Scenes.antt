@@ -1,6 +1,6 @@
 -- Laws: scenes, each computed: a terminal that is found to send alone, and its next period;
 -- terminals among which none is.
--- Interface: none outside this crate but for proofs. Assumes nothing.
+-- Interface: none but for laws and proofs. Assumes nothing.
 use mathlib.Core.Bool.{true, false}
 use mathlib.Core.List.{List, [], _∷_}
 use mathlib.Core.Path.{_≡_, refl}

@@ -1,6 +1,6 @@
 -- Rules: the report of a book (document 01, "Bench book and report"): from the book's octets to the
 -- report's, whatever octets the book has.
--- Interface: `report`. Assumes nothing.
+-- Interface: `callsOfAnswers`, `bookCalls`, `allBookNotes`, `stopOf`, `report`. Assumes nothing.
 use mathlib.Core.Bool.{cond}
 use mathlib.Core.List.{List, [], _∷_, _++_}
 use Prim.Native.Nat.{ℕ, _-_}
