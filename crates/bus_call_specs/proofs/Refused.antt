@@ -16,7 +16,7 @@ use Rattle.hdlc.specs.Bits.{bodyBits}
 use Rattle.hdlc.specs.Image.{image, longestBody, longestImage, shortestImage}
 use Rattle.hdlc.proofs.ImageLaws.{length-image, length-stuff-least, length-stuff-most, length-bodyBits}
 use Rattle.packing.specs.Packing.{isBodyLength}
-use Rattle.dchannel.specs.Handing.{isImageLength, handed}
+use Rattle.dchannel.specs.Calls.{isImageLength, handed}
 use Rattle.dchannel.specs.declared.access.Class.{Class}
 use Rattle.table_6_2.specs.Table62.{F7}
 use Rattle.table_6_2.specs.Table62 as table62

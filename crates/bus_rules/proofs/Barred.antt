@@ -15,7 +15,7 @@ use Rattle.notes_and_cells.specs.declared.cell.Cell.{Cell}
 use Rattle.notes_and_cells.specs.declared.cell.Cell.the-variants.{To, Stay, Impossible, Absent}
 use Rattle.hdlc.specs.Image.{image, isBody}
 use Rattle.hdlc.proofs.ImageLaws.{is-body}
-use Rattle.dchannel.specs.Handing.{handed}
+use Rattle.dchannel.specs.Calls.{handed}
 use Rattle.dchannel.specs.declared.access.Class.{Class}
 use Rattle.dchannel.proofs.AccessLaws.{image-fits}
 use Rattle.table_6_2.specs.Table62.{table62, F7}

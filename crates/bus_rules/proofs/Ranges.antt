@@ -15,7 +15,7 @@ use Rattle.notes_and_cells.specs.Notes.{DONE1, DONE2}
 use Rattle.hdlc.specs.Image.{image}
 use Rattle.hdlc.proofs.ImageLaws.{is-body}
 use Rattle.dchannel.specs.Access.{normal1, normal2}
-use Rattle.dchannel.specs.Handing.{classNumber}
+use Rattle.dchannel.specs.Calls.{classNumber}
 use Rattle.dchannel.specs.declared.access.Class.{Class}
 use Rattle.dchannel.specs.declared.access.Class.the-variants.{One, Two}
 use Rattle.dchannel.proofs.AccessLaws.{takes-body}

@@ -15,7 +15,8 @@ use Rattle.hdlc.specs.Bits.{sameBit}
 use Rattle.hdlc.specs.Image.{image, shortestImage, longestImage, IsBody}
 use Rattle.dchannel.specs.Access.{entered, countAfter, lowAfter, afterE, sending, lowOf, threshold, mayStart, sendsNext, stops, completes, idles, accessStep}
 use Rattle.dchannel.specs.AtRest.{atRest}
-use Rattle.dchannel.specs.Handing.{classNumber, isImageLength, takenUp, handed, left}
+use Rattle.dchannel.specs.Handing.{takenUp, left}
+use Rattle.dchannel.specs.Calls.{classNumber, isImageLength, handed}
 use Rattle.hdlc.specs.Ones.{endingOnes}
 use Rattle.test_lemmas.proofs.ByCases.{by-test, both}
 use Rattle.test_lemmas.proofs.Operators.{and-both}

@@ -8,7 +8,8 @@ use borrow.Author.Tests.{leb-true, le-leb}
 use Rattle.test_lemmas.proofs.ByCases.{by-test}
 use Rattle.hdlc.specs.Image.{shortestImage, longestImage}
 use Rattle.dchannel.specs.Access.{fresh, entered, afterE, sendsNext, stops, completes, idles, accessStep}
-use Rattle.dchannel.specs.Handing.{classNumber, isImageLength, takenUp, handed, left}
+use Rattle.dchannel.specs.Handing.{takenUp, left}
+use Rattle.dchannel.specs.Calls.{classNumber, isImageLength, handed}
 use Rattle.dchannel.specs.Ranges.{accessInRange}
 use Rattle.dchannel.specs.declared.access.Access.{Access}
 use Rattle.dchannel.specs.declared.access.Class.{Class}

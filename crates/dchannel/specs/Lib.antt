@@ -2,4 +2,5 @@
 pub mod Access
 pub mod AtRest
 pub mod Handing
+pub mod Calls
 pub mod Ranges

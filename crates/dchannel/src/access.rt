@@ -3,7 +3,8 @@ ghost use mathlib.Core.Path.{_≡_};
 ghost use mathlib.Core.Bool.{cond};
 ghost use Rattle.dchannel.specs.Access.{normal1, normal2, fresh, entered, afterE, mayStart, completes, stops, accessStep};
 ghost use Rattle.dchannel.specs.AtRest.{atRest};
-ghost use Rattle.dchannel.specs.Handing.{handed, left};
+ghost use Rattle.dchannel.specs.Handing.{left};
+ghost use Rattle.dchannel.specs.Calls.{handed};
 ghost use Rattle.dchannel.specs.Ranges.{accessInRange};
 
 // The C at which class 1 starts at its normal level. At the low level it is one more.

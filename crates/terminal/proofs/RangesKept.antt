@@ -24,7 +24,7 @@ use Rattle.alignment.specs.declared.Alignment.{Alignment}
 use Rattle.heard_line.specs.declared.heard.Downward.{Downward}
 use Rattle.alignment.proofs.Alignments.{followed-in-range}
 use Rattle.dchannel.specs.Access.{normal2}
-use Rattle.dchannel.specs.Handing.{handed}
+use Rattle.dchannel.specs.Calls.{handed}
 use Rattle.dchannel.specs.Ranges.{accessInRange}
 use Rattle.dchannel.specs.declared.access.Access.{Access}
 use Rattle.dchannel.specs.declared.access.Class.{Class}

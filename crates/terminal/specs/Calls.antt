@@ -6,7 +6,7 @@ use mathlib.Core.List.{[]}
 use Prim.Native.Nat.{ℕ, _+_}
 use lib.Dec.{eqb, ltb}
 use Rattle.dchannel.specs.Access.{normal2}
-use Rattle.dchannel.specs.Handing.{handed}
+use Rattle.dchannel.specs.Calls.{handed}
 use Rattle.dchannel.specs.Ranges.{accessInRange}
 use Rattle.notes_and_cells.specs.Notes.{packedNotes}
 use Rattle.dchannel.specs.declared.access.Class.{Class}

@@ -2,7 +2,8 @@ use mathlib.Core.Path.{_≡_, _∙_}
 use mathlib.Core.Logic.{⊎-elim}
 use native.Mathlib.Omega.{arith}
 use borrow.Author.Tests.{eq-eqb, ne-eqb}
-use Rattle.dchannel.specs.Handing.{classNumber, isImageLength, takenUp, handed}
+use Rattle.dchannel.specs.Handing.{takenUp}
+use Rattle.dchannel.specs.Calls.{classNumber, isImageLength, handed}
 use borrow.Author.Needs.{needs}
 use Rattle.dchannel.proofs.access.Access.hand.Statement.{statement}
 use Rattle.dchannel.proofs.access.Access.hand.Tie as tie
