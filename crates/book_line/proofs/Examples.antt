@@ -9,7 +9,7 @@ use Rattle.notes_and_cells.specs.Names.{ascii}
 use Rattle.text.specs.Text.{split, onto, upto, all, onward}
 use Rattle.text.specs.Fields.{fieldStart}
 use Rattle.text.specs.declared.field.Ends.{Ends}
-use Rattle.book_line.specs.Line.{eventNamed, isNumber, isAbsent, isBody, isHit, valueFits, formed}
+use Rattle.book_line.specs.Line.{eventNamed, isNumber, isAbsent, isBodyText, isHitText, valueFits, formed}
 use Rattle.notes_and_cells.specs.Events.{ON, AR, DR, D1, D2, HIT, END}
 use Rattle.book_line.specs.Judging.{judged}
 use Rattle.book_line.specs.Value.{hexDigit, pairs, bodyOf, letterCode, valueOctets}
@@ -73,7 +73,7 @@ examples =
     ∷ []
 
 pub judgements : map (λ (x : Example). judged (x .line)) examples ≡ map (λ (x : Example). x .says) examples
-unfolding sameSymbols split onto upto all onward fieldStart eventNamed isNumber isAbsent isBody isHit valueFits formed judged
+unfolding sameSymbols split onto upto all onward fieldStart eventNamed isNumber isAbsent isBodyText isHitText valueFits formed judged
 judgements = refl
 
 -- The sixteen digits.

@@ -13,7 +13,7 @@ use Rattle.symbols.specs.Symbols.{lineLength, within, fits}
 use Rattle.notes_and_cells.specs.Names.{ascii}
 use Rattle.text.specs.Text.{space, all, isLetter}
 use Rattle.text.proofs.Pieces.{piece-le, same-length}
-use Rattle.book_line.specs.Line.{longestLine, isAbsent, isHit, valueFits, eventOf, valueOf, formed}
+use Rattle.book_line.specs.Line.{longestLine, isAbsent, isHitText, valueFits, eventOf, valueOf, formed}
 use Rattle.notes_and_cells.specs.Events.{D1, D2, HIT}
 use Rattle.book_line.specs.Value.{hexDigit, pairs, bodyOf, letterCode, valueOctets}
 use Rattle.book_line.specs.Laying.{valueRoom}
@@ -85,7 +85,7 @@ codes-within [] = refl
 codes-within (c ∷ v) = rw (le-leb (letterCode c) 3 (omega (arith, letter-small c)), codes-within v)
 
 pub hit-fits : (v : List ℕ) → valueFits HIT v ≡ true → fits lineLength 3 (valueOctets HIT v) ≡ true
-unfolding valueFits isHit valueOctets fits
+unfolding valueFits isHitText valueOctets fits
 hit-fits v e =
     let long : length (map letterCode v) ≡ lineLength =
     length-map v letterCode ∙ eqb-true (length v) lineLength (and-left (eqb (length v) lineLength) (all isLetter v) e) in
@@ -93,7 +93,7 @@ hit-fits v e =
 
 -- every value has room
 value-short : (event : ℕ) (v : List ℕ) → length v < longestLine → valueFits event v ≡ true → length (valueOctets event v) < valueRoom
-unfolding valueFits isHit valueOctets
+unfolding valueFits isHitText valueOctets
 value-short event v h e =
     by-test (eqb event D1 || eqb event D2) (λ d. rw (d, body-pairs v) (omega (arith, length-pairs v)))
     (λ d. by-test (eqb event HIT)

@@ -1,7 +1,7 @@
 -- Rules: when a line of a book is of right form, and what it then says (document 01, "Bench book
 -- and report" and "Reasons a call is turned down", 12 to 14). A line stands here with its LF left
 -- off.
--- Interface: `eventNamed`, `isEnd`, `isNumber`, `isAbsent`, `isBody`, `isHit`, `valueFits`,
+-- Interface: `eventNamed`, `isEnd`, `isNumber`, `isAbsent`, `isBodyText`, `isHitText`, `valueFits`,
 -- `periodOf`, `unitOf`, `eventOf`, `valueOf`, `longestLine`, `formed`, `inOrder`. Assumes nothing.
 use mathlib.Core.Bool.{Bool, cond, not, _&&_, _||_}
 use mathlib.Core.List.{List}
@@ -47,16 +47,16 @@ isAbsent v = same v (ascii "-")
 
 -- "value the body in lower-case hexadecimal, `-` an empty one"; "an odd number of hexadecimal
 -- digits" is of the wrong form.
-unfoldable pub isBody : List ℕ → Bool
-isBody v = isAbsent v || (leb 1 (length v) && eqb (length v % 2) 0 && all isHex v)
+unfoldable pub isBodyText : List ℕ → Bool
+isBodyText v = isAbsent v || (leb 1 (length v) && eqb (length v % 2) 0 && all isHex v)
 
 -- "48 letters .. for this period's downward line": one for each symbol.
-unfoldable pub isHit : List ℕ → Bool
-isHit v = eqb (length v) lineLength && all isLetter v
+unfoldable pub isHitText : List ℕ → Bool
+isHitText v = eqb (length v) lineLength && all isLetter v
 
 -- Whether a value is of the form that the event wants: "a value where none belongs" is not.
 unfoldable pub valueFits : ℕ → List ℕ → Bool
-valueFits event v = cond (eqb event D1 || eqb event D2) (isBody v) (cond (eqb event HIT) (isHit v) (isAbsent v))
+valueFits event v = cond (eqb event D1 || eqb event D2) (isBodyText v) (cond (eqb event HIT) (isHitText v) (isAbsent v))
 
 -- ---- Lines.
 

@@ -18,14 +18,14 @@ pub fn is_absent(v: &[u8]) -> bool
 
 // Tests whether a value is a body in hexadecimal.
 pub fn is_body(v: &[u8]) -> bool
-    ensures { λ r. ⌜ r ≡ spec.isBody (now (v .entry)) ⌝ }
+    ensures { λ r. ⌜ r ≡ spec.isBodyText (now (v .entry)) ⌝ }
 {
     is_absent(v) | ((1 <= v.len()) & (v.len() % 2 == 0) & all_hex(v))
 }
 
 // Tests whether a value is the letters of a hit, one for each symbol of a line.
 pub fn is_hit(v: &[u8]) -> bool
-    ensures { λ r. ⌜ r ≡ spec.isHit (now (v .entry)) ⌝ }
+    ensures { λ r. ⌜ r ≡ spec.isHitText (now (v .entry)) ⌝ }
 {
     (v.len() == LINE_LENGTH) & all_letters(v)
 }

@@ -10,7 +10,7 @@ use borrow.Author.Tests.{eqb-true, ltb-false, le-ltb, lt-leb, ne-eqb}
 use Rattle.test_lemmas.proofs.ByCases.{by-test, both, clash}
 use Rattle.notes_and_cells.specs.Notes.{packedNotes, noted}
 use Rattle.notes_and_cells.proofs.NotesKept.{everyNote, every-append, every-of, isIndication}
-use Rattle.table_6_3.specs.Table63 as table63
+use Rattle.table_6_3.specs.Table63 as Table63
 use Rattle.timing.specs.declared.counts.Periods.{Periods}
 use Rattle.dchannel.specs.declared.access.Class.{Class}
 use Rattle.dchannel.specs.declared.access.Class.the-variants.{One, Two}
@@ -189,7 +189,7 @@ module _ (now : Periods) (t : Terminal) where
 of-network : (number : ℕ) (bus : BusRecord) → Codes (noted (parts.networkTold number bus .notes))
 unfolding parts.networkTold parts.networkAsked parts.asked parts.told networkCalls.checked
 of-network number bus =
-    let request = cond (eqb number AR) table63.AR-ROW table63.DR-ROW in
+    let request = cond (eqb number AR) Table63.AR-ROW Table63.DR-ROW in
     by-test (eqb number HIT) (λ h. rw h no-codes)
     (λ h. rw h
     (by-test (networkCalls.ready (bus .periods) (bus .network))

@@ -12,7 +12,7 @@ use Rattle.symbols.specs.Symbols.{lineLength, fits}
 use Rattle.notes_and_cells.specs.declared.cell.Cell.{Cell}
 use Rattle.notes_and_cells.specs.declared.cell.Cell.the-variants.{To, Stay, Impossible, Absent}
 use Rattle.table_6_3.specs.Table63.{table63, G3}
-use Rattle.table_6_3.specs.Table63 as table63
+use Rattle.table_6_3.specs.Table63 as Table63
 use Rattle.timing.specs.Calls.{atPeriod}
 use Rattle.hdlc.specs.Reading.{Reading}
 use Rattle.d_reader.specs.ReaderRange.{readerInRange}
@@ -117,7 +117,7 @@ module _ (k : Kept) (b : Bus) (c : Carries k b) where
     unfolding asked
     asked-is =
         rw (c .network-is)
-        (ap (λ (n : ℕ). networkCalls.requestCall (cond (eqb number AR) table63.AR-ROW table63.DR-ROW) (atPeriod n) (b .network)) (c .periods-is)
+        (ap (λ (n : ℕ). networkCalls.requestCall (cond (eqb number AR) Table63.AR-ROW Table63.DR-ROW) (atPeriod n) (b .network)) (c .periods-is)
         ∙ network-does-called (b .periods) (f .in-range .periods-fit) number (b .network) (f .in-range .network-fits))
 
     pub asked-carried : Carries (kept (networkAsked number (k .bus) .bus) (k .terminals) (k .images) (k .octets) (k .letters) (k .notes)) (networkDone number b)

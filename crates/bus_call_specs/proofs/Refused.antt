@@ -19,7 +19,7 @@ use Rattle.packing.specs.Packing.{isBodyLength}
 use Rattle.dchannel.specs.Calls.{isImageLength, handed}
 use Rattle.dchannel.specs.declared.access.Class.{Class}
 use Rattle.table_6_2.specs.Table62.{F7}
-use Rattle.table_6_2.specs.Table62 as table62
+use Rattle.table_6_2.specs.Table62 as Table62
 use Rattle.timing.specs.Calls.{allRun}
 use Rattle.timing.specs.declared.counts.Periods.{Periods}
 use Rattle.network.specs.Network as network
@@ -116,15 +116,15 @@ module _ (now : ℕ) (t : Terminal) where
 
   switches-on : TerminalAnswer t (terminal.switchesOn now t)
   unfolding terminal.switchesOn terminal.happens
-  switches-on = unless-barred table62.ON-ROW _ (no-refusal _ now _)
+  switches-on = unless-barred Table62.ON-ROW _ (no-refusal _ now _)
 
   switches-off : TerminalAnswer t (terminal.switchesOff now t)
   unfolding terminal.switchesOff terminal.happens
-  switches-off = unless-barred table62.OFF-ROW _ (no-refusal _ now _)
+  switches-off = unless-barred Table62.OFF-ROW _ (no-refusal _ now _)
 
   requests : TerminalAnswer t (terminal.requests now t)
   unfolding terminal.requests terminal.happens
-  requests = unless-barred table62.AR-ROW _ (no-refusal _ now _)
+  requests = unless-barred Table62.AR-ROW _ (no-refusal _ now _)
 
 when-ready : (step : ℕ → Terminal → TerminalStep) (now : Periods) (t : Terminal) → TerminalAnswer t (step (now .0) t) → TerminalAnswer t (terminalCalls.checked step now t)
 unfolding terminalCalls.checked

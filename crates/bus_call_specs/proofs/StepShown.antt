@@ -13,7 +13,7 @@ use Rattle.frame.specs.declared.fields.Four.{Four}
 use Rattle.info.proofs.Laws.{line-info0, line-info2, line-info4}
 use Rattle.notes_and_cells.specs.Cells.{infoIn}
 use Rattle.table_6_3.specs.Table63.{G3}
-use Rattle.table_6_3.specs.Table63 as table63
+use Rattle.table_6_3.specs.Table63 as Table63
 use Rattle.slice_lemmas.specs.Over.{mapFrom, foldFrom}
 use Rattle.timing.specs.Counts.{mostPeriods}
 use Rattle.timing.specs.Calls.{atPeriod, allRun, nextPeriod, fourMore}
@@ -57,9 +57,9 @@ use Rattle.bus_call_specs.proofs.InOrder.{InOrder, in-order, one-left, 
 line-sent : (state : ℕ) (es : Four) → isLine (sentDown state es) ≡ true
 unfolding sentDown
 line-sent state es =
-    by-test (eqb (infoIn table63.infoSent state) 4)
+    by-test (eqb (infoIn Table63.infoSent state) 4)
     (λ t. rw t (line-info4 es))
-    (λ t. by-test (eqb (infoIn table63.infoSent state) 2) (λ u. rw (t, u) line-info2) (λ u. rw (t, u) line-info0))
+    (λ t. by-test (eqb (infoIn Table63.infoSent state) 2) (λ u. rw (t, u) line-info2) (λ u. rw (t, u) line-info0))
 
 heard-down : (bus : BusRecord) (ds : Four) (es : List Bool) (letters : List ℕ) → areLetters letters ≡ true → sentEs bus ds ≡ filledWithOnes es →
     heardDown bus ds letters ≡ shownDown (lineDown (bus .network .state) (hitIn (bus .hit) letters) es)

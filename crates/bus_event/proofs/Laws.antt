@@ -16,7 +16,7 @@ use Rattle.network.specs.Calls.{networkInRange}
 use Rattle.network.proofs.RangesKept as network
 use Rattle.d_reader.specs.ReaderRange.{readerInRange}
 use Rattle.d_reader.proofs.RangesKept as reader
-use Rattle.table_6_3.specs.Table63 as table63
+use Rattle.table_6_3.specs.Table63 as Table63
 use Rattle.terminal.specs.Calls.{terminalInRange}
 use Rattle.terminal.proofs.RangesKept as terminal
 use Rattle.dchannel.specs.declared.access.Class.the-variants.{One, Two}
@@ -78,7 +78,7 @@ event-record-kept event r h =
     (λ t. rw t h)
     (λ t. rw (
       t,
-      network.requested-in-range (r .periods) (r .network) (and-left (networkInRange (r .network)) (periodsInRange (r .periods)) counts) (cond (eqb event AR) table63.AR-ROW table63.DR-ROW),
+      network.requested-in-range (r .periods) (r .network) (and-left (networkInRange (r .network)) (periodsInRange (r .periods)) counts) (cond (eqb event AR) Table63.AR-ROW Table63.DR-ROW),
       and-right (networkInRange (r .network)) (periodsInRange (r .periods)) counts,
       and-right (networkInRange (r .network) && periodsInRange (r .periods)) (opportunitiesInRange (r .periods) (r .opportunities)) most,
     )

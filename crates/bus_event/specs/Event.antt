@@ -17,7 +17,7 @@ use Rattle.packing.specs.Packing.{imageRoom, isBodyLength, imagedOctets}
 use Rattle.dchannel.specs.declared.access.Class.{Class}
 use Rattle.dchannel.specs.declared.access.Class.the-variants.{One, Two}
 use Rattle.table_6_2.specs.Table62.{F7}
-use Rattle.table_6_3.specs.Table63 as table63
+use Rattle.table_6_3.specs.Table63 as Table63
 use Rattle.timing.specs.declared.counts.Periods.{Periods}
 use Rattle.network.specs.Calls as networkCalls
 use Rattle.network.specs.declared.NetworkStep.{NetworkStep}
@@ -63,7 +63,7 @@ withHit r =
     record { network = r .network; periods = r .periods; opportunities = r .opportunities; reader = r .reader; echo = r .echo; hit = true }
 
 unfoldable pub asked : ℕ → BusRecord → NetworkStep
-asked event r = networkCalls.requestCall (cond (eqb event AR) table63.AR-ROW table63.DR-ROW) (r .periods) (r .network)
+asked event r = networkCalls.requestCall (cond (eqb event AR) Table63.AR-ROW Table63.DR-ROW) (r .periods) (r .network)
 
 -- `ar` or `dr`
 unfoldable pub networkAsked : ℕ → BusRecord → Told

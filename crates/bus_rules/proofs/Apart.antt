@@ -11,7 +11,7 @@ use borrow.Author.Tests.{eqb-true, eq-eqb, ltb-false, le-ltb, leb-true, le-leb, 
 use Rattle.test_lemmas.proofs.ByCases.{by-test, clash}
 use Rattle.notes_and_cells.specs.Cells.{cellIn, infoIn}
 use Rattle.table_6_2.specs.Table62.{F1, F2, F4, F8, ON-ROW, OFF-ROW, AR-ROW, T3-ROW, INFO-0-ROW, SIGNAL-ROW, INFO-2-ROW, INFO-4-ROW, LOSS-ROW}
-use Rattle.table_6_2.specs.Table62 as table62
+use Rattle.table_6_2.specs.Table62 as Table62
 use Rattle.table_6_2.specs.States.{nextState, inF6OrF7}
 use Rattle.table_6_2.proofs.Laws.{in-F6-or-F7-after, in-F1-after, info-1-sent, info-3-sent}
 use Rattle.timing.specs.Counts.{mostPeriods}
@@ -261,7 +261,7 @@ always-together calls i on = with-own (agreed calls .line) _ on (agreed calls .a
 
 -- who sends INFO 1 hears what all hear, and is not aligned; who sends INFO 3 hears it too, and is aligned
 module _ (a : Alignment) (s : Station) (w : Hears a s) where
-  calls-unaligned : eqb (infoIn table62.infoSent (s .terminal .state)) 1 ≡ true → a .aligned ≡ false
+  calls-unaligned : eqb (infoIn Table62.infoSent (s .terminal .state)) 1 ≡ true → a .aligned ≡ false
   calls-unaligned h = from w (eqb-true (s .terminal .state) F4 (sym (info-1-sent (s .terminal .state)) ∙ h))
     where
       from : Hears a s → s .terminal .state ≡ F4 → a .aligned ≡ false
@@ -269,7 +269,7 @@ module _ (a : Alignment) (s : Station) (w : Hears a s) where
       from (level own e) f = rw (← e, ← own, f)
       from (behind r two e k) f = absurd (omega arith)
 
-  frames-aligned : eqb (infoIn table62.infoSent (s .terminal .state)) 3 ≡ true → a .aligned ≡ true
+  frames-aligned : eqb (infoIn Table62.infoSent (s .terminal .state)) 3 ≡ true → a .aligned ≡ true
   frames-aligned h = from w (sym (info-3-sent (s .terminal .state)) ∙ h)
     where
       from : Hears a s → inF6OrF7 (s .terminal .state) ≡ true → a .aligned ≡ true
@@ -281,13 +281,13 @@ one-calls : (a : Alignment) (ss : List Station) → Each (Hears a) ss → anyInf
 unfolding anySends
 one-calls a [] w h = absurd (true≢false (sym h))
 one-calls a (s ∷ ss) w h =
-    by-test (eqb (infoIn table62.infoSent (s .terminal .state)) 1) (λ t. calls-unaligned a s (w 0) t) (λ t. one-calls a ss (λ i. w (suc i)) (rw t at h))
+    by-test (eqb (infoIn Table62.infoSent (s .terminal .state)) 1) (λ t. calls-unaligned a s (w 0) t) (λ t. one-calls a ss (λ i. w (suc i)) (rw t at h))
 
 one-sends : (a : Alignment) (ss : List Station) → Each (Hears a) ss → anyInfo3 ss ≡ true → a .aligned ≡ true
 unfolding anySends
 one-sends a [] w h = absurd (true≢false (sym h))
 one-sends a (s ∷ ss) w h =
-    by-test (eqb (infoIn table62.infoSent (s .terminal .state)) 3) (λ t. frames-aligned a s (w 0) t) (λ t. one-sends a ss (λ i. w (suc i)) (rw t at h))
+    by-test (eqb (infoIn Table62.infoSent (s .terminal .state)) 3) (λ t. frames-aligned a s (w 0) t) (λ t. one-sends a ss (λ i. w (suc i)) (rw t at h))
 
 pub info-1-apart : apart.Info1Apart
 info-1-apart calls =

@@ -19,9 +19,9 @@ use Rattle.dchannel.specs.Calls.{handed}
 use Rattle.dchannel.specs.declared.access.Class.{Class}
 use Rattle.dchannel.proofs.AccessLaws.{image-fits}
 use Rattle.table_6_2.specs.Table62.{table62, F7}
-use Rattle.table_6_2.specs.Table62 as table62
+use Rattle.table_6_2.specs.Table62 as Table62
 use Rattle.table_6_3.specs.Table63.{table63}
-use Rattle.table_6_3.specs.Table63 as table63
+use Rattle.table_6_3.specs.Table63 as Table63
 use Rattle.network.specs.Network as network
 use Rattle.network.specs.declared.Network.{Network}
 use Rattle.terminal.specs.Terminal as terminal
@@ -59,23 +59,23 @@ pub network-bars : (number now : ℕ) (n : Network) → (eqb number AR || eqb nu
 unfolding networkDoes network.requests barsNetwork
 network-bars number now n k =
     by-test (eqb number AR)
-    (λ t. rw t (by-test (network.bars table63.AR-ROW (n .state)) (λ u. rw u) (λ u. rw u (network-happens table63.AR-ROW now n))))
+    (λ t. rw t (by-test (network.bars Table63.AR-ROW (n .state)) (λ u. rw u) (λ u. rw u (network-happens Table63.AR-ROW now n))))
     (λ t.
     let d : eqb number DR ≡ true = rw t at k in
-    rw (t, d) (by-test (network.bars table63.DR-ROW (n .state)) (λ u. rw u) (λ u. rw u (network-happens table63.DR-ROW now n))))
+    rw (t, d) (by-test (network.bars Table63.DR-ROW (n .state)) (λ u. rw u) (λ u. rw u (network-happens Table63.DR-ROW now n))))
 
 pub terminal-bars : (number now : ℕ) (t : Terminal) → (eqb number ON || eqb number OFF || eqb number AR) ≡ true →
     terminalDoes number now t .reply ≡ cond (barsTerminal number (t .state)) 5 0
 unfolding terminalDoes terminal.switchesOn terminal.switchesOff terminal.requests barsTerminal
 terminal-bars number now t k =
     by-test (eqb number ON)
-    (λ u. rw u (by-test (terminal.bars table62.ON-ROW (t .state)) (λ s. rw s) (λ s. rw s (terminal-happens table62.ON-ROW now _))))
+    (λ u. rw u (by-test (terminal.bars Table62.ON-ROW (t .state)) (λ s. rw s) (λ s. rw s (terminal-happens Table62.ON-ROW now _))))
     (λ u.
     by-test (eqb number OFF)
-    (λ v. rw (u, v) (by-test (terminal.bars table62.OFF-ROW (t .state)) (λ s. rw s) (λ s. rw s (terminal-happens table62.OFF-ROW now _))))
+    (λ v. rw (u, v) (by-test (terminal.bars Table62.OFF-ROW (t .state)) (λ s. rw s) (λ s. rw s (terminal-happens Table62.OFF-ROW now _))))
     (λ v.
     let a : eqb number AR ≡ true = rw (u, v) at k in
-    rw (u, v, a) (by-test (terminal.bars table62.AR-ROW (t .state)) (λ s. rw s) (λ s. rw s (terminal-happens table62.AR-ROW now t)))))
+    rw (u, v, a) (by-test (terminal.bars Table62.AR-ROW (t .state)) (λ s. rw s) (λ s. rw s (terminal-happens Table62.AR-ROW now t)))))
 
 -- ---- a frame with a body: 6 outside F7, 8 where one is held
 pub frame-reply : (class : Class) (body : List ℕ) (t : Terminal) → terminalCalls.terminalInRange t ≡ true → isBody body ≡ true →

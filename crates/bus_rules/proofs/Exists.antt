@@ -10,7 +10,7 @@ use borrow.Author.Tests.{eqb-true, ne-eqb, leb-true, not-true, lt-leb}
 use Rattle.test_lemmas.proofs.ByCases.{by-test, and-left, and-right}
 use Rattle.notes_and_cells.specs.Cells.{cellIn, infoIn}
 use Rattle.table_6_2.specs.Table62.{F1, F7}
-use Rattle.table_6_2.specs.Table62 as table62
+use Rattle.table_6_2.specs.Table62 as Table62
 use Rattle.table_6_3.specs.Table63.{G3}
 use Rattle.hdlc.specs.Reading.{Said}
 use Rattle.hdlc.specs.Reading.Said.{heard}
@@ -104,7 +104,7 @@ unfolding anySends
 rest-no-info-1 [] r = refl
 rest-no-info-1 (s ∷ ss) r = rw (quiet s (r 0)) (rest-no-info-1 ss (λ i. r (suc i)))
   where
-    quiet : (x : Station) → Rests x → eqb (infoIn table62.infoSent (x .terminal .state)) 1 ≡ false
+    quiet : (x : Station) → Rests x → eqb (infoIn Table62.infoSent (x .terminal .state)) 1 ≡ false
     quiet x (off o) = rw o (unfold infoIn in refl)
     quiet x (active f a) = rw f (unfold infoIn in refl)
 
@@ -112,7 +112,7 @@ one-sends : (ss : List Station) (i : ℕ) → getD ss i freshStation .terminal .
 unfolding anySends infoIn
 one-sends [] i h = cc
 one-sends (s ∷ ss) zero h = rw h
-one-sends (s ∷ ss) (suc i) h = rw (one-sends ss i h) (or-true (eqb (infoIn table62.infoSent (s .terminal .state)) 3))
+one-sends (s ∷ ss) (suc i) h = rw (one-sends ss i h) (or-true (eqb (infoIn Table62.infoSent (s .terminal .state)) 3))
   where
     or-true : (a : Bool) → (a || true) ≡ true
     or-true true = refl

@@ -27,8 +27,8 @@ use Rattle.combining.proofs.Laws.{combined-one, combined-info0, combined-sent, 
 use Rattle.combining.proofs.Beside.{at-each-four}
 use Rattle.notes_and_cells.specs.Cells.{infoIn}
 use Rattle.table_6_2.specs.Table62.{F7}
-use Rattle.table_6_2.specs.Table62 as table62
-use Rattle.table_6_3.specs.Table63 as table63
+use Rattle.table_6_2.specs.Table62 as Table62
+use Rattle.table_6_3.specs.Table63 as Table63
 use Rattle.heard_line.specs.Sensing.{shownUp}
 use Rattle.heard_line.proofs.Shown.{shown-up-info0, shown-info1, shown-info3, shown-down-info0, shown-info2, shown-info4}
 use Rattle.bus_rules.specs.Bus.{Station, Hit}
@@ -51,10 +51,10 @@ all-zero (suc (suc (suc (suc k)))) h = absurd (omega arith)
 pub e-sent : (k state : ℕ) (es : List Bool) → k < 4 → pick k (eBits (levels (sentDown state (filledWithOnes es)))) ≡ sentE state (getD es k true)
 unfolding sentDown sentE
 e-sent k state es h =
-    by-test (eqb (infoIn table63.infoSent state) 4)
+    by-test (eqb (infoIn Table63.infoSent state) 4)
     (λ t. rw (t, e-info4 (filledWithOnes es), pick-filled k es h))
     (λ t. rw t
-    (by-test (eqb (infoIn table63.infoSent state) 2) (λ u. rw (u, e-info2, all-zero k h)) (λ u. rw (u, e-info0, pick-ones k))))
+    (by-test (eqb (infoIn Table63.infoSent state) 2) (λ u. rw (u, e-info2, all-zero k h)) (λ u. rw (u, e-info0, pick-ones k))))
 
 -- .. and under a hit
 pub e-down : (k state : ℕ) (h : Hit) (es : List Bool) → k < 4 → pick k (eBits (levels (lineDown state h es))) ≡ struckAt h k (sentE state (getD es k true))
@@ -75,7 +75,7 @@ unfolding stationAfterE
 state-turned e s = by-test (inF7 s) (λ t. rw t) (λ t. rw t)
 
 abbrev infoOf : Station → ℕ
-infoOf s = infoIn table62.infoSent (s .terminal .state)
+infoOf s = infoIn Table62.infoSent (s .terminal .state)
 
 pub calling-is : (ss : List Sender) → anyCalling (map sentOf ss) ≡ anyInfo1 (stationsOf ss)
 unfolding anyCalling anySends sentOf sentUp
@@ -202,5 +202,5 @@ up-shown ss =
 pub down-shown : quick.DownShown
 unfolding sentDown shownBy
 down-shown state es =
-    by-test (eqb (infoIn table63.infoSent state) 4) (λ t. rw t (shown-info4 es))
-    (λ t. rw t (by-test (eqb (infoIn table63.infoSent state) 2) (λ u. rw u shown-info2) (λ u. rw u shown-down-info0)))
+    by-test (eqb (infoIn Table63.infoSent state) 4) (λ t. rw t (shown-info4 es))
+    (λ t. rw t (by-test (eqb (infoIn Table63.infoSent state) 2) (λ u. rw u shown-info2) (λ u. rw u shown-down-info0)))

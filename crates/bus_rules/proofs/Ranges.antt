@@ -21,7 +21,7 @@ use Rattle.dchannel.specs.declared.access.Class.the-variants.{One, Two}
 use Rattle.dchannel.proofs.AccessLaws.{takes-body}
 use Rattle.dchannel.proofs.RangesKept.{access-fits, access-step-in-range}
 use Rattle.table_6_3.specs.Table63.{G3}
-use Rattle.table_6_3.specs.Table63 as table63
+use Rattle.table_6_3.specs.Table63 as Table63
 use Rattle.timing.specs.Counts.{mostPeriods}
 use Rattle.timing.specs.Calls.{atPeriod}
 use Rattle.contention.proofs.Change.{length-change}
@@ -59,9 +59,9 @@ module _ (now : ℕ) (l : now ≤ mostPeriods) where
   network-timers-called n h = network-laws.timer-due-called now n l h
 
   pub network-does-called : (number : ℕ) (n : Network) → networkCalls.networkInRange n ≡ true →
-      networkCalls.requestCall (cond (eqb number AR) table63.AR-ROW table63.DR-ROW) (atPeriod now) n ≡ networkDoes number now n
+      networkCalls.requestCall (cond (eqb number AR) Table63.AR-ROW Table63.DR-ROW) (atPeriod now) n ≡ networkDoes number now n
   unfolding networkDoes
-  network-does-called number n h = network-laws.requested-called now n l h (cond (eqb number AR) table63.AR-ROW table63.DR-ROW)
+  network-does-called number n h = network-laws.requested-called now n l h (cond (eqb number AR) Table63.AR-ROW Table63.DR-ROW)
 
   pub terminal-hears-called : (down : List ℕ) (t : Terminal) → terminalCalls.terminalInRange t ≡ true → terminalCalls.hearCall (shownDown down) (atPeriod now) t ≡ terminalHears down now t
   unfolding terminalHears
@@ -226,7 +226,7 @@ network-in number b r =
       opportunities-fit = r .opportunities-fit;
       network-fits =
           rw (network-does-called (b .periods) (r .periods-fit) number (b .network) (r .network-fits)) at
-          (network-kept.requested-in-range (atPeriod (b .periods)) (b .network) (r .network-fits) (cond (eqb number AR) table63.AR-ROW table63.DR-ROW));
+          (network-kept.requested-in-range (atPeriod (b .periods)) (b .network) (r .network-fits) (cond (eqb number AR) Table63.AR-ROW Table63.DR-ROW));
       hit-fits = r .hit-fits;
       eight = r .eight;
       terminals-fit = r .terminals-fit;
@@ -325,7 +325,7 @@ period-called b l r =
 
 -- An event that is not refused: a request of the network end, power or a request of a terminal, a frame.
 pub record EventCalled (b : Bus) (unit number : ℕ) (value : List ℕ) : Type 0 where
-  pub network-does : networkCalls.requestCall (cond (eqb number AR) table63.AR-ROW table63.DR-ROW) (atPeriod (b .periods)) (b .network) ≡ networkDoes number (b .periods) (b .network)
+  pub network-does : networkCalls.requestCall (cond (eqb number AR) Table63.AR-ROW Table63.DR-ROW) (atPeriod (b .periods)) (b .network) ≡ networkDoes number (b .periods) (b .network)
   pub terminal-does :
       cond (eqb number ON) (terminalCalls.switchOnCall (atPeriod (b .periods)) (stationOf b unit .terminal))
       (cond (eqb number OFF) (terminalCalls.switchOffCall (atPeriod (b .periods)) (stationOf b unit .terminal)) (terminalCalls.requestCall (atPeriod (b .periods)) (stationOf b unit .terminal)))

@@ -10,7 +10,7 @@ use borrow.Author.Tests.{eq-eqb, ne-eqb}
 use Rattle.test_lemmas.proofs.ByCases.{by-test, both, clash}
 use Rattle.notes_and_cells.specs.Notes.{HEARD, TORN, DONE1, DONE2, noted}
 use Rattle.notes_and_cells.proofs.NotesKept.{everyNote, every-of, isIndication}
-use Rattle.table_6_3.specs.Table63 as table63
+use Rattle.table_6_3.specs.Table63 as Table63
 use Rattle.hdlc.specs.Reading.{Said}
 use Rattle.hdlc.specs.Reading.Said.{nothing, torn, heard}
 use Rattle.heard_line.specs.Sensing.{shownUp, shownDown}
@@ -53,7 +53,7 @@ network-timers-plain now n = from-indications _ (network-laws.timers-told now n)
 
 network-does-plain : (number now : ℕ) (n : Network) → plain (noted (networkDoes number now n .notes))
 unfolding networkDoes
-network-does-plain number now n = from-indications _ (network-laws.requests-told (cond (eqb number AR) table63.AR-ROW table63.DR-ROW) now n)
+network-does-plain number now n = from-indications _ (network-laws.requests-told (cond (eqb number AR) Table63.AR-ROW Table63.DR-ROW) now n)
 
 pub terminal-hears-plain : (down : List ℕ) (now : ℕ) (t : Terminal) → plain (noted (terminalHears down now t .notes))
 unfolding terminalHears

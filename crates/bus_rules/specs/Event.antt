@@ -11,8 +11,8 @@ use Rattle.combining.specs.Hit.{noneLetter}
 use Rattle.notes_and_cells.specs.Events.{ON, OFF, AR, DR, D1, D2, HIT}
 use Rattle.notes_and_cells.specs.Notes.{noted}
 use Rattle.table_6_2.specs.Table62.{F7}
-use Rattle.table_6_2.specs.Table62 as table62
-use Rattle.table_6_3.specs.Table63 as table63
+use Rattle.table_6_2.specs.Table62 as Table62
+use Rattle.table_6_3.specs.Table63 as Table63
 use Rattle.hdlc.specs.Image.{image, isBody}
 use Rattle.dchannel.specs.Handing.{takenUp}
 use Rattle.contention.specs.Change.{change}
@@ -47,12 +47,12 @@ eventFor unit event = cond (eqb unit 0) (among event (AR ∷ DR ∷ HIT ∷ []))
 -- events
 unfoldable pub barsNetwork : ℕ → ℕ → Bool
 barsNetwork event state =
-    cond (eqb event AR) (network.bars table63.AR-ROW state) (cond (eqb event DR) (network.bars table63.DR-ROW state) false)
+    cond (eqb event AR) (network.bars Table63.AR-ROW state) (cond (eqb event DR) (network.bars Table63.DR-ROW state) false)
 
 unfoldable pub barsTerminal : ℕ → ℕ → Bool
 barsTerminal event state =
-    cond (eqb event ON) (terminal.bars table62.ON-ROW state)
-    (cond (eqb event OFF) (terminal.bars table62.OFF-ROW state) (cond (eqb event AR) (terminal.bars table62.AR-ROW state) false))
+    cond (eqb event ON) (terminal.bars Table62.ON-ROW state)
+    (cond (eqb event OFF) (terminal.bars Table62.OFF-ROW state) (cond (eqb event AR) (terminal.bars Table62.AR-ROW state) false))
 
 unfoldable pub bars : Bus → ℕ → ℕ → Bool
 bars b unit event = cond (eqb unit 0) (barsNetwork event (b .network .state)) (barsTerminal event (stationOf b unit .terminal .state))
@@ -87,7 +87,7 @@ refusal b unit event value = firstHolding 2 (reasons b unit event value)
 
 -- a request to the network end
 unfoldable pub networkDoes : ℕ → ℕ → Network → NetworkStep
-networkDoes event now n = network.requests (cond (eqb event AR) table63.AR-ROW table63.DR-ROW) now n
+networkDoes event now n = network.requests (cond (eqb event AR) Table63.AR-ROW Table63.DR-ROW) now n
 
 unfoldable pub networkDone : ℕ → Bus → Bus
 networkDone event b =

@@ -20,9 +20,9 @@ use Rattle.combining.specs.Sent.{Sent, silent, calling, frame, sentLine}
 use Rattle.combining.specs.Hit.{hit}
 use Rattle.notes_and_cells.specs.Cells.{infoIn}
 use Rattle.table_6_2.specs.Table62.{F7}
-use Rattle.table_6_2.specs.Table62 as table62
+use Rattle.table_6_2.specs.Table62 as Table62
 use Rattle.table_6_3.specs.Table63.{G3}
-use Rattle.table_6_3.specs.Table63 as table63
+use Rattle.table_6_3.specs.Table63 as Table63
 use Rattle.dchannel.specs.Access.{normal1, normal2, accessStep}
 use Rattle.dchannel.specs.declared.access.AccessStep.{AccessStep}
 use Rattle.hdlc.specs.Reading.{Reading, Said, said, next}
@@ -33,20 +33,20 @@ use Rattle.bus_rules.specs.Bus.Hit.{none, given}
 -- The line that a network end sends in a state, with four E bits: INFO 0, 2 or 4.
 unfoldable pub sentDown : ℕ → Four → List ℕ
 sentDown state es =
-    let info = infoIn table63.infoSent state in
+    let info = infoIn Table63.infoSent state in
     cond (eqb info 4) (info4 es) (cond (eqb info 2) info2 info0)
 
 -- What a terminal sends in a state, with its D bits so far: INFO 0, 1 or 3.
 unfoldable pub sentUp : ℕ → List Bool → Sent
 sentUp state ds =
-    let info = infoIn table62.infoSent state in
+    let info = infoIn Table62.infoSent state in
     cond (eqb info 3) (frame (filledWithOnes ds)) (cond (eqb info 1) calling silent)
 
 -- Who sends what: whether a terminal in any of some states sends the INFO of a number; whether any
 -- terminal sends INFO 1, and whether any sends INFO 3.
 unfoldable pub anySends : ℕ → List ℕ → Bool
 anySends info [] = false
-anySends info (state ∷ states) = eqb (infoIn table62.infoSent state) info || anySends info states
+anySends info (state ∷ states) = eqb (infoIn Table62.infoSent state) info || anySends info states
 
 abbrev pub anyInfo1 : List Station → Bool
 anyInfo1 ss = anySends 1 (map (λ (s : Station). s .terminal .state) ss)

@@ -13,7 +13,7 @@ use Rattle.frame.specs.declared.fields.Four.{Four}
 use Rattle.combining.specs.Hit.{keepLetter}
 use Rattle.combining.specs.StruckBits.{struckBit}
 use Rattle.notes_and_cells.specs.Cells.{infoIn}
-use Rattle.table_6_3.specs.Table63 as table63
+use Rattle.table_6_3.specs.Table63 as Table63
 use Rattle.heard_line.specs.Sensing.{shownUp, shownDown}
 use Rattle.heard_line.specs.declared.heard.Downward.{Downward}
 use Rattle.heard_line.specs.declared.heard.Upward.{Upward}
@@ -25,7 +25,7 @@ use Rattle.bus_rules.specs.Exchange.{dComes, onward, begins}
 -- ---- E: INFO 4 has the last D heard, INFO 2 has 0, INFO 0 has no pulse.
 unfoldable pub sentE : ℕ → Bool → Bool
 sentE state d =
-    let info = infoIn table63.infoSent state in
+    let info = infoIn Table63.infoSent state in
     cond (eqb info 4) d (cond (eqb info 2) false true)
 
 -- The E at place k under a hit.
@@ -72,7 +72,7 @@ UpShown = (ss : List Sender) → shownUp (lineUp ss) ≡ shownFrom (anyInfo1 (st
 -- ---- What the line down shows before a hit: INFO 4, INFO 2 or INFO 0.
 unfoldable pub shownBy : ℕ → Downward
 shownBy state =
-    let info = infoIn table63.infoSent state in
+    let info = infoIn Table63.infoSent state in
     cond (eqb info 4) (record { pulse = true; framed = true; a = true })
     (cond (eqb info 2) (record { pulse = true; framed = true; a = false }) (record { pulse = false; framed = false; a = true }))
 

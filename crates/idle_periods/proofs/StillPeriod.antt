@@ -14,7 +14,7 @@ use Rattle.frame.specs.declared.fields.Four.{Four}
 use Rattle.notes_and_cells.specs.Cells.{infoIn}
 use Rattle.table_6_2.specs.Table62.{F1, F7}
 use Rattle.table_6_3.specs.Table63.{G3, G4}
-use Rattle.table_6_3.specs.Table63 as table63
+use Rattle.table_6_3.specs.Table63 as Table63
 use Rattle.timing.specs.Counts.{mostPeriods}
 use Rattle.timing.specs.Calls.{fourMore}
 use Rattle.timing.proofs.TimerLaws.{next-is, clear-due}
@@ -76,8 +76,8 @@ e-sent state t h p =
     by-test (eqb (t .state) F7)
     (λ f.
     let a = hears-a (shownBy state) t h f in
-    by-test (eqb (infoIn table63.infoSent state) 4) (λ u. rw u p)
-    (λ u. by-test (eqb (infoIn table63.infoSent state) 2)
+    by-test (eqb (infoIn Table63.infoSent state) 4) (λ u. rw u p)
+    (λ u. by-test (eqb (infoIn Table63.infoSent state) 2)
     (λ v. clash false (rw (u, v) at a) refl)
     (λ v. rw (u, v) p)))
     (λ f. rw f)

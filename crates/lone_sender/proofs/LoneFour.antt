@@ -12,7 +12,7 @@ use Rattle.frame.specs.Four.{allFour}
 use Rattle.frame.specs.declared.fields.Four.{Four}
 use Rattle.notes_and_cells.specs.Cells.{infoIn}
 use Rattle.table_6_2.specs.Table62.{F7, infoSent}
-use Rattle.table_6_3.specs.Table63 as table63
+use Rattle.table_6_3.specs.Table63 as Table63
 use Rattle.hdlc.specs.Bits.{sameBit}
 use Rattle.dchannel.specs.Access.{normal1, normal2, countAfter, lowAfter, afterE, lowOf, threshold, mayStart, sendsNext, idles, accessStep}
 use Rattle.dchannel.proofs.AccessLaws.{same-refl}
@@ -217,7 +217,7 @@ tallyAt state place ds heardD e d info3 =
       info3 = info3;
     }
 
-begun-is : (state place : ℕ) (ds : Four) (heardD e d info3 : Bool) → eqb (infoIn table63.infoSent state) 4 ≡ true
+begun-is : (state place : ℕ) (ds : Four) (heardD e d info3 : Bool) → eqb (infoIn Table63.infoSent state) 4 ≡ true
     → begun (tallyAt state place ds heardD e d info3) ≡ tallyAt state place ds heardD heardD true false
 unfolding begun sentE
 begun-is state place ds heardD e d info3 info = rw info
@@ -296,7 +296,7 @@ module _ (images : List ℕ) (s : LoneSender) (goes : loneSends s ≡ true) (sta
       ∙ tally-with (suc i) (info3 || eqb (infoIn infoSent (t .state)) 3) ts (g .1) (rw is at sender))
 
 -- ---- One opportunity, and the four.
-module _ (images : List ℕ) (state : ℕ) (ts : List Terminal) (info : eqb (infoIn table63.infoSent state) 4 ≡ true) where
+module _ (images : List ℕ) (state : ℕ) (ts : List Terminal) (info : eqb (infoIn Table63.infoSent state) 4 ≡ true) where
   module _ (s : LoneSender) (goes : loneSends s ≡ true) (stations : loneStations (s .at) (s .length) 0 ts ≡ true) (sender : senderIn (s .at) 0 ts ≡ true) (place : ℕ) (ds : Four) (e d info3 : Bool) where
     tally-once : tallyAfter images (tallyAt state place ds (s .last) e d info3) (mapFrom (followed s) 0 ts)
         ≡ tallyAt state (cond (ltb place 3) (place + 1) 0) (record { first = ds .second; second = ds .third; third = ds .fourth; fourth = loneBit images s }) (loneBit images s) (s .last) (loneBit images s) true

@@ -13,7 +13,7 @@ use Rattle.dchannel.proofs.AccessLaws.{same-equal}
 use Rattle.notes_and_cells.specs.Cells.{infoIn}
 use Rattle.table_6_2.specs.Table62.{F7}
 use Rattle.table_6_3.specs.Table63.{G3}
-use Rattle.table_6_3.specs.Table63 as table63
+use Rattle.table_6_3.specs.Table63 as Table63
 use Rattle.timing.specs.Counts.{mostPeriods}
 use Rattle.timing.specs.Calls.{allRun}
 use Rattle.timing.proofs.TimerLaws.{clear-due, clear-later}
@@ -102,7 +102,7 @@ module _ (images letters : List ℕ) (a : Alone) (ts : List Terminal) (g : Goes 
   unfolding stepLine heardDown
   line-is = rw (g .no-hit, g .in-g3)
 
-  info-is : eqb (infoIn table63.infoSent (a .answer .bus .network .state)) 4 ≡ true
+  info-is : eqb (infoIn Table63.infoSent (a .answer .bus .network .state)) 4 ≡ true
   unfolding infoIn
   info-is = rw (g .in-g3)
 

@@ -11,7 +11,7 @@ use lib.Dec.{eqb, ltb}
 use Rattle.frame.specs.declared.fields.Four.{Four}
 use Rattle.notes_and_cells.specs.Cells.{infoIn}
 use Rattle.table_6_2.specs.Table62.{F7, infoSent}
-use Rattle.table_6_3.specs.Table63 as table63
+use Rattle.table_6_3.specs.Table63 as Table63
 use Rattle.dchannel.specs.Access.{normal1, normal2, countAfter}
 use Rattle.dchannel.specs.declared.access.Access.{Access}
 use Rattle.terminal.specs.declared.Terminal.{Terminal}
@@ -138,5 +138,5 @@ pub record FourAlone (images : List ℕ) (state : ℕ) (s : LoneSender) (ts : Li
 
 abbrev pub LoneFour : Type 0
 LoneFour =
-    (images : List ℕ) (state : ℕ) (s : LoneSender) (ts : List Terminal) → eqb (infoIn table63.infoSent state) 4 ≡ true
+    (images : List ℕ) (state : ℕ) (s : LoneSender) (ts : List Terminal) → eqb (infoIn Table63.infoSent state) 4 ≡ true
     → loneStations (s .at) (s .length) 0 ts ≡ true → senderIn (s .at) 0 ts ≡ true → loneGoes images s ≡ true → FourAlone images state s ts

@@ -1,6 +1,6 @@
 -- `form::is_body` meets its contract.
 use borrow.Author.Needs.{needs}
-use Rattle.book_line.specs.Line.{isBody}
+use Rattle.book_line.specs.Line.{isBodyText}
 use Rattle.book_line.proofs.form.is_body.Statement.{statement}
 use Rattle.book_line.proofs.form.is_body.Tie as tie
 
@@ -11,7 +11,7 @@ all-hex-requires : tie.Need-all-hex-requires
 all-hex-requires c κs = search needs
 
 returns : tie.Need-returns
-unfolding isBody
+unfolding isBodyText
 returns c = rw (c .before .is-absent .ensures, c .all-hex .ensures)
 
 pub is-body-spec : {M : Type 1} → statement M

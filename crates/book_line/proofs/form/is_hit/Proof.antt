@@ -1,6 +1,6 @@
 -- `form::is_hit` meets its contract.
 use borrow.Author.Needs.{needs}
-use Rattle.book_line.specs.Line.{isHit}
+use Rattle.book_line.specs.Line.{isHitText}
 use Rattle.book_line.proofs.form.is_hit.Statement.{statement}
 use Rattle.book_line.proofs.form.is_hit.Tie as tie
 
@@ -8,7 +8,7 @@ all-letters-requires : tie.Need-all-letters-requires
 all-letters-requires c κs = search needs
 
 returns : tie.Need-returns
-unfolding isHit
+unfolding isHitText
 returns c = rw (c .all-letters .ensures)
 
 pub is-hit-spec : {M : Type 1} → statement M

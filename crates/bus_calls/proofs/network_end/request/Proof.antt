@@ -4,7 +4,7 @@ use mathlib.Core.Path.{_≡_, _∙_}
 use mathlib.Core.Bool.{cond}
 use lib.Dec.{eqb}
 use borrow.Author.Tests.{eq-eqb, ne-eqb}
-use Rattle.table_6_3.specs.Table63 as table63
+use Rattle.table_6_3.specs.Table63 as Table63
 use Rattle.notes_and_cells.specs.Events.{AR}
 use Rattle.bus_event.specs.Event.{networkAsked, asked}
 use borrow.Author.Needs.{needs}
@@ -26,7 +26,7 @@ returns c =
     let asked-then = c .before .before .before .before .before .before .before .before in
     let joined = asked-then .before in
     let event = joined .before .args .event in
-    let number : joined .if1 .number ≡ cond (eqb event AR) table63.AR-ROW table63.DR-ROW =
+    let number : joined .if1 .number ≡ cond (eqb event AR) Table63.AR-ROW Table63.DR-ROW =
     ⊎-elim (λ w. w .1 ∙ simp (eq-eqb _ _ (w .0 .taken))) (λ w. w .1 ∙ simp (ne-eqb _ _ (w .0 .left))) (joined .if1 .came) in
     simp (c .replied .ensures, c .before .reader-after .ensures, asked-then .request .ensures, number)
 
