@@ -149,15 +149,15 @@ fn meets(unit: Terminal, event: u8) -> TerminalStep {
 fn unit(state: u8, event: u8) -> Terminal {
     let aligned = (event == INFO_0_ROW) | (INFO_2_ROW <= event);
     let runs = (2 < state) & (state != 7);
-    Terminal {
-        t3: due(event == T3_ROW, runs, 50_000),
-        access: Access::fresh(),
+    Terminal::fresh().with_fields(
+        due(event == T3_ROW, runs, 50_000),
+        Access::fresh(),
         state,
-        alignment: Alignment {
+        Alignment {
             aligned,
             run: aligned as u8,
         },
-    }
+    )
 }
 
 // Gives what the stimulus's line shows: for a signal or a loss, a single pulse.

@@ -259,7 +259,7 @@ fresh n = replicate n terminal.fresh
 
 -- a terminal in no state
 abbrev astray : Terminal
-astray = record { t3 = 0; access = terminal.fresh .access; state = 9; alignment = terminal.fresh .alignment }
+astray = terminal.withFields 0 (terminal.fresh .access) 9 (terminal.fresh .alignment) terminal.fresh
 
 abbrev zeros : ℕ → List ℕ
 zeros n = replicate n 0

@@ -23,6 +23,7 @@ use Rattle.period_hearing.specs.Shown.{terminalNotes}
 use Rattle.period_hearing.specs.declared.hears.UnitNotes.{UnitNotes}
 use Rattle.exchange.specs.Shown.{doneOctet}
 use Rattle.bus_record.specs.NetworkSide.{leavesG3}
+use Rattle.bus_record.specs.Record.{withCounts, withNetwork, withEcho, withHit}
 use Rattle.bus_record.specs.declared.side.RunAnswer.{RunAnswer}
 use Rattle.bus_call_specs.specs.Kept.{Kept, kept}
 use Rattle.bus_call_specs.specs.Shown.{busIn}
@@ -99,14 +100,9 @@ unfoldable pub periodAnswer : Kept → RunAnswer
 periodAnswer k =
     let b = busIn k in
     record {
-      bus = record {
-        network = periodRun b .network;
-        periods = atPeriod (periodRun b .periods);
-        opportunities = record { 0 = periodRun b .opportunities };
-        reader = readerRun k;
-        echo = periodRun b .heardD;
-        hit = false;
-      };
+      bus =
+          withCounts (atPeriod (periodRun b .periods)) (record { 0 = periodRun b .opportunities })
+          (withNetwork (periodRun b .network) (readerRun k) (withEcho (periodRun b .heardD) (withHit false (k .bus))));
       network = networkNotes b;
       body = bodyOf (answersIn k);
       said = noteOf (answersIn k);

@@ -24,24 +24,6 @@ fn take_over(value: &[u8], letters: &mut [u8])
     }
 }
 
-// Gives the record with a hit pending.
-fn with_hit(bus: BusRecord) -> BusRecord
-    ensures { λ r. ⌜ r ≡ spec.withHit bus ⌝ }
-{
-    let network = bus.network;
-    let periods = bus.periods;
-    let opportunities = bus.opportunities;
-    let reader = bus.reader;
-    BusRecord {
-        network,
-        periods,
-        opportunities,
-        reader,
-        echo: bus.echo,
-        hit: true,
-    }
-}
-
 // Makes a request to the network end: `ar`, and `dr` for every other number, since the event has
 // been looked at.
 fn request(bus: BusRecord, event: u8) -> Told
@@ -55,17 +37,8 @@ fn request(bus: BusRecord, event: u8) -> Told
     let step = bus.network.request(number, bus.periods);
     let network = step.network;
     let notes = step.notes;
-    let periods = bus.periods;
-    let opportunities = bus.opportunities;
     let left = (bus.network.state == G3) & (network.state != G3);
-    let after = BusRecord {
-        network,
-        periods,
-        opportunities,
-        reader: reader_after(left, bus.reader),
-        echo: bus.echo,
-        hit: bus.hit,
-    };
+    let after = bus.with_network(network, reader_after(left, bus.reader));
     replied(after, notes, step.reply)
 }
 
@@ -76,7 +49,7 @@ pub(crate) fn network_event(bus: BusRecord, letters: &mut [u8], event: u8, value
 {
     if event == HIT {
         take_over(value, letters);
-        return replied(with_hit(bus), NO_NOTES, 0);
+        return replied(bus.with_hit(true), NO_NOTES, 0);
     }
     request(bus, event)
 }

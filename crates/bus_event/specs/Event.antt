@@ -1,8 +1,8 @@
 -- Calls: an event of the book on the bus record, on the network end and on one terminal with the
 -- images lent (document 01, "Bench book and report" and "Reasons a call is turned down").
--- Interface: `imagesRoom`, `told`, `areLetters`, `firstReason`, `takenOver`, `withHit`,
--- `networkAsked`, `networkTold`, `lettersAfter`, `imagePut`, `frameReason`, `turnedDown`,
--- `frameGiven`, `imagesWith`, `terminalTold`, `imagesAfter`. Assumes nothing.
+-- Interface: `imagesRoom`, `told`, `areLetters`, `firstReason`, `takenOver`, `networkAsked`,
+-- `networkTold`, `lettersAfter`, `imagePut`, `frameReason`, `turnedDown`, `frameGiven`,
+-- `imagesWith`, `terminalTold`, `imagesAfter`. Assumes nothing.
 use mathlib.Core.Bool.{Bool, true, cond, not, _&&_, _||_}
 use mathlib.Core.List.{List, [], _++_}
 use Prim.Native.Nat.{ℕ, _*_}
@@ -27,7 +27,7 @@ use Rattle.terminal.specs.declared.TerminalStep.{TerminalStep}
 use Rattle.bus_rules.specs.Bus.{terminals}
 use Rattle.bus_rules.specs.Event.{eventFor}
 use Rattle.notes_and_cells.specs.Events.{ON, OFF, AR, D1, D2, HIT}
-use Rattle.bus_record.specs.Record.{recordInRange}
+use Rattle.bus_record.specs.Record.{recordInRange, withNetwork, withHit}
 use Rattle.bus_record.specs.NetworkSide.{leavesG3, readerAfter}
 use Rattle.bus_record.specs.declared.record.BusRecord.{BusRecord}
 use Rattle.bus_event.specs.declared.event.Told.{Told}
@@ -58,10 +58,6 @@ firstReason ready r images letters unit event value =
 unfoldable pub takenOver : List ℕ → List ℕ → List ℕ
 takenOver value letters = cond (eqb (length value) (length letters)) value letters
 
-unfoldable pub withHit : BusRecord → BusRecord
-withHit r =
-    record { network = r .network; periods = r .periods; opportunities = r .opportunities; reader = r .reader; echo = r .echo; hit = true }
-
 unfoldable pub asked : ℕ → BusRecord → NetworkStep
 asked event r = networkCalls.requestCall (cond (eqb event AR) Table63.AR-ROW Table63.DR-ROW) (r .periods) (r .network)
 
@@ -69,19 +65,12 @@ asked event r = networkCalls.requestCall (cond (eqb event AR) Table63.AR-ROW Tab
 unfoldable pub networkAsked : ℕ → BusRecord → Told
 networkAsked event r =
     told
-    (record {
-      network = asked event r .network;
-      periods = r .periods;
-      opportunities = r .opportunities;
-      reader = readerAfter (leavesG3 (r .network .state) (asked event r .network .state)) (r .reader);
-      echo = r .echo;
-      hit = r .hit;
-    })
+    (withNetwork (asked event r .network) (readerAfter (leavesG3 (r .network .state) (asked event r .network .state)) (r .reader)) r)
     (asked event r .notes)
     (asked event r .reply)
 
 unfoldable pub networkTold : ℕ → BusRecord → Told
-networkTold event r = cond (eqb event HIT) (told (withHit r) (packedNotes []) 0) (networkAsked event r)
+networkTold event r = cond (eqb event HIT) (told (withHit true r) (packedNotes []) 0) (networkAsked event r)
 
 unfoldable pub lettersAfter : ℕ → List ℕ → List ℕ → List ℕ
 lettersAfter event value letters = cond (eqb event HIT) (takenOver value letters) letters

@@ -22,6 +22,7 @@ use Rattle.exchange.specs.declared.tally.Tally.{Tally}
 pub use Rattle.period_hearing.specs.Hears.{noNotes}
 use Rattle.period_hearing.specs.declared.hears.UnitNotes.{UnitNotes}
 use Rattle.bus_record.specs.Reading.{readIn, octetsIn}
+use Rattle.bus_record.specs.Record.{withCounts, withNetwork, withEcho, withHit}
 use Rattle.bus_record.specs.declared.record.BusRecord.{BusRecord}
 use Rattle.bus_record.specs.declared.reading.Spoken.{Spoken}
 use Rattle.bus_record.specs.declared.side.NetworkHeard.{NetworkHeard}
@@ -79,14 +80,9 @@ periodHasNote told m spoken notes =
 unfoldable pub answerWith : BusRecord → Tally → Spoken → NetworkHeard → Bool → RunAnswer
 answerWith r m spoken side told =
     record {
-      bus = record {
-        network = side .network;
-        periods = nextPeriod (r .periods);
-        opportunities = countedAfter (r .network .state) (r .opportunities);
-        reader = readerAfter (side .left) (spoken .reader);
-        echo = m .echo;
-        hit = false;
-      };
+      bus =
+          withCounts (nextPeriod (r .periods)) (countedAfter (r .network .state) (r .opportunities))
+          (withNetwork (side .network) (readerAfter (side .left) (spoken .reader)) (withEcho (m .echo) (withHit false r)));
       network = side .notes;
       body = spoken .body;
       said = spoken .note;

@@ -6,6 +6,10 @@ use Rattle.network.specs.Calls.{networkInRange}
 use Rattle.network.specs.Network as network
 use Rattle.d_reader.specs.Counters.{freshReader}
 use Rattle.d_reader.specs.ReaderRange.{readerInRange}
+use Rattle.timing.specs.declared.counts.Periods.{Periods}
+use Rattle.timing.specs.declared.counts.Opportunities.{Opportunities}
+use Rattle.network.specs.declared.Network.{Network}
+use Rattle.d_reader.specs.declared.Reader.{Reader}
 use Rattle.bus_record.specs.declared.record.BusRecord.{BusRecord}
 
 -- "A fresh bus is in G1 .., unaligned, with no timer running"
@@ -18,6 +22,53 @@ freshRecord =
       reader = freshReader;
       echo = true;
       hit = false;
+    }
+
+-- The changes of a record, each with all else as it was: nothing but these, the fresh record and
+-- what octets stand for names all of its fields. Other periods and D opportunities run; another
+-- network end, with its reader; another last D; whether a hit is pending.
+abbrev pub withCounts : Periods → Opportunities → BusRecord → BusRecord
+withCounts periods opportunities r =
+    record {
+      network = r .network;
+      periods = periods;
+      opportunities = opportunities;
+      reader = r .reader;
+      echo = r .echo;
+      hit = r .hit;
+    }
+
+abbrev pub withNetwork : Network → Reader → BusRecord → BusRecord
+withNetwork network reader r =
+    record {
+      network = network;
+      periods = r .periods;
+      opportunities = r .opportunities;
+      reader = reader;
+      echo = r .echo;
+      hit = r .hit;
+    }
+
+abbrev pub withEcho : Bool → BusRecord → BusRecord
+withEcho echo r =
+    record {
+      network = r .network;
+      periods = r .periods;
+      opportunities = r .opportunities;
+      reader = r .reader;
+      echo = echo;
+      hit = r .hit;
+    }
+
+abbrev pub withHit : Bool → BusRecord → BusRecord
+withHit hit r =
+    record {
+      network = r .network;
+      periods = r .periods;
+      opportunities = r .opportunities;
+      reader = r .reader;
+      echo = r .echo;
+      hit = hit;
     }
 
 -- Refusal 1: "A field of the bus record lies outside its range".

@@ -1,6 +1,6 @@
 // The bus record.
 ghost use mathlib.Core.Path.{_≡_};
-ghost use Rattle.bus_record.specs.Record.{freshRecord, recordInRange};
+ghost use Rattle.bus_record.specs.Record as spec;
 use d_reader::Reader;
 use network::Network;
 use timing::counts::Opportunities;
@@ -21,7 +21,7 @@ pub struct BusRecord {
 impl BusRecord {
     // Gives a fresh bus: G1, unaligned, no timer running, nothing run and nothing read.
     pub fn fresh() -> Self
-        ensures { λ r. ⌜ r ≡ freshRecord ⌝ }
+        ensures { λ r. ⌜ r ≡ spec.freshRecord ⌝ }
     {
         BusRecord {
             network: Network::fresh(),
@@ -33,9 +33,65 @@ impl BusRecord {
         }
     }
 
+    // Gives the record with other counts of periods and D opportunities.
+    pub fn with_counts(self, periods: Periods, opportunities: Opportunities) -> Self
+        ensures { λ r. ⌜ r ≡ spec.withCounts periods opportunities self ⌝ }
+    {
+        BusRecord {
+            network: self.network,
+            periods,
+            opportunities,
+            reader: self.reader,
+            echo: self.echo,
+            hit: self.hit,
+        }
+    }
+
+    // Gives the record with another network end, and with its reader.
+    pub fn with_network(self, network: Network, reader: Reader) -> Self
+        ensures { λ r. ⌜ r ≡ spec.withNetwork network reader self ⌝ }
+    {
+        BusRecord {
+            network,
+            periods: self.periods,
+            opportunities: self.opportunities,
+            reader,
+            echo: self.echo,
+            hit: self.hit,
+        }
+    }
+
+    // Gives the record with another last D.
+    pub fn with_echo(self, echo: bool) -> Self
+        ensures { λ r. ⌜ r ≡ spec.withEcho echo self ⌝ }
+    {
+        BusRecord {
+            network: self.network,
+            periods: self.periods,
+            opportunities: self.opportunities,
+            reader: self.reader,
+            echo,
+            hit: self.hit,
+        }
+    }
+
+    // Gives the record with a hit pending, or with none.
+    pub fn with_hit(self, hit: bool) -> Self
+        ensures { λ r. ⌜ r ≡ spec.withHit hit self ⌝ }
+    {
+        BusRecord {
+            network: self.network,
+            periods: self.periods,
+            opportunities: self.opportunities,
+            reader: self.reader,
+            echo: self.echo,
+            hit,
+        }
+    }
+
     // Tests whether every field is in its range.
     pub fn in_range(self) -> bool
-        ensures { λ r. ⌜ r ≡ recordInRange self ⌝ }
+        ensures { λ r. ⌜ r ≡ spec.recordInRange self ⌝ }
     {
         let network = self.network.in_range();
         let periods = self.periods.in_range();

@@ -138,16 +138,13 @@ fn ran_with(
     ensures { λ r. ⌜ r ≡ answerWith bus tally spoken side told ⌝ }
 {
     let notes = side.notes;
-    let network = side.network;
+    let reader = reader_after(side.left, spoken.reader);
+    let opportunities = counted(bus.network.state, bus.opportunities);
+    let heard = bus.with_hit(false)
+        .with_echo(tally.echo)
+        .with_network(side.network, reader);
     RunAnswer {
-        bus: BusRecord {
-            network,
-            periods: bus.periods.next_period(),
-            opportunities: counted(bus.network.state, bus.opportunities),
-            reader: reader_after(side.left, spoken.reader),
-            echo: tally.echo,
-            hit: false,
-        },
+        bus: heard.with_counts(bus.periods.next_period(), opportunities),
         network: notes,
         body: spoken.body,
         said: spoken.note,

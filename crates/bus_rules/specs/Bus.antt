@@ -1,6 +1,7 @@
 -- Rules: the bus (document 01, "Order inside a period" and "D access (6.1)"): one network end,
 -- terminals 1 to 8, and what the record counts.
--- Interface: `Station`, `Hit`, `Bus`, `terminals`, `freshStation`, `stationAt`, `freshBus`, `Note`,
+-- Interface: `Station`, `Hit`, `Bus`, `terminals`, `freshStation`, `withTerminal`, `stationAt`,
+-- `freshBus`, `withCounts`, `withNetwork`, `withHeardD`, `withHit`, `withStations`, `Note`,
 -- `notesOf`. Assumes nothing.
 use mathlib.Core.Bool.{Bool, true}
 use mathlib.Core.List.{List, [], _∷_}
@@ -47,6 +48,10 @@ terminals = 8
 abbrev pub freshStation : Station
 freshStation = record { terminal = terminal.fresh; image = image []; body = [] }
 
+-- another state of the terminal: the image and the body that stand beside it stay
+abbrev pub withTerminal : Terminal → Station → Station
+withTerminal t s = record { terminal = t; image = s .image; body = s .body }
+
 -- the terminal at an index, its unit less 1
 abbrev pub stationAt : ℕ → Bus → Station
 stationAt i b = getD (b .stations) i freshStation
@@ -63,6 +68,69 @@ freshBus =
       heardD = true;
       hit = Hit.none;
       stations = replicate terminals freshStation;
+    }
+
+-- The changes of a bus, each with all else as it was: nothing but these and the fresh bus names all
+-- of its fields. Other periods and D opportunities run; another network end, with its reader;
+-- another last D; another hit; other stations.
+abbrev pub withCounts : ℕ → ℕ → Bus → Bus
+withCounts periods opportunities b =
+    record {
+      periods = periods;
+      opportunities = opportunities;
+      network = b .network;
+      reading = b .reading;
+      heardD = b .heardD;
+      hit = b .hit;
+      stations = b .stations;
+    }
+
+abbrev pub withNetwork : Network → Reading → Bus → Bus
+withNetwork network reading b =
+    record {
+      periods = b .periods;
+      opportunities = b .opportunities;
+      network = network;
+      reading = reading;
+      heardD = b .heardD;
+      hit = b .hit;
+      stations = b .stations;
+    }
+
+abbrev pub withHeardD : Bool → Bus → Bus
+withHeardD heardD b =
+    record {
+      periods = b .periods;
+      opportunities = b .opportunities;
+      network = b .network;
+      reading = b .reading;
+      heardD = heardD;
+      hit = b .hit;
+      stations = b .stations;
+    }
+
+abbrev pub withHit : Hit → Bus → Bus
+withHit hit b =
+    record {
+      periods = b .periods;
+      opportunities = b .opportunities;
+      network = b .network;
+      reading = b .reading;
+      heardD = b .heardD;
+      hit = hit;
+      stations = b .stations;
+    }
+
+abbrev pub withStations : List Station → Bus → Bus
+withStations stations b =
+    record {
+      periods = b .periods;
+      opportunities = b .opportunities;
+      network = b .network;
+      reading = b .reading;
+      heardD = b .heardD;
+      hit = b .hit;
+      stations = stations;
     }
 
 -- A note: "The fields are the period, the unit, the note and its value." The note is its code, and

@@ -22,8 +22,8 @@ use Rattle.network.specs.declared.Network.{Network}
 use Rattle.network.specs.declared.NetworkStep.{NetworkStep}
 use Rattle.terminal.specs.declared.Terminal.{Terminal}
 use Rattle.terminal.specs.declared.TerminalStep.{TerminalStep}
-use Rattle.bus_rules.specs.Bus.{Station, Hit, Bus, Note, terminals, stationAt, notesOf}
-use Rattle.bus_rules.specs.Period.{readingAfter, stepped}
+use Rattle.bus_rules.specs.Bus.{Station, Hit, Bus, Note, terminals, stationAt, withHit, withStations, notesOf}
+use Rattle.bus_rules.specs.Period.{networkNow, stepped}
 
 -- whether a number is one of some
 abbrev pub among : ℕ → List ℕ → Bool
@@ -90,30 +90,11 @@ unfoldable pub networkDoes : ℕ → ℕ → Network → NetworkStep
 networkDoes event now n = network.requests (cond (eqb event AR) Table63.AR-ROW Table63.DR-ROW) now n
 
 unfoldable pub networkDone : ℕ → Bus → Bus
-networkDone event b =
-    let n = networkDoes event (b .periods) (b .network) .network in
-    record {
-      periods = b .periods;
-      opportunities = b .opportunities;
-      network = n;
-      reading = readingAfter (b .network .state) (n .state) (b .reading);
-      heardD = b .heardD;
-      hit = b .hit;
-      stations = b .stations;
-    }
+networkDone event b = networkNow (networkDoes event (b .periods) (b .network) .network) (b .reading) b
 
 -- "a second replaces the first"
 unfoldable pub hitGiven : List ℕ → Bus → Bus
-hitGiven letters b =
-    record {
-      periods = b .periods;
-      opportunities = b .opportunities;
-      network = b .network;
-      reading = b .reading;
-      heardD = b .heardD;
-      hit = Hit.given letters;
-      stations = b .stations;
-    }
+hitGiven letters b = withHit (Hit.given letters) b
 
 -- power and requests of a terminal
 unfoldable pub terminalDoes : ℕ → ℕ → Terminal → TerminalStep
@@ -124,13 +105,7 @@ terminalDoes event now t =
 unfoldable pub withFrame : ℕ → List ℕ → Station → Station
 withFrame class body s =
     record {
-      terminal =
-          record {
-            t3 = s .terminal .t3;
-            access = takenUp class (length (image body)) (s .terminal .access);
-            state = s .terminal .state;
-            alignment = s .terminal .alignment;
-          };
+      terminal = terminal.withAccess (takenUp class (length (image body)) (s .terminal .access)) (s .terminal);
       image = image body;
       body = body;
     }
@@ -139,16 +114,7 @@ unfoldable pub stationAfter : ℕ → List ℕ → ℕ → Station → Station
 stationAfter event value now s = cond (eqb (classOf event) 0) (stepped (terminalDoes event now) s) (withFrame (classOf event) value s)
 
 unfoldable pub stationDone : ℕ → ℕ → List ℕ → Bus → Bus
-stationDone unit event value b =
-    record {
-      periods = b .periods;
-      opportunities = b .opportunities;
-      network = b .network;
-      reading = b .reading;
-      heardD = b .heardD;
-      hit = b .hit;
-      stations = change (stationAfter event value (b .periods)) (unit - 1) (b .stations);
-    }
+stationDone unit event value b = withStations (change (stationAfter event value (b .periods)) (unit - 1) (b .stations)) b
 
 unfoldable pub eventDone : ℕ → ℕ → List ℕ → Bus → Bus
 eventDone unit event value b =

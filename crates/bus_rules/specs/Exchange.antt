@@ -27,7 +27,8 @@ use Rattle.dchannel.specs.Access.{normal1, normal2, accessStep}
 use Rattle.dchannel.specs.declared.access.AccessStep.{AccessStep}
 use Rattle.hdlc.specs.Reading.{Reading, Said, said, next}
 use Rattle.hdlc.specs.Reading.Said.{nothing}
-use Rattle.bus_rules.specs.Bus.{Station, Hit, Bus}
+use Rattle.terminal.specs.Terminal.{withAccess}
+use Rattle.bus_rules.specs.Bus.{Station, Hit, Bus, withTerminal}
 use Rattle.bus_rules.specs.Bus.Hit.{none, given}
 
 -- The line that a network end sends in a state, with four E bits: INFO 0, 2 or 4.
@@ -92,20 +93,7 @@ unfoldable pub accessStepOf : Bool → Station → AccessStep
 accessStepOf e s = accessStep normal1 normal2 e (getD (s .image) (s .terminal .access .sent) true) (s .terminal .access)
 
 unfoldable pub stationAfterE : Bool → Station → Station
-stationAfterE e s =
-    cond (inF7 s)
-    (record {
-      terminal =
-          record {
-            t3 = s .terminal .t3;
-            access = accessStepOf e s .access;
-            state = s .terminal .state;
-            alignment = s .terminal .alignment;
-          };
-      image = s .image;
-      body = s .body;
-    })
-    s
+stationAfterE e s = cond (inF7 s) (withTerminal (withAccess (accessStepOf e s .access) (s .terminal)) s) s
 
 -- "D as D access says; in F6 D is 1"
 unfoldable pub dOf : Bool → Station → Bool

@@ -1,7 +1,7 @@
 -- Rules: a period (document 01, "Lists and stretches"): "exchange, hearing, then the timers due at
 -- the next one's start".
--- Interface: `readingAfter`, `networkHears`, `stepped`, `doneCodes`, `heardBy`, `periodRun`,
--- `periodNotes`. Assumes nothing.
+-- Interface: `readingAfter`, `networkNow`, `networkHears`, `stepped`, `doneCodes`, `heardBy`,
+-- `periodRun`, `periodNotes`. Assumes nothing.
 use mathlib.Core.Bool.{cond}
 use mathlib.Core.List.{List, [], _∷_, map}
 use Prim.Native.Nat.{ℕ, _+_}
@@ -17,13 +17,17 @@ use Rattle.network.specs.declared.Network.{Network}
 use Rattle.network.specs.declared.NetworkStep.{NetworkStep}
 use Rattle.terminal.specs.declared.Terminal.{Terminal}
 use Rattle.terminal.specs.declared.TerminalStep.{TerminalStep}
-use Rattle.bus_rules.specs.Bus.{Station, Hit, Bus, Note}
+use Rattle.bus_rules.specs.Bus.{Station, Hit, Bus, Note, withTerminal, withCounts, withNetwork, withHeardD, withHit, withStations}
 use Rattle.bus_rules.specs.Order.{ByUnit, dFirst, periodInOrder}
 use Rattle.bus_rules.specs.Exchange.{Sender, Opportunity, stationsOf, exchanged, wholeDown, wholeUp}
 
 -- "Leaving G3 clears the reader silently."
 unfoldable pub readingAfter : ℕ → ℕ → Reading → Reading
 readingAfter from to r = cond (eqb from G3) (cond (eqb to G3) r cleared) r
+
+-- The network end becomes another one, where its reader stood at `reading`.
+abbrev pub networkNow : Network → Reading → Bus → Bus
+networkNow n reading b = withNetwork n (readingAfter (b .network .state) (n .state) reading) b
 
 -- What the network end and a terminal hear of a line.
 unfoldable pub networkHears : List ℕ → ℕ → Network → NetworkStep
@@ -32,9 +36,9 @@ networkHears up now n = network.hears (shownUp up) now n
 unfoldable pub terminalHears : List ℕ → ℕ → Terminal → TerminalStep
 terminalHears down now t = terminal.hears (shownDown down) now t
 
--- One step of a terminal: the image and the body that stand beside it stay.
+-- One step of a terminal.
 unfoldable pub stepped : (Terminal → TerminalStep) → Station → Station
-stepped f s = record { terminal = f (s .terminal) .terminal; image = s .image; body = s .body }
+stepped f s = withTerminal (f (s .terminal) .terminal) s
 
 -- ---- What is noted; Order.antt has the order.
 
@@ -62,16 +66,10 @@ timerCodes now s = noted (terminal.timer now (s .terminal) .notes)
 -- lines, which come before the exchange.
 unfoldable pub heardBy : Opportunity → Bus → Bus
 heardBy m b =
-    let n = networkHears (wholeUp m) (b .periods) (b .network) .network in
-    record {
-      periods = b .periods + 1;
-      opportunities = b .opportunities + cond (eqb (b .network .state) G3) 4 0;
-      network = n;
-      reading = readingAfter (b .network .state) (n .state) (m .reading);
-      heardD = m .heardD;
-      hit = Hit.none;
-      stations = map (stepped (terminalHears (wholeDown m) (b .periods))) (stationsOf (m .senders));
-    }
+    withCounts (b .periods + 1) (b .opportunities + cond (eqb (b .network .state) G3) 4 0)
+    (networkNow (networkHears (wholeUp m) (b .periods) (b .network) .network) (m .reading)
+    (withStations (map (stepped (terminalHears (wholeDown m) (b .periods))) (stationsOf (m .senders)))
+    (withHeardD (m .heardD) (withHit Hit.none b))))
 
 abbrev pub heardByUnit : Opportunity → Bus → ByUnit
 heardByUnit m b =
@@ -84,16 +82,8 @@ heardByUnit m b =
 -- ---- "Timers that are due (unit 0, then 1 to 8)", at the start of the period that comes.
 unfoldable pub timed : Bus → Bus
 timed b =
-    let n = network.timers (b .periods) (b .network) .network in
-    record {
-      periods = b .periods;
-      opportunities = b .opportunities;
-      network = n;
-      reading = readingAfter (b .network .state) (n .state) (b .reading);
-      heardD = b .heardD;
-      hit = b .hit;
-      stations = map (stepped (terminal.timer (b .periods))) (b .stations);
-    }
+    networkNow (network.timers (b .periods) (b .network) .network) (b .reading)
+    (withStations (map (stepped (terminal.timer (b .periods))) (b .stations)) b)
 
 abbrev pub timedByUnit : Bus → ByUnit
 timedByUnit b =

@@ -39,7 +39,7 @@ use Rattle.heard_line.specs.Sensing as sensing
 use Rattle.network.specs.Network as network
 use Rattle.network.specs.declared.Network.{Network}
 use Rattle.terminal.specs.Terminal as terminal
-use Rattle.bus_rules.specs.Bus.{Station, Hit, Bus, Note, freshStation, freshBus, notesOf, stationAt}
+use Rattle.bus_rules.specs.Bus.{Station, Hit, Bus, Note, freshStation, freshBus, withCounts, withNetwork, withStations, notesOf, stationAt}
 use Rattle.bus_rules.specs.Order.{unitByUnit}
 use Rattle.bus_rules.specs.Exchange.{Opportunity, sentDown, sentUp, accessStepOf, stationAfterE, dOf, doneOf, hearsE, sentOf}
 use Rattle.bus_rules.specs.Exchange.{lineDown, lineUp, eComes, sendersAfter, dComes, saidTo, onward, asSender, begins}
@@ -315,7 +315,7 @@ busy-notes = refl
 
 -- ---- Records that are made up.
 abbrev aligned : Alignment
-aligned = record { aligned = true; run = 0 }
+aligned = alignment.inAlignment 0
 
 abbrev networkIn : ℕ → ℕ → ℕ → Network
 networkIn state t1 t2 = record { t1 = t1; t2 = t2; state = state; alignment = aligned }
@@ -324,15 +324,14 @@ networkIn state t1 t2 = record { t1 = t1; t2 = t2; state = state; alignment = al
 abbrev stationIn : ℕ → ℕ → Access → Station
 stationIn state t3 a =
     record {
-      terminal = record { t3 = t3; access = a; state = state; alignment = aligned };
+      terminal = terminal.withFields t3 a state aligned terminal.fresh;
       image = images.image (0 ∷ []);
       body = 0 ∷ [];
     }
 
 -- all else is as on the fresh bus
 abbrev busWith : ℕ → Network → List Station → Bus
-busWith p n stations =
-    record { periods = p; opportunities = 0; network = n; reading = cleared; heardD = true; hit = Hit.none; stations = stations }
+busWith p n stations = withCounts p 0 (withNetwork n cleared (withStations stations freshBus))
 
 -- INFO 1 beside INFO 3, where no list of calls leads: the four D that the network end hears in G3,
 -- with terminal 2 in F4 and terminal 1 in F7 with a C and a held frame of class 1 or none.

@@ -74,7 +74,7 @@ g4Hears line =
 
 abbrev f6Due : ℕ
 f6Due =
-    terminalCalls.timerCall (record { 0 = 9 }) (record { t3 = 9; access = access.fresh; state = F6; alignment = inAlignment 0 })
+    terminalCalls.timerCall (record { 0 = 9 }) (terminal.withFields 9 access.fresh F6 (inAlignment 0) terminal.fresh)
     .terminal .state
 
 -- an upward line whose first pulse after symbol 2 is minus, with `before` nones before it and

@@ -37,15 +37,8 @@ pub fn one_part(terminal: Terminal, images: &[u8], i: usize, tally: Tally) -> Pa
     if terminal.state == F7 {
         let before = terminal.access;
         let turn = before.access_step(tally.e, image_bit(images, i, before.sent));
-        let access = turn.access;
-        let alignment = terminal.alignment;
         Part {
-            terminal: Terminal {
-                t3: terminal.t3,
-                access,
-                state: terminal.state,
-                alignment,
-            },
+            terminal: terminal.with_access(turn.access),
             tally: tally.also(terminal.state, turn.d, turn.done),
         }
     } else {

@@ -1,7 +1,7 @@
 -- Laws: scenes of still buses, each computed: how far they are still, and what a leap makes of
 -- their counts.
 -- Interface: none but for laws and proofs. Assumes nothing.
-use mathlib.Core.Bool.{Bool, true, false, _&&_}
+use mathlib.Core.Bool.{Bool, true, false, cond, _&&_}
 use mathlib.Core.List.{List, [], _∷_}
 use mathlib.Core.Path.{_≡_, refl}
 use Prim.Native.Nat.{ℕ}
@@ -16,6 +16,8 @@ use Rattle.timing.specs.Clear.{clear}
 use Rattle.dchannel.specs.AtRest.{atRest}
 use Rattle.dchannel.specs.Access as dchannel
 use Rattle.dchannel.specs.declared.access.Access.{Access}
+use Rattle.alignment.specs.Alignment.{unaligned, inAlignment}
+use Rattle.alignment.specs.declared.Alignment.{Alignment}
 use Rattle.terminal.specs.Terminal as terminal
 use Rattle.terminal.specs.declared.Terminal.{Terminal}
 use Rattle.d_reader.specs.Counters.{freshReader, openedReader}
@@ -25,23 +27,21 @@ use Rattle.exchange.specs.Rest.{partRests}
 use Rattle.period_hearing.specs.Hears.{rests}
 use Rattle.bus_record.specs.Reading.{readerWaits}
 use Rattle.bus_record.specs.NetworkSide.{networkRests}
-use Rattle.bus_record.specs.Record.{freshRecord}
+use Rattle.bus_record.specs.Record.{freshRecord, withCounts, withNetwork, withEcho, withHit}
 use Rattle.bus_record.specs.declared.record.BusRecord.{BusRecord}
 use Rattle.idle_periods.specs.Still.{quiet, farthest, firstAhead, overWith, alsoAhead, reached, reach, countedOver, leapt}
 
 -- ---- Units.
+-- aligned or not, with no run
+abbrev settled : Bool → Alignment
+settled aligned = cond aligned (inAlignment 0) (unaligned 0)
+
 -- a network end in `state`, aligned or not, after 1,000 periods, with T1 due at period `t1`, T2 at
 -- period `t2`, and a reader
 abbrev bus : ℕ → Bool → ℕ → ℕ → Reader → BusRecord
 bus state aligned t1 t2 reader =
-    record {
-      network = record { t1 = t1; t2 = t2; state = state; alignment = record { aligned = aligned; run = 0 } };
-      periods = atPeriod 1000;
-      opportunities = record { 0 = 400 };
-      reader = reader;
-      echo = true;
-      hit = false;
-    }
+    withCounts (atPeriod 1000) (record { 0 = 400 })
+    (withNetwork (record { t1 = t1; t2 = t2; state = state; alignment = settled aligned }) reader freshRecord)
 
 -- a D access with this C and class, after a frame of class 1
 abbrev counting : ℕ → ℕ → Access
@@ -53,7 +53,7 @@ low = record { length = 0; sent = 0; count = 11; held = 0; low1 = false; low2 = 
 
 -- a terminal in `state` with that access, aligned or not, and with T3 due at period `t3`
 abbrev unit : ℕ → Bool → ℕ → Access → Terminal
-unit state aligned t3 access = record { t3 = t3; access = access; state = state; alignment = record { aligned = aligned; run = 0 } }
+unit state aligned t3 access = terminal.withFields t3 access state (settled aligned) terminal.fresh
 
 abbrev active : Terminal
 active = unit F7 true 0 (counting 11 0)
@@ -67,38 +67,14 @@ abbrev in-G3 : BusRecord
 in-G3 = bus G3 true 0 0 freshReader
 
 abbrev hit-pending : BusRecord
-hit-pending =
-    record {
-      network = in-G3 .network;
-      periods = in-G3 .periods;
-      opportunities = in-G3 .opportunities;
-      reader = in-G3 .reader;
-      echo = true;
-      hit = true;
-    }
+hit-pending = withHit true in-G3
 
 abbrev after-0 : BusRecord
-after-0 =
-    record {
-      network = in-G3 .network;
-      periods = in-G3 .periods;
-      opportunities = in-G3 .opportunities;
-      reader = in-G3 .reader;
-      echo = false;
-      hit = false;
-    }
+after-0 = withEcho false in-G3
 
 -- and one that has 100 periods left in all
 abbrev at-the-end : BusRecord
-at-the-end =
-    record {
-      network = in-G3 .network;
-      periods = atPeriod 3999900;
-      opportunities = in-G3 .opportunities;
-      reader = in-G3 .reader;
-      echo = true;
-      hit = false;
-    }
+at-the-end = withCounts (atPeriod 3999900) (in-G3 .opportunities) in-G3
 
 -- a bus in G4 until T2 at period 1,100
 abbrev in-G4 : BusRecord

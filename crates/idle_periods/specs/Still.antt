@@ -22,6 +22,7 @@ use Rattle.exchange.specs.Rest.{partRests}
 use Rattle.period_hearing.specs.Hears.{rests}
 use Rattle.bus_record.specs.Reading.{readerWaits}
 use Rattle.bus_record.specs.NetworkSide.{networkRests}
+use Rattle.bus_record.specs.Record.{withCounts}
 use Rattle.bus_record.specs.declared.record.BusRecord.{BusRecord}
 use Rattle.idle_periods.specs.declared.ahead.Ahead.{Ahead}
 
@@ -72,12 +73,5 @@ countedOver state over o =
 unfoldable pub leapt : ℕ → BusRecord → BusRecord
 leapt over b =
     cond (leb (b .periods .0 + over) mostPeriods)
-    (record {
-      network = b .network;
-      periods = atPeriod (b .periods .0 + over);
-      opportunities = countedOver (b .network .state) over (b .opportunities);
-      reader = b .reader;
-      echo = b .echo;
-      hit = b .hit;
-    })
+    (withCounts (atPeriod (b .periods .0 + over)) (countedOver (b .network .state) over (b .opportunities)) b)
     b

@@ -27,14 +27,6 @@ pub fn leapt(bus: BusRecord, over: u32) -> BusRecord
     if (MOST_PERIODS as u64) < periods {
         return bus;
     }
-    let network = bus.network;
-    let reader = bus.reader;
-    BusRecord {
-        network,
-        periods: Periods(periods as u32),
-        opportunities: counted_over(network.state, over, bus.opportunities),
-        reader,
-        echo: bus.echo,
-        hit: bus.hit,
-    }
+    let opportunities = counted_over(bus.network.state, over, bus.opportunities);
+    bus.with_counts(Periods(periods as u32), opportunities)
 }

@@ -19,6 +19,7 @@ use Rattle.dchannel.proofs.AccessLaws.{same-refl}
 use Rattle.dchannel.specs.declared.access.Access.{Access}
 use Rattle.dchannel.specs.declared.access.AccessStep.{AccessStep}
 use Rattle.packing.specs.Octets.{shifted}
+use Rattle.terminal.specs.Terminal.{withAccess}
 use Rattle.terminal.specs.declared.Terminal.{Terminal}
 use Rattle.slice_lemmas.specs.Over.{mapFrom, foldFrom}
 use Rattle.bus_rules.specs.Quick.{sentE}
@@ -95,7 +96,7 @@ module _ (images : List ℕ) (e : Bool) (i : ℕ) (t : Terminal) (h : eqb (t .st
   abbrev turnHere : AccessStep
   turnHere = accessStep normal1 normal2 e (imageBit images i (t .access .sent)) (t .access)
 
-  turned-here : terminalAfterE images e i t ≡ record { t3 = t .t3; access = turnHere .access; state = t .state; alignment = t .alignment }
+  turned-here : terminalAfterE images e i t ≡ withAccess (turnHere .access) t
   unfolding terminalAfterE stationAfterE accessStepOf
   turned-here = rw (terminalAfterE, h, image-at)
 
@@ -108,7 +109,7 @@ module _ (images : List ℕ) (e : Bool) (i : ℕ) (t : Terminal) (h : eqb (t .st
   done-here = rw (h, image-at)
 
 module _ (s : LoneSender) (i : ℕ) (t : Terminal) where
-  pub followed-in : eqb (t .state) F7 ≡ true → followed s i t ≡ record { t3 = t .t3; access = followedAccess s i (t .access); state = t .state; alignment = t .alignment }
+  pub followed-in : eqb (t .state) F7 ≡ true → followed s i t ≡ withAccess (followedAccess s i (t .access)) t
   unfolding followed
   followed-in h = rw h
 
@@ -180,7 +181,7 @@ module _ (images : List ℕ) (s : LoneSender) (goes : loneSends s ≡ true) wher
 
   follows-by : (i : ℕ) (t : Terminal) (d : Bool) → eqb (t .state) F7 ≡ true → turnThen i (t .access) ≡ record { access = followedAccess next i (t .access); d = d; done = 0 } → d ≡ bitOf i t → Follows i t
   follows-by i t d h is bit =
-      let f : Terminal = record { t3 = t .t3; access = followedAccess s i (t .access); state = t .state; alignment = t .alignment } in
+      let f : Terminal = withAccess (followedAccess s i (t .access)) t in
       record {
         terminal-is = rw (followed-in s i t h, followed-in next i t h) (turned-here images (s .last) i f h ∙ rw is);
         d-is = rw (followed-in s i t h) (d-here images (s .last) i f h ∙ rw is bit);

@@ -14,6 +14,7 @@ use Rattle.table_6_2.specs.Table62.{F7, infoSent}
 use Rattle.table_6_3.specs.Table63 as Table63
 use Rattle.dchannel.specs.Access.{normal1, normal2, countAfter}
 use Rattle.dchannel.specs.declared.access.Access.{Access}
+use Rattle.terminal.specs.Terminal.{withAccess}
 use Rattle.terminal.specs.declared.Terminal.{Terminal}
 use Rattle.slice_lemmas.specs.Over.{mapFrom}
 use Rattle.exchange.specs.Tally.{noLetters, firstTally}
@@ -107,10 +108,7 @@ followedAccess s i a =
 
 -- terminal i as the run has it
 unfoldable pub followed : LoneSender → ℕ → Terminal → Terminal
-followed s i t =
-    cond (eqb (t .state) F7)
-    (record { t3 = t .t3; access = followedAccess s i (t .access); state = t .state; alignment = t .alignment })
-    t
+followed s i t = cond (eqb (t .state) F7) (withAccess (followedAccess s i (t .access)) t) t
 
 -- what is asked of terminal i where terminal `at` sends an image of `length` bits: it sends no
 -- INFO 1, and in F7 it either is terminal `at`, with an image of that length, or sends nothing

@@ -14,6 +14,7 @@ use Rattle.timing.specs.Clear.{clear}
 use Rattle.dchannel.specs.Access.{countAfter}
 use Rattle.hdlc.specs.Bits.{bitOf}
 use Rattle.packing.specs.Packing.{packedBit}
+use Rattle.alignment.specs.Alignment.{inAlignment}
 use Rattle.terminal.specs.Terminal as terminal
 use Rattle.terminal.specs.declared.Terminal.{Terminal}
 use Rattle.bus_rules.specs.Quick.{shownBy}
@@ -28,12 +29,8 @@ use Rattle.lone_sender.specs.declared.search.Search.{Search}
 -- left, C is `count`, and T3 is due at period `t3`
 abbrev holding : ℕ → ℕ → ℕ → Terminal
 holding sent count t3 =
-    record {
-      t3 = t3;
-      access = record { length = 200; sent = sent; count = count; held = 1; low1 = false; low2 = false; last = true };
-      state = F7;
-      alignment = record { aligned = true; run = 0 };
-    }
+    terminal.withFields t3 (record { length = 200; sent = sent; count = count; held = 1; low1 = false; low2 = false; last = true }) F7
+    (inAlignment 0) terminal.fresh
 
 -- from period 1,000 on, at most 500 periods
 abbrev search : List Terminal → Search

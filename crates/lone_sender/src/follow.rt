@@ -16,21 +16,15 @@ fn follow_one(lone: LoneSender, i: usize, t: Terminal) -> Terminal
         return t;
     }
     let before = t.access;
-    let alignment = t.alignment;
-    Terminal {
-        t3: t.t3,
-        access: Access {
-            length: before.length,
-            sent: if i == lone.at { lone.sent } else { before.sent },
-            count: lone.count,
-            held: before.held,
-            low1: before.low1,
-            low2: before.low2,
-            last: if i == lone.at { lone.last } else { before.last },
-        },
-        state: t.state,
-        alignment,
-    }
+    t.with_access(Access {
+        length: before.length,
+        sent: if i == lone.at { lone.sent } else { before.sent },
+        count: lone.count,
+        held: before.held,
+        low1: before.low1,
+        low2: before.low2,
+        last: if i == lone.at { lone.last } else { before.last },
+    })
 }
 
 // Brings all terminals from the run's start to its end.

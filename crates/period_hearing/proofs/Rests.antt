@@ -12,7 +12,6 @@ use Rattle.test_lemmas.proofs.Operators.{and-both}
 use Rattle.slice_lemmas.specs.Over.{mapFrom, foldFrom}
 use Rattle.notes_and_cells.specs.Notes.{packedNotes}
 use Rattle.notes_and_cells.specs.Cells.{cellIn}
-use Rattle.dchannel.specs.declared.access.Access.{Access}
 use Rattle.table_6_2.specs.Table62.{F1, F3, F4, F5, F7}
 use Rattle.timing.specs.Calls.{nextPeriod}
 use Rattle.timing.specs.Timers.{due}
@@ -20,7 +19,7 @@ use Rattle.timing.specs.declared.counts.Periods.{Periods}
 use Rattle.alignment.specs.Alignment.{framedPeriod, followed}
 use Rattle.heard_line.specs.Heard.{downwardEvent}
 use Rattle.heard_line.specs.declared.heard.Downward.{Downward}
-use Rattle.terminal.specs.Terminal.{unchanged, acts, happens, aligned, heardAs, hears, timer}
+use Rattle.terminal.specs.Terminal.{withFields, unchanged, acts, happens, aligned, heardAs, hears, timer}
 use Rattle.terminal.specs.Calls.{ready, checked}
 use Rattle.terminal.specs.declared.Terminal.{Terminal}
 use Rattle.terminal.specs.declared.TerminalStep.{TerminalStep}
@@ -37,10 +36,12 @@ silence-is state h three four five =
     (λ t. by-test (eqb state F4) (λ u. four (eqb-true state F4 u)) (λ u. five (omega (arith, eqb-false state F3 t, eqb-false state F4 u))))
 
 -- ---- the cells, each computed
-module _ (now t3 : ℕ) (access : Access) where
+module _ (now : ℕ) (t : Terminal) where
+  abbrev at : ℕ → ℕ → Bool → Terminal
+  at state run al = withFields (t .t3) (t .access) state (record { aligned = al; run = run }) t
+
   in-F7 : (state run : ℕ) (al pulse framed a : Bool) → state ≡ F7 → run ≡ 0 → (((al && pulse) && framed) && a) ≡ true →
-      hears (record { pulse = pulse; framed = framed; a = a }) now (record { t3 = t3; access = access; state = state; alignment = record { aligned = al; run = run } })
-      ≡ unchanged 0 (record { t3 = t3; access = access; state = state; alignment = record { aligned = al; run = run } })
+      hears (record { pulse = pulse; framed = framed; a = a }) now (at state run al) ≡ unchanged 0 (at state run al)
   unfolding hears heardAs aligned happens acts followed framedPeriod downwardEvent cellIn
   in-F7 state run true true true true p q h = rw (p, q)
   in-F7 state run true true true false p q h = clash false h refl
@@ -49,8 +50,7 @@ module _ (now t3 : ℕ) (access : Access) where
   in-F7 state run false pulse framed a p q h = clash false h refl
 
   in-silence : (state run : ℕ) (al pulse framed a : Bool) → staysInSilence state ≡ true → run ≡ 0 → (not al && not pulse) ≡ true →
-      hears (record { pulse = pulse; framed = framed; a = a }) now (record { t3 = t3; access = access; state = state; alignment = record { aligned = al; run = run } })
-      ≡ unchanged 0 (record { t3 = t3; access = access; state = state; alignment = record { aligned = al; run = run } })
+      hears (record { pulse = pulse; framed = framed; a = a }) now (at state run al) ≡ unchanged 0 (at state run al)
   unfolding hears heardAs aligned happens acts followed downwardEvent cellIn
   in-silence state run false false framed a p q h = silence-is state p (λ e. rw (e, q)) (λ e. rw (e, q)) (λ e. rw (e, q))
   in-silence state run true pulse framed a p q h = clash false h refl
@@ -67,10 +67,10 @@ rests-hears line now t h =
     by-test (eqb (t .alignment .run) 0)
     (λ u. let h1 = rw u at h in
     by-test (eqb (t .state) F7)
-    (λ v. in-F7 now (t .t3) (t .access) (t .state) (t .alignment .run) (t .alignment .aligned) (line .pulse) (line .framed) (line .a) (eqb-true _ _ v) (eqb-true _ _ u) (rw v at h1))
+    (λ v. in-F7 now t (t .state) (t .alignment .run) (t .alignment .aligned) (line .pulse) (line .framed) (line .a) (eqb-true _ _ v) (eqb-true _ _ u) (rw v at h1))
     (λ v. let h2 = rw v at h1 in
     by-test (staysInSilence (t .state))
-    (λ w. in-silence now (t .t3) (t .access) (t .state) (t .alignment .run) (t .alignment .aligned) (line .pulse) (line .framed) (line .a) w (eqb-true _ _ u) (rw w at h2))
+    (λ w. in-silence now t (t .state) (t .alignment .run) (t .alignment .aligned) (line .pulse) (line .framed) (line .a) w (eqb-true _ _ u) (rw w at h2))
     (λ w. in-F1 line now t (rw w at h2))))
     (λ u. in-F1 line now t (rw u at h))
 

@@ -37,29 +37,25 @@ acts-void (Stay notes) now t = refl
 acts-void Impossible now t = refl
 acts-void Absent now t = refl
 
--- 0: an event that is no request, at a record by its fields
-abbrev fields : ℕ → Access → ℕ → Alignment → Terminal
-fields t3 access state alignment = record { t3 = t3; access = access; state = state; alignment = alignment }
-
-pub happens-void : (e now t3 : ℕ) (access : Access) (state : ℕ) (alignment : Alignment) →
-    cond (isVoid (cellOf table62 e state)) (unchanged 0 (fields t3 access state alignment)) (happens e now (fields t3 access state alignment))
-    ≡ happens e now (fields t3 access state alignment)
+-- 0: an event that is no request
+pub happens-void : (e now : ℕ) (t : Terminal) →
+    cond (isVoid (cellOf table62 e (t .state))) (unchanged 0 t) (happens e now t) ≡ happens e now t
 unfolding happens
-happens-void e now t3 access state alignment = acts-void (cellOf table62 e state) now (fields t3 access state alignment)
+happens-void e now t = acts-void (cellOf table62 e (t .state)) now t
 
 -- 0: a line heard, over what the calls in between gave
 pub heard-is : (line : Downward) (now : Periods) (t : Terminal) {f : Followed} {e : ℕ} {r : TerminalStep} →
     f ≡ followed framedToGain unframedToLose (line .pulse) (line .framed) (t .alignment) → e ≡ downwardEvent line f →
     r ≡ cond (ready now t)
     (cond (not (eqb (t .state) F1))
-    (cond (isVoid (cellOf table62 e (t .state))) (unchanged 0 (fields (t .t3) (t .access) (t .state) (f .alignment))) (happens e (now .0) (fields (t .t3) (t .access) (t .state) (f .alignment))))
+    (cond (isVoid (cellOf table62 e (t .state))) (unchanged 0 (aligned (f .alignment) t)) (happens e (now .0) (aligned (f .alignment) t)))
     (unchanged 0 t))
     (unchanged 1 t) → r ≡ hearCall line now t
 unfolding checked hears heardAs aligned
 heard-is line now t {f} {e} pf pe h =
     by-test (eqb (t .state) F1)
     (λ z. rw (h, z))
-    (λ z. rw (h, z, happens-void e (now .0) (t .t3) (t .access) (t .state) (f .alignment), pe, pf))
+    (λ z. rw (h, z, happens-void e (now .0) (aligned (f .alignment) t), pe, pf))
 
 -- 5: `ar`, where record and period are in range
 ready-fits : (now : Periods) (t : Terminal) → ready now t ≡ true → terminalInRange t ≡ true

@@ -184,7 +184,7 @@ module _ (line : Downward) (now : ℕ) (t : Terminal) (on : eqb (t .state) F1 �
 pub timer-notes : (now : ℕ) (t : Terminal) → due (t .t3) now ≡ true → noted (timer now t .notes) ≡ noted (cellNotes (cellOf table62 T3-ROW (t .state)))
 unfolding timer noTimer droppedNote
 timer-notes now t d =
-    rw (d, happens-notes T3-ROW now (record { t3 = 0; access = t .access; state = t .state; alignment = t .alignment }), kept-access (t .state) (nextState T3-ROW (t .state)) (t .access) (t3-keeps-F7 (t .state)))
+    rw (d, happens-notes T3-ROW now (noTimer t), kept-access (t .state) (nextState T3-ROW (t .state)) (t .access) (t3-keeps-F7 (t .state)))
 
 -- Every note is an indication of table 6-2, DROPPED1 or DROPPED2.
 abbrev pub isTerminalNote : ℕ → Bool

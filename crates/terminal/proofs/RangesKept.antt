@@ -29,7 +29,7 @@ use Rattle.dchannel.specs.Ranges.{accessInRange}
 use Rattle.dchannel.specs.declared.access.Access.{Access}
 use Rattle.dchannel.specs.declared.access.Class.{Class}
 use Rattle.dchannel.proofs.RangesKept as dchannel
-use Rattle.terminal.specs.Terminal.{fresh, accessAfter, acts, moved, happens, aligned, noTimer, bars, switchesOn, switchesOff, requests, timer, heardAs, hears}
+use Rattle.terminal.specs.Terminal.{fresh, withAccess, accessAfter, acts, moved, happens, aligned, noTimer, bars, switchesOn, switchesOff, requests, timer, heardAs, hears}
 use Rattle.terminal.specs.Calls.{terminalInRange, ready, checked, switchOnCall, switchOffCall, requestCall, timerCall, hearCall, handOverCall, holding, handsOver}
 use Rattle.terminal.specs.declared.Terminal.{Terminal}
 use Rattle.terminal.specs.declared.TerminalStep.{TerminalStep}
@@ -94,7 +94,7 @@ no-timer-fits t f =
     record { from-F1 = f .from-F1; to-F8 = f .to-F8; t3-fits = omega arith; alignment-fits = f .alignment-fits; access-fits = f .access-fits }
 
 -- The record with another access, as a D opportunity or a hand-over leaves it.
-pub access-put : (a : Access) (t : Terminal) → accessInRange normal2 a ≡ true → TerminalFits t → TerminalFits (record { t3 = t .t3; access = a; state = t .state; alignment = t .alignment })
+pub access-put : (a : Access) (t : Terminal) → accessInRange normal2 a ≡ true → TerminalFits t → TerminalFits (withAccess a t)
 access-put a t h f =
     record { from-F1 = f .from-F1; to-F8 = f .to-F8; t3-fits = f .t3-fits; alignment-fits = f .alignment-fits; access-fits = h }
 

@@ -18,7 +18,7 @@ use Rattle.timing.specs.Timers.{T3}
 use Rattle.timing.specs.declared.counts.Periods.{Periods}
 use Rattle.alignment.specs.Alignment.{alignmentInRange}
 use Rattle.heard_line.specs.declared.heard.Downward.{Downward}
-use Rattle.terminal.specs.Terminal.{unchanged, switchesOn, switchesOff, requests, timer, hears}
+use Rattle.terminal.specs.Terminal.{withAccess, unchanged, switchesOn, switchesOff, requests, timer, hears}
 use Rattle.terminal.specs.declared.Terminal.{Terminal}
 use Rattle.terminal.specs.declared.TerminalStep.{TerminalStep}
 
@@ -56,12 +56,7 @@ hearCall line now t = checked (hears line) now t
 
 -- What the access answers to a hand-over, taken into the record.
 unfoldable pub holding : Handed → Terminal → TerminalStep
-holding h t =
-    record {
-      terminal = record { t3 = t .t3; access = h .access; state = t .state; alignment = t .alignment };
-      notes = packedNotes [];
-      reply = h .reply;
-    }
+holding h t = record { terminal = withAccess (h .access) t; notes = packedNotes []; reply = h .reply }
 
 -- A frame whose image has n bits is handed over: refusal 6 outside F7, then 7 and 8.
 unfoldable pub handsOver : Class → ℕ → Terminal → TerminalStep

@@ -1,8 +1,8 @@
 -- Rules: a terminal (document 01, "Activation", "Order inside a period" and "D access (6.1)"). An
 -- event finds its cell in table 6-2, and the cell says what becomes of the record.
--- Interface: `fresh`, `unchanged`, `accessAfter`, `droppedNote`, `moved`, `acts`, `happens`,
--- `aligned`, `noTimer`, `bars`, `switchesOn`, `switchesOff`, `requests`, `timer`, `heardAs`,
--- `hears`. Assumes nothing.
+-- Interface: `fresh`, `withFields`, `withAccess`, `unchanged`, `accessAfter`, `droppedNote`,
+-- `moved`, `acts`, `happens`, `aligned`, `noTimer`, `bars`, `switchesOn`, `switchesOff`,
+-- `requests`, `timer`, `heardAs`, `hears`. Assumes nothing.
 use mathlib.Core.Bool.{Bool, false, cond, not, _||_}
 use mathlib.Core.List.{List, [], _∷_, _++_}
 use Prim.Native.Nat.{ℕ}
@@ -31,6 +31,14 @@ use Rattle.terminal.specs.declared.TerminalStep.{TerminalStep}
 abbrev pub fresh : Terminal
 fresh = record { t3 = 0; access = dchannel.fresh; state = F1; alignment = alignment.fresh }
 
+-- The record with these fields, and what else it has as it was: every change of a terminal is one
+-- of these, so that nothing else names all of its fields.
+abbrev pub withFields : ℕ → Access → ℕ → Alignment → Terminal → Terminal
+withFields t3 access state alignment t = record { t3 = t3; access = access; state = state; alignment = alignment }
+
+abbrev pub withAccess : Access → Terminal → Terminal
+withAccess a t = withFields (t .t3) a (t .state) (t .alignment) t
+
 -- Nothing happens, and the reply is k.
 abbrev pub unchanged : ℕ → Terminal → TerminalStep
 unchanged k t = record { terminal = t; notes = packedNotes []; reply = k }
@@ -52,12 +60,7 @@ droppedNote class = cond (eqb class 1) (DROPPED1 ∷ []) (cond (eqb class 2) (DR
 -- The next state, with a cell's timer action.
 unfoldable pub moved : ℕ → ℕ → ℕ → Terminal → Terminal
 moved next action now t =
-    record {
-      t3 = timerAfter T3 action now (t .t3);
-      access = accessAfter (t .state) next (t .access) .access;
-      state = next;
-      alignment = t .alignment;
-    }
+    withFields (timerAfter T3 action now (t .t3)) (accessAfter (t .state) next (t .access) .access) next (t .alignment) t
 
 -- What a cell does in period now: "D notes, dropped1 and dropped2 among them, come before the
 -- table's". "A cell that is impossible there changes nothing, save for requests (refusal 5)":
@@ -79,10 +82,10 @@ happens event now t = acts (cellOf table62 event (t .state)) now t
 
 -- The record with another alignment; and with T3 not running.
 unfoldable pub aligned : Alignment → Terminal → Terminal
-aligned a t = record { t3 = t .t3; access = t .access; state = t .state; alignment = a }
+aligned a t = withFields (t .t3) (t .access) (t .state) a t
 
 unfoldable pub noTimer : Terminal → Terminal
-noTimer t = record { t3 = 0; access = t .access; state = t .state; alignment = t .alignment }
+noTimer t = withFields 0 (t .access) (t .state) (t .alignment) t
 
 -- Reason 5 for a terminal, by an event's number in table 6-2 and the state: "`on` outside F1, `off`
 -- in F1, `ar` in F1, F2, F4, F5, F7".

@@ -119,9 +119,7 @@ impl Terminal {
         if self.in_range() {
             if self.state == F7 {
                 let handed = self.access.hand(class, length);
-                Terminal::of(self.t3, handed.access, self.state, self.alignment).unchanged(
-                    handed.reply,
-                )
+                self.with_access(handed.access).unchanged(handed.reply)
             } else {
                 self.unchanged(6)
             }
@@ -170,14 +168,15 @@ impl Terminal {
         ensures { λ r. ⌜ r ≡ calls.checked
             (λ p t. cond holds
             (cond (isVoid (cellOf table62 event (t .state)))
-            (spec.unchanged barred (record { t3 = t3; access = t .access; state = t .state; alignment = alignment }))
-            (spec.happens event p (record { t3 = t3; access = t .access; state = t .state; alignment = alignment })))
+            (spec.unchanged barred (spec.withFields t3 (t .access) (t .state) alignment t))
+            (spec.happens event p (spec.withFields t3 (t .access) (t .state) alignment t)))
             (spec.unchanged reply t))
             now self ⌝ }
     {
         if self.in_range() & now.in_range() {
             if holds {
-                Terminal::of(t3, self.access, self.state, alignment).happens(barred, event, now)
+                self.with_fields(t3, self.access, self.state, alignment)
+                    .happens(barred, event, now)
             } else {
                 self.unchanged(reply)
             }
@@ -208,9 +207,9 @@ impl Terminal {
         }
     }
 
-    // Gives the record with these fields.
-    fn of(t3: u64, access: Access, state: u8, alignment: Alignment) -> Self
-        ensures { λ r. ⌜ r ≡ record { t3 = t3; access = access; state = state; alignment = alignment } ⌝ }
+    // Gives the record with these fields, and what else it has as it was.
+    pub fn with_fields(self, t3: u64, access: Access, state: u8, alignment: Alignment) -> Self
+        ensures { λ r. ⌜ r ≡ spec.withFields t3 access state alignment self ⌝ }
     {
         Terminal {
             t3,
@@ -218,6 +217,13 @@ impl Terminal {
             state,
             alignment,
         }
+    }
+
+    // Gives the record with another D access.
+    pub fn with_access(self, access: Access) -> Self
+        ensures { λ r. ⌜ r ≡ spec.withAccess access self ⌝ }
+    {
+        self.with_fields(self.t3, access, self.state, self.alignment)
     }
 
     // Moves to a cell's next state, with the cell's timer action; its notes come after the note of
@@ -228,10 +234,8 @@ impl Terminal {
     {
         let way = access_after(self.state, next, self.access);
         let t3 = timer_after(T3, action, now, self.t3);
-        Terminal::of(t3, way.access, next, self.alignment).stays(
-            after_dropped(way.dropped, notes),
-            0,
-        )
+        self.with_fields(t3, way.access, next, self.alignment)
+            .stays(after_dropped(way.dropped, notes), 0)
     }
 
     // Takes an event of table 6-2: does what its cell says and replies 0; where the cell is

@@ -6,6 +6,7 @@ use Prim.Native.Nat.{ℕ}
 use lib.Dec.{eqb}
 use borrow.Author.Tests.{eq-eqb, ne-eqb}
 use Rattle.table_6_2.specs.Table62.{F7}
+use Rattle.terminal.specs.Terminal.{withAccess}
 use Rattle.terminal.specs.declared.Terminal.{Terminal}
 use Rattle.lone_sender.specs.Lone.{followed}
 use Rattle.lone_sender.specs.declared.lone.LoneSender.{LoneSender}
@@ -13,14 +14,8 @@ use Rattle.lone_sender.proofs.follow.follow_one.Statement.{statement}
 use Rattle.lone_sender.proofs.follow.follow_one.Tie as tie
 
 in-F7 : (s : LoneSender) (i : ℕ) (t : Terminal) (sent : ℕ) (last : Bool) → eqb (t .state) F7 ≡ true → sent ≡ cond (eqb i (s .at)) (s .sent) (t .access .sent) → last ≡ cond (eqb i (s .at)) (s .last) (t .access .last)
-    → _≡_ {A = Terminal}
-    (record {
-      t3 = t .t3;
-      access = record { length = t .access .length; sent = sent; count = s .count; held = t .access .held; low1 = t .access .low1; low2 = t .access .low2; last = last };
-      state = t .state;
-      alignment = t .alignment;
-    })
-    (followed s i t)
+    → withAccess (record { length = t .access .length; sent = sent; count = s .count; held = t .access .held; low1 = t .access .low1; low2 = t .access .low2; last = last }) t
+    ≡ followed s i t
 unfolding followed
 in-F7 s i t sent last h is-sent is-last = rw (h, is-sent, is-last)
 

@@ -10,8 +10,8 @@ in-range-requires c κs = search needs
 hand-requires : tie.Need-hand-requires
 hand-requires c κs = search needs
 
-of-requires : tie.Need-of-requires
-of-requires c κs = search needs
+with-access-requires : tie.Need-with-access-requires
+with-access-requires c κs = search needs
 
 unchanged-requires : tie.Need-unchanged-requires
 unchanged-requires c κs = search needs
@@ -24,7 +24,7 @@ unchanged-requires-3 c κs = search needs
 
 returns : tie.Need-returns
 unfolding handOverCall handsOver holding
-returns c = simp (c .unchanged .ensures, c .before .of .ensures, c .before .before .hand .ensures, eq-eqb _ _ (c .before .before .before .if2 .taken), c .before .before .before .before .before .if1 .taken, ← c .before .before .before .before .before .before .in-range .ensures)
+returns c = simp (c .unchanged .ensures, c .before .with-access .ensures, c .before .before .hand .ensures, eq-eqb _ _ (c .before .before .before .if2 .taken), c .before .before .before .before .before .if1 .taken, ← c .before .before .before .before .before .before .in-range .ensures)
 
 returns-2 : tie.Need-returns-2
 unfolding handOverCall handsOver holding
@@ -40,7 +40,7 @@ hand-over-spec =
     (tie.spec
     in-range-requires
     hand-requires
-    of-requires
+    with-access-requires
     unchanged-requires
     unchanged-requires-2
     unchanged-requires-3

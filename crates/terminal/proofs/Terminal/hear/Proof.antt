@@ -1,3 +1,4 @@
+use Rattle.terminal.specs.Terminal.{aligned}
 use Rattle.terminal.specs.Calls.{checked}
 use Rattle.terminal.proofs.Barred.{heard-is}
 use borrow.Author.Needs.{needs}
@@ -14,7 +15,7 @@ when-requires : tie.Need-when-requires
 when-requires c κs = search needs
 
 returns : tie.Need-returns
-unfolding checked
+unfolding checked aligned
 returns c =
     let given = c .before .before .before .before .args in
     heard-is (given .line) (given .now) (given .self) (c .before .before .before .follow .ensures) (c .before .event .ensures) (c .when .ensures)

@@ -10,8 +10,8 @@ in-range-requires c κs = search needs
 in-range-requires-2 : tie.Need-in-range-requires-2
 in-range-requires-2 c κs = search needs
 
-of-requires : tie.Need-of-requires
-of-requires c κs = search needs
+with-fields-requires : tie.Need-with-fields-requires
+with-fields-requires c κs = search needs
 
 happens-requires : tie.Need-happens-requires
 happens-requires c κs = search needs
@@ -24,7 +24,7 @@ unchanged-requires-2 c κs = search needs
 
 returns : tie.Need-returns
 unfolding checked
-returns c = simp (c .happens .ensures, c .before .of .ensures, c .before .before .if2 .taken, ready-both (c .before .before .before .before .before .before .args .now) (c .before .before .before .before .before .before .args .self) (c .before .before .before .before .before .in-range .ensures) (c .before .before .before .before .in-range2 .ensures), c .before .before .before .if1 .taken)
+returns c = simp (c .happens .ensures, c .before .with-fields .ensures, c .before .before .if2 .taken, ready-both (c .before .before .before .before .before .before .args .now) (c .before .before .before .before .before .before .args .self) (c .before .before .before .before .before .in-range .ensures) (c .before .before .before .before .in-range2 .ensures), c .before .before .before .if1 .taken)
 
 returns-2 : tie.Need-returns-2
 unfolding checked
@@ -40,7 +40,7 @@ when-spec =
     (tie.spec
     in-range-requires
     in-range-requires-2
-    of-requires
+    with-fields-requires
     happens-requires
     unchanged-requires
     unchanged-requires-2
