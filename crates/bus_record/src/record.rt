@@ -37,56 +37,38 @@ impl BusRecord {
     pub fn with_counts(self, periods: Periods, opportunities: Opportunities) -> Self
         ensures { λ r. ⌜ r ≡ spec.withCounts periods opportunities self ⌝ }
     {
-        BusRecord {
-            network: self.network,
-            periods,
-            opportunities,
-            reader: self.reader,
-            echo: self.echo,
-            hit: self.hit,
-        }
+        let mut bus = self;
+        bus.periods = periods;
+        bus.opportunities = opportunities;
+        bus
     }
 
     // Gives the record with another network end, and with its reader.
     pub fn with_network(self, network: Network, reader: Reader) -> Self
         ensures { λ r. ⌜ r ≡ spec.withNetwork network reader self ⌝ }
     {
-        BusRecord {
-            network,
-            periods: self.periods,
-            opportunities: self.opportunities,
-            reader,
-            echo: self.echo,
-            hit: self.hit,
-        }
+        let mut bus = self;
+        bus.network = network;
+        bus.reader = reader;
+        bus
     }
 
     // Gives the record with another last D.
     pub fn with_echo(self, echo: bool) -> Self
         ensures { λ r. ⌜ r ≡ spec.withEcho echo self ⌝ }
     {
-        BusRecord {
-            network: self.network,
-            periods: self.periods,
-            opportunities: self.opportunities,
-            reader: self.reader,
-            echo,
-            hit: self.hit,
-        }
+        let mut bus = self;
+        bus.echo = echo;
+        bus
     }
 
     // Gives the record with a hit pending, or with none.
     pub fn with_hit(self, hit: bool) -> Self
         ensures { λ r. ⌜ r ≡ spec.withHit hit self ⌝ }
     {
-        BusRecord {
-            network: self.network,
-            periods: self.periods,
-            opportunities: self.opportunities,
-            reader: self.reader,
-            echo: self.echo,
-            hit,
-        }
+        let mut bus = self;
+        bus.hit = hit;
+        bus
     }
 
     // Tests whether every field is in its range.
