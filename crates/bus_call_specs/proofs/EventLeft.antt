@@ -41,7 +41,8 @@ use Rattle.bus_rules.proofs.Simulation.{Takes}
 use Rattle.bus_rules.proofs.Ranges.{network-does-called, terminal-does-called, hand-over-called, classGiven, class-given}
 use Rattle.exchange.specs.Part.{imageOf}
 use Rattle.bus_record.specs.NetworkSide.{leavesG3, readerAfter}
-use Rattle.bus_event.specs.Event.{imagesRoom, areLetters, takenOver, withHit, asked, networkAsked, imagePut, frameReason, frameGiven, terminalTold}
+use Rattle.bus_record.specs.Record.{withHit}
+use Rattle.bus_event.specs.Event.{imagesRoom, areLetters, takenOver, asked, networkAsked, imagePut, frameReason, frameGiven, terminalTold}
 use Rattle.bus_event.specs.Event as parts
 use Rattle.bus_call_specs.specs.Kept.{Kept, kept}
 use Rattle.bus_record.specs.Echo.{hitIn}
@@ -92,8 +93,8 @@ module _ (k : Kept) (b : Bus) (c : Carries k b) where
   taken value h = rw (eq-eqb (length value) (length (k .letters)) (letters-length value h ∙ sym (letters-length (k .letters) (c .letters-fit))))
 
   pub hit-carried : (value : List ℕ) → areLetters value ≡ true →
-      Carries (kept (withHit (k .bus)) (k .terminals) (k .images) (k .octets) (takenOver value (k .letters)) (k .notes)) (hitGiven value b)
-  unfolding withHit hitGiven hitIn
+      Carries (kept (withHit true (k .bus)) (k .terminals) (k .images) (k .octets) (takenOver value (k .letters)) (k .notes)) (hitGiven value b)
+  unfolding hitGiven hitIn
   hit-carried value h =
       record {
         periods-is = c .periods-is;

@@ -28,7 +28,7 @@ use Rattle.exchange.specs.Part.{imageBits, bitsFrom, imageOf}
 use Rattle.bus_record.specs.Record.{recordInRange}
 use Rattle.bus_record.specs.NetworkSide.{readerAfter}
 use Rattle.bus_record.specs.declared.record.BusRecord.{BusRecord}
-use Rattle.bus_event.specs.Event.{told, withHit, asked, networkAsked, networkTold, imagePut, frameReason, turnedDown, frameGiven, terminalTold}
+use Rattle.bus_event.specs.Event.{told, asked, networkAsked, networkTold, imagePut, frameReason, turnedDown, frameGiven, terminalTold}
 use Rattle.bus_event.specs.Laws.{ImagePut, EventRecordKept, EventTerminalKept}
 use Rattle.bus_event.proofs.ImagePlaces.{put-length, put-there, put-elsewhere}
 
@@ -69,7 +69,7 @@ reader-kept true r h = reader.fresh-in-range
 reader-kept false r h = h
 
 pub event-record-kept : EventRecordKept
-unfolding networkTold networkAsked asked told withHit recordInRange
+unfolding networkTold networkAsked asked told recordInRange
 event-record-kept event r h =
     let others : Bool = (networkInRange (r .network) && periodsInRange (r .periods)) && opportunitiesInRange (r .periods) (r .opportunities) in
     let most = and-left others (readerInRange (r .reader)) h in

@@ -3,7 +3,6 @@ ghost use mathlib.Core.Path.{_≡_};
 ghost use Rattle.slice_lemmas.specs.Over.{mapFrom};
 ghost use Rattle.lone_sender.specs.Lone.{followed};
 use super::lone::LoneSender;
-use dchannel::access::Access;
 use table_6_2::F7;
 use terminal::Terminal;
 
@@ -15,16 +14,13 @@ fn follow_one(lone: LoneSender, i: usize, t: Terminal) -> Terminal
     if t.state != F7 {
         return t;
     }
-    let before = t.access;
-    t.with_access(Access {
-        length: before.length,
-        sent: if i == lone.at { lone.sent } else { before.sent },
-        count: lone.count,
-        held: before.held,
-        low1: before.low1,
-        low2: before.low2,
-        last: if i == lone.at { lone.last } else { before.last },
-    })
+    let mut access = t.access;
+    access.count = lone.count;
+    if i == lone.at {
+        access.sent = lone.sent;
+        access.last = lone.last;
+    }
+    t.with_access(access)
 }
 
 // Brings all terminals from the run's start to its end.
