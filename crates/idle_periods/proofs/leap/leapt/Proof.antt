@@ -18,17 +18,20 @@ returns : tie.Need-returns
 unfolding leapt
 returns c = simp (lt-leb _ _ (c .if1 .taken))
 
-cast-t9 : tie.Need-cast-t9
-cast-t9 c = search needs
-
 counted-over-requires : tie.Need-counted-over-requires
 counted-over-requires c κs = search needs
 
+cast-t8 : tie.Need-cast-t8
+cast-t8 c = search needs
+
+with-counts-requires : tie.Need-with-counts-requires
+with-counts-requires c κs = search needs
+
 returns-2 : tie.Need-returns-2
 unfolding leapt
-returns-2 c = rw (c .counted-over .ensures) (simp (le-leb _ _ (c .before .before .before .if1 .left)))
+returns-2 c = rw (c .with-counts .ensures, c .before .counted-over .ensures) (simp (le-leb _ _ (c .before .before .if1 .left)))
 
 pub leapt-spec : {M : Type 1} → statement M
 leapt-spec =
     tie.close
-    (tie.spec cast-periods add-periods cast-if1 returns cast-t9 counted-over-requires returns-2)
+    (tie.spec cast-periods add-periods cast-if1 returns counted-over-requires cast-t8 with-counts-requires returns-2)
