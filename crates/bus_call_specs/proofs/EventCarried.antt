@@ -30,6 +30,7 @@ use Rattle.bus_event.specs.declared.event.Told.{Told}
 use Rattle.bus_call_specs.specs.Kept.{Kept, kept}
 use Rattle.bus_call_specs.specs.Event.{reason, terminalOf, atTerminal, eventTold, terminalsAfter, imagesAfter, lettersAfter}
 use Rattle.bus_call_specs.specs.Lists.{Carries, told, called, replied, notesTold}
+use Rattle.bus_call_specs.proofs.Fields.{periods-of}
 use Rattle.bus_call_specs.proofs.InOrder.{order-ranges}
 use Rattle.bus_call_specs.proofs.Fitting.{Fit, in-order}
 use Rattle.bus_call_specs.proofs.Refused.{refused-keeps}
@@ -60,7 +61,7 @@ module _ (k : Kept) (b : Bus) (c : Carries k b) (unit number : ℕ) (value : Lis
   tells-by e accepted =
       rw (replied-told ∙ e)
       (by-test (eqb (bus.reply b call) 0)
-      (λ t. rw t (ap (λ (n : ℕ). notesOf n unit (noted (told unit number value k .notes))) (c .periods-is) ∙ accepted t .0))
+      (λ t. rw t (ap (λ (n : ℕ). notesOf n unit (noted (told unit number value k .notes))) (periods-of (c .record-is)) ∙ accepted t .0))
       (λ t. rw t))
 
   carries-by : told unit number value k .reply ≡ bus.reply b call → (eqb (bus.reply b call) 0 ≡ true → Accepted) → Carries (called k call) (bus.after b call)

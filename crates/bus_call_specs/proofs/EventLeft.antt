@@ -14,7 +14,7 @@ use Rattle.notes_and_cells.specs.declared.cell.Cell.the-variants.{To, Stay, Imp
 use Rattle.table_6_3.specs.Table63.{table63, G3}
 use Rattle.table_6_3.specs.Table63 as Table63
 use Rattle.timing.specs.Calls.{atPeriod}
-use Rattle.hdlc.specs.Reading.{Reading}
+use Rattle.hdlc.specs.Reading.{Reading, cleared}
 use Rattle.d_reader.specs.ReaderRange.{readerInRange}
 use Rattle.d_reader.specs.StandsFor.{StandsFor}
 use Rattle.d_reader.specs.declared.Reader.{Reader}
@@ -32,7 +32,7 @@ use Rattle.terminal.specs.Terminal as terminal
 use Rattle.terminal.specs.Calls as terminalCalls
 use Rattle.terminal.specs.declared.Terminal.{Terminal}
 use Rattle.terminal.proofs.Laws.{AccessByState, switches-on-access, switches-off-access, requests-access}
-use Rattle.bus_rules.specs.Bus.{Station, Bus, terminals, freshStation, stationAt}
+use Rattle.bus_rules.specs.Bus.{Station, Hit, Bus, terminals, freshStation, stationAt, withNetwork, withHit}
 use Rattle.bus_rules.specs.Period.{readingAfter, stepped}
 use Rattle.bus_rules.specs.Event.{stationOf, classOf, eventFor, networkDoes, networkDone, hitGiven, terminalDoes, withFrame, stationAfter, stationDone}
 use Rattle.notes_and_cells.specs.Events.{ON, OFF, AR, DR, D1, D2}
@@ -41,13 +41,14 @@ use Rattle.bus_rules.proofs.Simulation.{Takes}
 use Rattle.bus_rules.proofs.Ranges.{network-does-called, terminal-does-called, hand-over-called, classGiven, class-given}
 use Rattle.exchange.specs.Part.{imageOf}
 use Rattle.bus_record.specs.NetworkSide.{leavesG3, readerAfter}
-use Rattle.bus_record.specs.Record.{withHit}
+use Rattle.bus_record.specs.Record as busRecord
 use Rattle.bus_event.specs.Event.{imagesRoom, areLetters, takenOver, asked, networkAsked, imagePut, frameReason, frameGiven, terminalTold}
 use Rattle.bus_event.specs.Event as parts
 use Rattle.bus_call_specs.specs.Kept.{Kept, kept}
 use Rattle.bus_record.specs.Echo.{hitIn}
 use Rattle.bus_call_specs.specs.Event.{imagesAfter}
 use Rattle.bus_call_specs.specs.Lists.{Carries, told}
+use Rattle.bus_call_specs.proofs.Fields.{periods-of, network-of}
 use Rattle.bus_call_specs.proofs.SameExchange.{SameBits, HasBits, has-stepped}
 use Rattle.bus_event.proofs.ImagePlaces.{put-length, put-there, put-elsewhere}
 use Rattle.bus_call_specs.proofs.Fitting.{Fit}
@@ -93,15 +94,11 @@ module _ (k : Kept) (b : Bus) (c : Carries k b) where
   taken value h = rw (eq-eqb (length value) (length (k .letters)) (letters-length value h ∙ sym (letters-length (k .letters) (c .letters-fit))))
 
   pub hit-carried : (value : List ℕ) → areLetters value ≡ true →
-      Carries (kept (withHit true (k .bus)) (k .terminals) (k .images) (k .octets) (takenOver value (k .letters)) (k .notes)) (hitGiven value b)
+      Carries (kept (busRecord.withHit true (k .bus)) (k .terminals) (k .images) (k .octets) (takenOver value (k .letters)) (k .notes)) (hitGiven value b)
   unfolding hitGiven hitIn
   hit-carried value h =
       record {
-        periods-is = c .periods-is;
-        opportunities-is = c .opportunities-is;
-        network-is = c .network-is;
-        heard-is = c .heard-is;
-        hit-is = rw (taken value h);
+        record-is = ap (withHit (Hit.given (takenOver value (k .letters)))) (c .record-is) ∙ rw (taken value h);
         terminals-are = c .terminals-are;
         images-are = c .images-are;
         reader-is = c .reader-is;
@@ -117,22 +114,18 @@ module _ (k : Kept) (b : Bus) (c : Carries k b) where
     pub asked-is : asked number (k .bus) ≡ networkDoes number (b .periods) (b .network)
     unfolding asked
     asked-is =
-        rw (c .network-is)
-        (ap (λ (n : ℕ). networkCalls.requestCall (cond (eqb number AR) Table63.AR-ROW Table63.DR-ROW) (atPeriod n) (b .network)) (c .periods-is)
+        rw (network-of (c .record-is))
+        (ap (λ (n : ℕ). networkCalls.requestCall (cond (eqb number AR) Table63.AR-ROW Table63.DR-ROW) (atPeriod n) (b .network)) (periods-of (c .record-is))
         ∙ network-does-called (b .periods) (f .in-range .periods-fit) number (b .network) (f .in-range .network-fits))
 
     pub asked-carried : Carries (kept (networkAsked number (k .bus) .bus) (k .terminals) (k .images) (k .octets) (k .letters) (k .notes)) (networkDone number b)
     unfolding networkAsked networkDone parts.told
     asked-carried =
         record {
-          periods-is = c .periods-is;
-          opportunities-is = c .opportunities-is;
-          network-is = rw asked-is;
-          heard-is = c .heard-is;
-          hit-is = c .hit-is;
+          record-is = ap (withNetwork (asked number (k .bus) .network) cleared) (c .record-is) ∙ rw asked-is;
           terminals-are = c .terminals-are;
           images-are = c .images-are;
-          reader-is = rw (asked-is, c .network-is) (stands-once (k .bus .reader) (k .octets) (b .reading) (c .reader-is) _ _);
+          reader-is = rw (asked-is, network-of (c .record-is)) (stands-once (k .bus .reader) (k .octets) (b .reading) (c .reader-is) _ _);
           reader-fits = reader-fits-on _ (k .bus .reader) (c .reader-fits);
           images-fit = c .images-fit;
           octets-fit = c .octets-fit;
@@ -169,7 +162,7 @@ module _ (k : Kept) (b : Bus) (c : Carries k b) (unit : ℕ) where
         let d = no-frame number none in
         let t = stationOf b unit .terminal in
         let now = atPeriod (b .periods) in
-        let period : k .bus .periods ≡ now = ap atPeriod (c .periods-is) in
+        let period : k .bus .periods ≡ now = ap atPeriod (periods-of (c .record-is)) in
         rw (terminal-there, period)
         (by-test (eqb number ON)
         (λ u. rw u (rw u at (terminal-does-called (b .periods) (f .in-range .periods-fit) number t (f .in-range .terminals-fit (unit - 1)))))
@@ -191,11 +184,7 @@ module _ (k : Kept) (b : Bus) (c : Carries k b) (unit : ℕ) where
     unfolding stationDone stepped
     power-carried =
         record {
-          periods-is = c .periods-is;
-          opportunities-is = c .opportunities-is;
-          network-is = c .network-is;
-          heard-is = c .heard-is;
-          hit-is = c .hit-is;
+          record-is = c .record-is;
           terminals-are =
               rw (c .terminals-are)
               (ap (λ (s : Station). set (map (λ (s : Station). s .terminal) (b .stations)) (unit - 1) (s .terminal)) (sym (station-power (stationOf b unit)))
@@ -289,11 +278,7 @@ module _ (k : Kept) (b : Bus) (c : Carries k b) (f : Fit b) (unit number : ℕ) 
   unfolding stationDone
   frame-carried =
       record {
-        periods-is = c .periods-is;
-        opportunities-is = c .opportunities-is;
-        network-is = c .network-is;
-        heard-is = c .heard-is;
-        hit-is = c .hit-is;
+        record-is = c .record-is;
         terminals-are =
             rw (c .terminals-are, frame-terminal)
             (ap (λ (s : Station). set (map (λ (s : Station). s .terminal) (b .stations)) (unit - 1) (s .terminal)) (sym (station-framed (stationOf b unit)))

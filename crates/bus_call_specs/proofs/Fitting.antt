@@ -22,6 +22,7 @@ use Rattle.bus_call_specs.specs.Ready.{runReply}
 use Rattle.bus_call_specs.specs.Lists.{Carries}
 use Rattle.bus_call_specs.proofs.InOrder as ready
 use Rattle.bus_call_specs.proofs.InOrder.{all-fit, order-reply}
+use Rattle.bus_call_specs.proofs.Fields.{periods-of, opportunities-of, network-of}
 use Rattle.bus_call_specs.proofs.Pairs.{Both, none, one}
 use Rattle.bus_call_specs.proofs.SameExchange.{AccessInOrder, SameStation, SameBus, HasBits}
 
@@ -50,9 +51,9 @@ module _ (k : Kept) (b : Bus) (c : Carries k b) (f : Fit b) where
       record {
         eight = rw (c .terminals-are) (length-map (b .stations) _ ∙ r .eight);
         terminals-fit = rw (c .terminals-are) (all-fit (b .stations) (r .terminals-fit));
-        network-fits = rw (c .network-is) (r .network-fits);
-        periods-fit = rw (c .periods-is) (r .periods-fit);
-        opportunities-fit = rw (c .periods-is, c .opportunities-is) (r .opportunities-fit);
+        network-fits = rw (network-of (c .record-is)) (r .network-fits);
+        periods-fit = rw (periods-of (c .record-is)) (r .periods-fit);
+        opportunities-fit = rw (periods-of (c .record-is), opportunities-of (c .record-is)) (r .opportunities-fit);
         reader-fits = c .reader-fits;
         images-fit = c .images-fit;
         octets-fit = c .octets-fit;
@@ -62,7 +63,7 @@ module _ (k : Kept) (b : Bus) (c : Carries k b) (f : Fit b) where
 
   -- the one refusal of a period that is left: 9
   pub run-reply : runReply 1 k ≡ cond (leb mostPeriods (b .periods)) 9 0
-  run-reply = order-reply 1 k in-order ∙ rw (c .periods-is)
+  run-reply = order-reply 1 k in-order ∙ rw (periods-of (c .record-is))
 
 -- ---- the bus that is shown
 stations-shown : (images : List ℕ) (i : ℕ) (ss : List Station) → ((j : ℕ) → HasBits (imageOf images (i + j)) (getD ss j freshStation)) →
@@ -79,10 +80,6 @@ pub bus-shown : (k : Kept) (b : Bus) → Carries k b → Fit b → SameBus (busI
 unfolding busIn
 bus-shown k b c f =
     record {
-      periods-is = c .periods-is;
-      opportunities-is = c .opportunities-is;
-      network-is = c .network-is;
-      heard-is = c .heard-is;
-      hit-is = c .hit-is;
+      bare-same = c .record-is;
       stations = rw (c .terminals-are) (stations-shown (k .images) 0 (b .stations) (λ j. let z : 0 + j ≡ j = omega arith in rw z (f .in-order j, c .images-are j)));
     }

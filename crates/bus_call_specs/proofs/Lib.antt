@@ -17,6 +17,7 @@ pub mod Pairs
 pub mod SameExchange
 pub mod ReaderCarried
 pub mod SameNotes
+pub mod Fields
 pub mod Fitting
 pub mod PeriodCarried
 pub mod EventLeft

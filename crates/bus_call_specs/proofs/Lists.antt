@@ -45,11 +45,7 @@ places-carried : (k : Kept) (b : Bus) (places : List UnitNotes) → length place
     → Carries (kept (k .bus) (k .terminals) (k .images) (k .octets) (k .letters) places) b
 places-carried k b places l c =
     record {
-      periods-is = c .periods-is;
-      opportunities-is = c .opportunities-is;
-      network-is = c .network-is;
-      heard-is = c .heard-is;
-      hit-is = c .hit-is;
+      record-is = c .record-is;
       terminals-are = c .terminals-are;
       images-are = c .images-are;
       reader-is = c .reader-is;
@@ -191,11 +187,7 @@ pub fresh-carries : (images octets letters : List ℕ) → length images ≡ ima
 unfolding hitIn
 fresh-carries images octets letters i o l =
     record {
-      periods-is = refl;
-      opportunities-is = refl;
-      network-is = refl;
-      heard-is = refl;
-      hit-is = refl;
+      record-is = refl;
       terminals-are = refl;
       images-are = λ i j h k. absurd (omega (arith, fresh-held i));
       reader-is = stands-fresh octets;

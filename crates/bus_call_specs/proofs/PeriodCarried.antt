@@ -31,6 +31,7 @@ use Rattle.bus_call_specs.specs.Period.{dRead, leftG3, readerRun, octets
 use Rattle.bus_call_specs.specs.Ready.{runReply, runGoesOn}
 use Rattle.bus_call_specs.specs.Run.{SinglePeriod, answerOn, keptOn, notYet, runAnswer, keptAfter}
 use Rattle.bus_call_specs.specs.Lists.{Carries, called, replied, notesTold, readerTold, periodTold}
+use Rattle.bus_call_specs.proofs.Fields.{periods-of}
 use Rattle.bus_call_specs.proofs.SameExchange.{SameBus, period-same, terminals-same, has-period}
 use Rattle.bus_call_specs.proofs.ReaderCarried.{stands-left, reading-exchanged, said-exchanged, note-said}
 use Rattle.bus_call_specs.proofs.SameNotes.{read-same, left-same, mask-same, network-notes-same, terminals-notes-same, done-notes, hearing-told, timers-told}
@@ -70,11 +71,7 @@ module _ (k : Kept) (b : Bus) (c : Carries k b) (f : Fit b) where
   run-carried =
       let p = period-same (busIn k) b same in
       record {
-        periods-is = p .periods-is;
-        opportunities-is = p .opportunities-is;
-        network-is = p .network-is;
-        heard-is = p .heard-is;
-        hit-is = refl;
+        record-is = p .bare-same;
         terminals-are = terminals-same _ _ p;
         images-are = λ i. has-period (imageOf (k .images) i) i b (f .in-order i, c .images-are i) .1;
         reader-is = reader-stands;
@@ -113,7 +110,7 @@ module _ (k : Kept) (b : Bus) (c : Carries k b) (f : Fit b) where
   unfolding keptRun periodAnswer
   run-told =
       rw (terminals-notes-same (busIn k) b same)
-      (ap (λ (n : ℕ). periodTold n (periodAnswer k) (terminalsNotes b) (octetsRun k)) (c .periods-is)
+      (ap (λ (n : ℕ). periodTold n (periodAnswer k) (terminalsNotes b) (octetsRun k)) (periods-of (c .record-is))
       ∙ period-told (periodAnswer k) refl refl (network-notes-same (busIn k) b same) (mask-same (busIn k) b same 1) (mask-same (busIn k) b same 2))
 
   -- ---- the call: refused by 9, or one period

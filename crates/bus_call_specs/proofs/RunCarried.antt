@@ -24,6 +24,7 @@ use Rattle.bus_call_specs.specs.Period.{periodAnswer, keptRun}
 use Rattle.bus_call_specs.specs.Ready.{runReason, runReply, runGoesOn}
 use Rattle.bus_call_specs.specs.Run.{answerOn, keptOn, notYet, runAnswer, keptAfter}
 use Rattle.bus_call_specs.specs.Lists.{Carries, called, replied, RunOfRules, RunCarried, NoPeriodsRun, NoPeriodsCarried}
+use Rattle.bus_call_specs.proofs.Fields.{periods-of}
 use Rattle.bus_call_specs.proofs.InOrder.{order-reply}
 use Rattle.bus_call_specs.proofs.RunSingle.{period-single}
 use Rattle.bus_call_specs.proofs.Fitting.{Fit, always-fit, in-order, run-reply}
@@ -58,7 +59,7 @@ module _ (k : Kept) (b : Bus) (c : Carries k b) (f : Fit b) where
 
   left-same : allRun (periodAnswer k .bus .periods) ≡ leb mostPeriods (periodRun b .periods)
   unfolding keptRun
-  left-same = ap (leb mostPeriods) (run-carried k b c f .periods-is)
+  left-same = ap (leb mostPeriods) (periods-of (run-carried k b c f .record-is))
 
   reply-is : runAnswer 1 k .reply ≡ bus.reply b period
   unfolding replied

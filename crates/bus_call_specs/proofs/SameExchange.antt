@@ -1,9 +1,9 @@
 -- The exchange of a period does not depend on an image's bits past those of the frame held, nor on the reader: of two buses that differ only
 -- there, E, D, what is completed and what is heard are the same.
-use mathlib.Core.Path.{_≡_, refl, _∙_}
-use mathlib.Core.Bool.{Bool, true}
+use mathlib.Core.Path.{_≡_, refl, _∙_, ap}
+use mathlib.Core.Bool.{Bool, true, cond}
 use mathlib.Core.List.{List, map}
-use Prim.Native.Nat.{ℕ, _≤_, _<_}
+use Prim.Native.Nat.{ℕ, _+_, _≤_, _<_}
 use native.Mathlib.Omega.{arith}
 use lib.Dec.{eqb}
 use lib.ListN.{length, getD}
@@ -15,14 +15,19 @@ use Rattle.dchannel.specs.declared.access.Access.{Access}
 use Rattle.dchannel.specs.declared.access.AccessStep.{AccessStep}
 use Rattle.dchannel.proofs.AccessLaws.{by-ways, may-held, access-step-next}
 use Rattle.table_6_2.specs.Table62.{F7}
+use Rattle.table_6_3.specs.Table63.{G3}
+use Rattle.hdlc.specs.Reading.{cleared}
+use Rattle.network.specs.Network as network
 use Rattle.terminal.specs.Terminal as terminal
 use Rattle.terminal.specs.declared.Terminal.{Terminal}
 use Rattle.terminal.specs.declared.TerminalStep.{TerminalStep}
 use Rattle.terminal.proofs.Laws.{AccessByState, hears-access, timer-access}
-use Rattle.bus_rules.specs.Bus.{Station, Bus, stationAt}
+use Rattle.bus_rules.specs.Bus.{Station, Hit, Bus, stationAt, withCounts, withNetwork, withHeardD, withHit}
 use Rattle.bus_rules.specs.Exchange.{Sender, Opportunity, inF7, accessStepOf, stationAfterE, dOf, doneOf, hearsE, sentOf, lineUp, eComes, sendersAfter, dComes, onward, asSender, begins, opportunitiesOf, exchanged, wholeDown, wholeUp}
 use Rattle.bus_rules.specs.Period.{networkHears, terminalHears, stepped, heardBy, timed, periodRun}
 use Rattle.bus_rules.proofs.Stations.{station-begins, station-onward, station-heard, station-timed}
+use Rattle.bus_call_specs.specs.Shown.{bare}
+use Rattle.bus_call_specs.proofs.Fields.{periods-of, opportunities-of, network-of, heard-of, hit-of}
 use Rattle.bus_call_specs.proofs.Pairs.{Both, both-map, both-equal}
 
 -- ---- the frame held
@@ -201,11 +206,7 @@ module _ (m n : Opportunity) (h : SameOpportunity m n) where
 
 -- ---- two buses that differ only there
 pub record SameBus (b c : Bus) : Type 0 where
-  pub periods-is : b .periods ≡ c .periods
-  pub opportunities-is : b .opportunities ≡ c .opportunities
-  pub network-is : b .network ≡ c .network
-  pub heard-is : b .heardD ≡ c .heardD
-  pub hit-is : b .hit ≡ c .hit
+  pub bare-same : bare b ≡ bare c
   pub stations : Both SameStation (b .stations) (c .stations)
 
 hears-by-state : (down : List ℕ) (now : ℕ) (t : Terminal) → AccessByState (terminalHears down now) t
@@ -216,15 +217,21 @@ station-of-sender : (s t : Sender) → SameSender s t → SameStation (s .statio
 station-of-sender s t h = h .station
 
 module _ (b c : Bus) (h : SameBus b c) where
+  pub periods-same : b .periods ≡ c .periods
+  periods-same = periods-of (h .bare-same)
+
+  pub network-same : b .network ≡ c .network
+  network-same = network-of (h .bare-same)
+
   begins-same : SameOpportunity (begins b) (begins c)
   unfolding begins
   begins-same =
       record {
-        network-is = rw (h .network-is);
-        hit-is = h .hit-is;
+        network-is = rw network-same;
+        hit-is = hit-of (h .bare-same);
         senders = both-map SameStation SameSender asSender asSender sender-stationed (h .stations);
         es-are = refl;
-        heard-is = h .heard-is;
+        heard-is = heard-of (h .bare-same);
       }
 
   first : SameOpportunity (onward (begins b)) (onward (begins c))
@@ -247,7 +254,7 @@ module _ (b c : Bus) (h : SameBus b c) where
 
   -- what is heard of the lines
   pub network-hears-same : networkHears (wholeUp (exchanged b)) (b .periods) (b .network) ≡ networkHears (wholeUp (exchanged c)) (c .periods) (c .network)
-  network-hears-same = rw (up-same _ _ exchanged-same, h .periods-is, h .network-is)
+  network-hears-same = rw (up-same _ _ exchanged-same, periods-same, network-same)
 
   -- hearing, then the timers
   pub heard-same : SameBus (heardBy (exchanged b) b) (heardBy (exchanged c) c)
@@ -255,13 +262,11 @@ module _ (b c : Bus) (h : SameBus b c) where
   heard-same =
       let step = terminalHears (wholeDown (exchanged c)) (c .periods) in
       record {
-        periods-is = rw (h .periods-is);
-        opportunities-is = rw (h .network-is, h .opportunities-is);
-        network-is = rw network-hears-same;
-        heard-is = exchanged-same .heard-is;
-        hit-is = refl;
+        bare-same =
+            ap (λ (x : Bus). withCounts (b .periods + 1) (b .opportunities + cond (eqb (b .network .state) G3) 4 0) (withNetwork (networkHears (wholeUp (exchanged b)) (b .periods) (b .network) .network) cleared (withHeardD (exchanged b .heardD) (withHit Hit.none x)))) (h .bare-same)
+            ∙ rw (network-hears-same, exchanged-same .heard-is, network-same, periods-same, opportunities-of (h .bare-same));
         stations =
-            rw (down-same _ _ exchanged-same, h .periods-is)
+            rw (down-same _ _ exchanged-same, periods-same)
             (both-map SameStation SameStation (stepped step) (stepped step) (station-stepped step (hears-by-state _ _))
             (both-map SameSender SameStation (λ (s : Sender). s .station) (λ (s : Sender). s .station) station-of-sender (exchanged-same .senders)));
       }
@@ -270,13 +275,10 @@ module _ (b c : Bus) (h : SameBus b c) where
   unfolding timed
   timed-same =
       record {
-        periods-is = h .periods-is;
-        opportunities-is = h .opportunities-is;
-        network-is = rw (h .periods-is, h .network-is);
-        heard-is = h .heard-is;
-        hit-is = h .hit-is;
+        bare-same =
+            ap (withNetwork (network.timers (b .periods) (b .network) .network) cleared) (h .bare-same) ∙ rw (network-same, periods-same);
         stations =
-            rw (h .periods-is)
+            rw periods-same
             (both-map SameStation SameStation (stepped (terminal.timer (c .periods))) (stepped (terminal.timer (c .periods)))
             (station-stepped (terminal.timer (c .periods)) (timer-access (c .periods))) (h .stations));
       }

@@ -22,17 +22,17 @@ use Rattle.period_hearing.specs.Shown.{heardNotes, timedNotes, terminalNotes}
 use Rattle.bus_call_specs.specs.Period.{dRead, leftG3, doneMask, networkNotes, terminalsNotes}
 use Rattle.bus_call_specs.specs.Lists.{doneNotes, terminalsHeard, terminalsTimed}
 use Rattle.bus_call_specs.proofs.Pairs.{both-equal}
-use Rattle.bus_call_specs.proofs.SameExchange.{SameSender, SameBus, exchanged-same, ds-same, down-same, network-hears-same, heard-same, period-same}
+use Rattle.bus_call_specs.proofs.SameExchange.{SameSender, SameBus, periods-same, network-same, exchanged-same, ds-same, down-same, network-hears-same, heard-same, period-same}
 
 -- ---- the same of two such buses
 module _ (a b : Bus) (h : SameBus a b) where
   pub read-same : dRead a ≡ dRead b
   unfolding dRead
-  read-same = rw (ds-same a b h, h .network-is)
+  read-same = rw (ds-same a b h, network-same a b h)
 
   pub left-same : leftG3 a ≡ leftG3 b
   unfolding leftG3
-  left-same = rw (period-same a b h .network-is, heard-same a b h .network-is, h .network-is)
+  left-same = rw (network-same _ _ (period-same a b h), network-same _ _ (heard-same a b h), network-same a b h)
 
   pub mask-same : (class : ℕ) → doneMask class a ≡ doneMask class b
   unfolding doneMask doneOctet
@@ -42,7 +42,7 @@ module _ (a b : Bus) (h : SameBus a b) where
 
   pub network-notes-same : networkNotes a ≡ networkNotes b
   unfolding networkNotes
-  network-notes-same = rw (network-hears-same a b h, heard-same a b h .network-is, h .periods-is)
+  network-notes-same = rw (network-hears-same a b h, network-same _ _ (heard-same a b h), periods-same a b h)
 
   pub terminals-notes-same : terminalsNotes a ≡ terminalsNotes b
   unfolding terminalsNotes
@@ -50,7 +50,7 @@ module _ (a b : Bus) (h : SameBus a b) where
       both-equal SameSender
       (λ (s : Sender). terminalNotes (shownDown (wholeDown (exchanged a))) (a .periods) (s .station .terminal))
       (λ (s : Sender). terminalNotes (shownDown (wholeDown (exchanged b))) (b .periods) (s .station .terminal))
-      (λ s t e. rw (down-same _ _ (exchanged-same a b h), h .periods-is, e .station .terminal-is))
+      (λ s t e. rw (down-same _ _ (exchanged-same a b h), periods-same a b h, e .station .terminal-is))
       (exchanged-same a b h .senders)
 
 -- ---- a bit for each frame completed

@@ -34,8 +34,8 @@ use Rattle.bus_record.specs.NetworkSide.{noNotes}
 use Rattle.bus_event.specs.Event.{imagesRoom, areLetters}
 use Rattle.bus_record.specs.declared.side.RunAnswer.{RunAnswer}
 use Rattle.bus_event.specs.declared.event.Told.{Told}
+use Rattle.bus_call_specs.specs.Shown.{recordShown, bare}
 use Rattle.bus_call_specs.specs.Kept.{Kept, kept, found, settled}
-use Rattle.bus_record.specs.Echo.{hitIn}
 use Rattle.bus_call_specs.specs.Ready.{eightInRange, lentFits, runGoesOn}
 use Rattle.bus_call_specs.specs.Run.{runAnswer, keptAfter}
 use Rattle.bus_call_specs.specs.Event.{eventTold, terminalsAfter, imagesAfter, lettersAfter}
@@ -105,11 +105,8 @@ notesTold k period =
 
 -- ---- Which bus a record and what is lent with it stand for.
 pub record Carries (k : Kept) (b : Bus) : Type 0 where
-  pub periods-is : k .bus .periods .0 ≡ b .periods
-  pub opportunities-is : k .bus .opportunities .0 ≡ b .opportunities
-  pub network-is : k .bus .network ≡ b .network
-  pub heard-is : k .bus .echo ≡ b .heardD
-  pub hit-is : hitIn (k .bus .hit) (k .letters) ≡ b .hit
+  -- every field of the bus but its reader and its terminals
+  pub record-is : recordShown (k .bus) (k .letters) ≡ bare b
   pub terminals-are : k .terminals ≡ map (λ (s : Station). s .terminal) (b .stations)
   -- the octets of a held frame's image have its bits
   pub images-are : (i j : ℕ) → 1 ≤ stationAt i b .terminal .access .held → j < stationAt i b .terminal .access .length

@@ -7,6 +7,7 @@ use Rattle.bus_rules.specs.Calls.{Call, after, afterAll, reply, notes}
 use Rattle.bus_rules.specs.Calls.Call.{event, period}
 use Rattle.bus_call_specs.specs.Kept.{Kept, settled}
 use Rattle.bus_call_specs.specs.Lists.{callOf, finds, leftBy, isLent, Same, OctetValue, OctetValues, replied, notesTold, freshFound, lend}
+use Rattle.bus_call_specs.proofs.Fields.{periods-of}
 use Rattle.bus_call_specs.proofs.Fitting.{always-fit, in-order}
 use Rattle.bus_call_specs.proofs.Lists.{fresh-carries, lists-carried}
 use Rattle.report.specs.Report.{refusedNotes, bookNotes, allBookNotes}
@@ -23,9 +24,9 @@ record Lent (k : Kept) (b : Bus) (c : Call) (more : List Call) : Type 0 where
 lent : (k : Kept) → settled k ≡ k → (b : Bus) (c : Call) (more : List Call) → OctetValue c → Same k b (map lend (c ∷ more)) → Lent k b c more
 unfolding Same lend callOf finds leftBy isLent done settled
 lent k e b (event unit number value) more v s =
-    let t = s .1 v in record { periods-is = s .0 .periods-is; replies = t .0; tells = t .1; leaves = t .2 }
+    let t = s .1 v in record { periods-is = periods-of (s .0 .record-is); replies = t .0; tells = t .1; leaves = t .2 }
 lent k e b period more v s =
-    let t = rw e at (s .1 tt) in record { periods-is = s .0 .periods-is; replies = t .0; tells = t .1; leaves = t .2 }
+    let t = rw e at (s .1 tt) in record { periods-is = periods-of (s .0 .record-is); replies = t .0; tells = t .1; leaves = t .2 }
 
 refused-same : (k : Kept) (b : Bus) (c : Call) (more : List Call) → Lent k b c more → refusedTold k c ≡ refusedNotes b c
 unfolding refusedTold refusedNotes
