@@ -39,7 +39,8 @@ use Rattle.heard_line.specs.Sensing as sensing
 use Rattle.network.specs.Network as network
 use Rattle.network.specs.declared.Network.{Network}
 use Rattle.terminal.specs.Terminal as terminal
-use Rattle.bus_rules.specs.Bus.{Station, Hit, Bus, Note, freshStation, freshBus, withCounts, withNetwork, withStations, notesOf, stationAt}
+use Rattle.bus_rules.specs.Bus.{Station, Hit, Bus, Note, freshStation, freshBus, notesOf, stationAt}
+use Rattle.bus_rules.specs.Bus.{withCounts, withNetwork, withStations}
 use Rattle.bus_rules.specs.Order.{unitByUnit}
 use Rattle.bus_rules.specs.Exchange.{Opportunity, sentDown, sentUp, accessStepOf, stationAfterE, dOf, doneOf, hearsE, sentOf}
 use Rattle.bus_rules.specs.Exchange.{lineDown, lineUp, eComes, sendersAfter, dComes, saidTo, onward, asSender, begins}
