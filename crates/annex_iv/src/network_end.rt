@@ -14,6 +14,7 @@ use info::info::info1;
 use info::info::info3;
 use network::Network;
 use network::NetworkStep;
+use symbols::LINE_LENGTH;
 use table_6_3::AR_ROW;
 use table_6_3::DR_ROW;
 use table_6_3::INFO_0_ROW;
@@ -93,7 +94,7 @@ fn unit(state: u8, event: u8) -> Network {
 
 // Gives what the stimulus's line shows: for a loss, a single pulse.
 fn upward(event: u8) -> Upward {
-    let mut line = [0u8; 48];
+    let mut line = [0u8; LINE_LENGTH];
     match event {
         INFO_1_ROW => {
             info1(&mut line);
@@ -110,7 +111,7 @@ fn upward(event: u8) -> Upward {
 }
 
 // Gives what a line shows; the refusal of one that is refused is printed, and it shows nothing.
-fn shown(line: &[u8; 48]) -> Upward {
+fn shown(line: &[u8; LINE_LENGTH]) -> Upward {
     let sensed = sense_up(line);
     match sensed {
         SensedUp::Line(shows) => shows,

@@ -13,6 +13,7 @@ use heard_line::sensing::SensedDown;
 use heard_line::sensing::sense_down;
 use info::info::info2;
 use info::info::info4;
+use symbols::LINE_LENGTH;
 use table_6_2::AR_ROW;
 use table_6_2::INFO_0_ROW;
 use table_6_2::INFO_2_ROW;
@@ -162,7 +163,7 @@ fn unit(state: u8, event: u8) -> Terminal {
 
 // Gives what the stimulus's line shows: for a signal or a loss, a single pulse.
 fn downward(event: u8) -> Downward {
-    let mut line = [0u8; 48];
+    let mut line = [0u8; LINE_LENGTH];
     match event {
         INFO_0_ROW => {}
         INFO_2_ROW => {
@@ -179,7 +180,7 @@ fn downward(event: u8) -> Downward {
 }
 
 // Gives what a line shows; the refusal of one that is refused is printed, and it shows nothing.
-fn shown(line: &[u8; 48]) -> Downward {
+fn shown(line: &[u8; LINE_LENGTH]) -> Downward {
     let sensed = sense_down(line);
     match sensed {
         SensedDown::Line(shows) => shows,

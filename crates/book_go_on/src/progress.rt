@@ -34,9 +34,6 @@ pub const ROOM: u8 = 2;
 
 pub const OVER: u8 = 3;
 
-// The most octets that the notes of a period take: with room for less a call does nothing.
-pub const PERIOD_ROOM: usize = 4248;
-
 impl Progress {
     // Gives a book of which nothing has been read, on a fresh bus.
     pub fn fresh() -> Self

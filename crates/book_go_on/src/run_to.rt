@@ -9,9 +9,9 @@ ghost use Rattle.period_text.specs.PeriodText.{periodRoom};
 ghost use Rattle.report.specs.Told.{Ready};
 ghost use Rattle.book_go_on.specs.RunTo.{RunsTo};
 use super::progress::GoneOn;
-use super::progress::PERIOD_ROOM;
 use bus_record::record::BusRecord;
 use note_text::form::Form;
+use period_text::period::PERIOD_ROOM;
 use period_text::period::put_period;
 use terminal::Terminal;
 

@@ -1,4 +1,5 @@
 // What a value says in octets: those of a body, the codes of a hit's letters.
+use crate::line::LONGEST_LINE;
 use notes_and_cells::events::D1;
 use notes_and_cells::events::D2;
 use notes_and_cells::events::HIT;
@@ -9,8 +10,8 @@ ghost use Prim.Native.Nat.{_+_, _*_};
 ghost use Rattle.book_line.specs.Value as spec;
 ghost use Rattle.book_line.specs.Laying as laying;
 
-// Room for the octets of the value of any line of right form.
-pub const VALUE_ROOM: usize = 300;
+// Room for the octets of the value of any line of right form: two characters an octet.
+pub const VALUE_ROOM: usize = LONGEST_LINE / 2;
 
 // Gives the number that a hexadecimal digit stands for.
 pub fn hex_digit(c: u8) -> u8

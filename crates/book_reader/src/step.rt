@@ -29,8 +29,10 @@ pub const AFTER_END: u8 = 2;
 // The field of a line that is its value: period, unit and event come before it.
 const VALUE: usize = 3;
 
-// The octets of the book's first line, its LF included.
-const FIRST_LINE_LENGTH: usize = 24;
+// The book's first line, its LF included, and how many octets it has.
+const FIRST_LINE: [u8; 24] = *b"period unit event value\n";
+
+const FIRST_LINE_LENGTH: usize = FIRST_LINE.len();
 
 // What a call answers.
 pub enum Step {
@@ -83,7 +85,7 @@ fn head_step(t: &[u8], whole: bool) -> Step
         }
         return Step::More;
     }
-    if same(&t[..FIRST_LINE_LENGTH], b"period unit event value\n") {
+    if same(&t[..FIRST_LINE_LENGTH], &FIRST_LINE) {
         return Step::Begun;
     }
     Step::Fault(11)

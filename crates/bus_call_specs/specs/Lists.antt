@@ -11,7 +11,7 @@ use Prim.Native.Nat.{ℕ, zero, suc, _+_, _-_, _≤_, _<_, min}
 use lib.Dec.{eqb, ltb}
 use lib.ListN.{length, getD, take, replicate}
 use Rattle.notes_and_cells.specs.Notes.{HEARD, DONE1, DONE2, noted}
-use Rattle.symbols.specs.Symbols.{fits, within}
+use Rattle.symbols.specs.Symbols.{lineLength, fits, within}
 use Rattle.dchannel.specs.Ranges.{accessInRange}
 use Rattle.hdlc.specs.Bits.{bitOf}
 use Rattle.hdlc.specs.Image.{longestBody}
@@ -266,41 +266,41 @@ places n = replicate n noNotes
 
 -- one terminal too few, one in no state, or nothing lent at all: 1
 pub terminals-amiss :
-    Refused 1 (amiss on (fresh 7) (zeros 2576) [] (zeros 48) [])
-    × Refused 1 (amiss on (astray ∷ fresh 7) (zeros 2576) [] (zeros 48) [])
+    Refused 1 (amiss on (fresh (terminals - 1)) (zeros imagesRoom) [] (zeros lineLength) [])
+    × Refused 1 (amiss on (astray ∷ fresh (terminals - 1)) (zeros imagesRoom) [] (zeros lineLength) [])
     × Refused 1 (amiss on [] [] [] [] [])
-    × Refused 1 (amiss period (fresh 7) (zeros 2576) (zeros 266) (zeros 48) (places 8))
-    × Refused 1 (amiss period (astray ∷ fresh 7) (zeros 2576) (zeros 266) (zeros 48) (places 8))
+    × Refused 1 (amiss period (fresh (terminals - 1)) (zeros imagesRoom) (zeros longestBody) (zeros lineLength) (places terminals))
+    × Refused 1 (amiss period (astray ∷ fresh (terminals - 1)) (zeros imagesRoom) (zeros longestBody) (zeros lineLength) (places terminals))
     × Refused 1 (amiss period [] [] [] [] [])
 unfolding wouldFit lentFits eightInRange allInRange terminalCalls.terminalInRange accessInRange fits within
 terminals-amiss = ((refl, refl), (refl, refl), (refl, refl), (refl, refl), (refl, refl), (refl, refl))
 
 -- with eight terminals, of an event the images, or the letters in number or in code: 2
 pub event-slices-amiss :
-    Refused 2 (amiss on (fresh 8) (zeros 2575) [] (zeros 48) [])
-    × Refused 2 (amiss on (fresh 8) (zeros 2577) [] (zeros 48) [])
-    × Refused 2 (amiss on (fresh 8) (zeros 2576) [] (zeros 47) [])
-    × Refused 2 (amiss on (fresh 8) (zeros 2576) [] (4 ∷ zeros 47) [])
+    Refused 2 (amiss on (fresh terminals) (zeros (imagesRoom - 1)) [] (zeros lineLength) [])
+    × Refused 2 (amiss on (fresh terminals) (zeros (imagesRoom + 1)) [] (zeros lineLength) [])
+    × Refused 2 (amiss on (fresh terminals) (zeros imagesRoom) [] (zeros (lineLength - 1)) [])
+    × Refused 2 (amiss on (fresh terminals) (zeros imagesRoom) [] (4 ∷ zeros (lineLength - 1)) [])
 unfolding wouldFit eightInRange allInRange terminalCalls.terminalInRange accessInRange fits within
 event-slices-amiss = ((refl, refl), (refl, refl), (refl, refl), (refl, refl))
 
 -- .. and of a period also the octets or the places
 pub period-slices-amiss :
-    Refused 2 (amiss period (fresh 8) (zeros 2575) (zeros 266) (zeros 48) (places 8))
-    × Refused 2 (amiss period (fresh 8) (zeros 2577) (zeros 266) (zeros 48) (places 8))
-    × Refused 2 (amiss period (fresh 8) (zeros 2576) (zeros 265) (zeros 48) (places 8))
-    × Refused 2 (amiss period (fresh 8) (zeros 2576) (zeros 266) (zeros 47) (places 8))
-    × Refused 2 (amiss period (fresh 8) (zeros 2576) (zeros 266) (4 ∷ zeros 47) (places 8))
-    × Refused 2 (amiss period (fresh 8) (zeros 2576) (zeros 266) (zeros 48) (places 7))
-    × Refused 2 (amiss period (fresh 8) (zeros 2576) (zeros 266) (zeros 48) (places 9))
+    Refused 2 (amiss period (fresh terminals) (zeros (imagesRoom - 1)) (zeros longestBody) (zeros lineLength) (places terminals))
+    × Refused 2 (amiss period (fresh terminals) (zeros (imagesRoom + 1)) (zeros longestBody) (zeros lineLength) (places terminals))
+    × Refused 2 (amiss period (fresh terminals) (zeros imagesRoom) (zeros (longestBody - 1)) (zeros lineLength) (places terminals))
+    × Refused 2 (amiss period (fresh terminals) (zeros imagesRoom) (zeros longestBody) (zeros (lineLength - 1)) (places terminals))
+    × Refused 2 (amiss period (fresh terminals) (zeros imagesRoom) (zeros longestBody) (4 ∷ zeros (lineLength - 1)) (places terminals))
+    × Refused 2 (amiss period (fresh terminals) (zeros imagesRoom) (zeros longestBody) (zeros lineLength) (places (terminals - 1)))
+    × Refused 2 (amiss period (fresh terminals) (zeros imagesRoom) (zeros longestBody) (zeros lineLength) (places (terminals + 1)))
 unfolding wouldFit lentFits eightInRange allInRange terminalCalls.terminalInRange accessInRange fits within
 period-slices-amiss = ((refl, refl), (refl, refl), (refl, refl), (refl, refl), (refl, refl), (refl, refl), (refl, refl))
 
 -- what has its length would fit, the octets also where they are more
 pub slices-fit :
-    (wouldFit on (zeros 2576) [] (zeros 48) [] ≡ true)
-    × (wouldFit period (zeros 2576) (zeros 266) (zeros 48) (places 8) ≡ true)
-    × (wouldFit period (zeros 2576) (zeros 267) (zeros 48) (places 8) ≡ true)
+    (wouldFit on (zeros imagesRoom) [] (zeros lineLength) [] ≡ true)
+    × (wouldFit period (zeros imagesRoom) (zeros longestBody) (zeros lineLength) (places terminals) ≡ true)
+    × (wouldFit period (zeros imagesRoom) (zeros (longestBody + 1)) (zeros lineLength) (places terminals) ≡ true)
 unfolding wouldFit lentFits fits within
 slices-fit = (refl, refl, refl)
 

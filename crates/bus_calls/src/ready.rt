@@ -7,7 +7,7 @@ use bus_record::record::BusRecord;
 use bus_record::side::RunAnswer;
 use combining::combine::TERMINALS;
 use combining::hit::NONE_LETTER;
-use packing::image::LONGEST_BODY;
+use hdlc::LONGEST_BODY;
 use symbols::LINE_LENGTH;
 use symbols::fits;
 use terminal::Terminal;

@@ -3,6 +3,7 @@ use super::row::event;
 use super::row::exchange;
 use super::row::said;
 use bus_record::record::BusRecord;
+use symbols::LINE_LENGTH;
 use terminal::Terminal;
 
 pub(crate) struct Bench {
@@ -20,7 +21,7 @@ pub(crate) fn given(
     octet: u8,
 ) -> Bench {
     // No hit is given here, so that the letters need not be kept.
-    let mut letters = [0u8; 48];
+    let mut letters = [0u8; LINE_LENGTH];
     let g = bus_by_value::event(
         bus,
         before,
@@ -51,7 +52,7 @@ pub(crate) fn until(
     end: u8,
 ) -> Bench {
     // No hit is given here, so that the letters need not be kept.
-    let letters = [0u8; 48];
+    let letters = [0u8; LINE_LENGTH];
     let mut i = bus.periods.0;
     while i < end as u32 {
         i += 1;

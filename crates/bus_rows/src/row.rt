@@ -16,6 +16,7 @@ use notes_and_cells::events::D1;
 use notes_and_cells::notes::DONE1;
 use notes_and_cells::notes::DONE2;
 use period_hearing::hears::UnitNotes;
+use symbols::LINE_LENGTH;
 use table_6_2::F7;
 use table_6_3::G3;
 use terminal::Terminal;
@@ -42,7 +43,7 @@ pub(crate) fn exchange(
     used: usize,
 ) {
     // No hit is given here, so that the letters stay as they are.
-    let letters = [0u8; 48];
+    let letters = [0u8; LINE_LENGTH];
     let mut pairs = [b' '; 12];
     let mut terminals = before;
     let mut m = first_tally(bus, &letters);

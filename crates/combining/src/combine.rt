@@ -17,7 +17,7 @@ use symbols::fits;
 // The number of terminals of a bus, and the number of symbols of all their lines.
 pub const TERMINALS: usize = 8;
 
-pub const LINES_LENGTH: usize = 384;
+pub const LINES_LENGTH: usize = TERMINALS * LINE_LENGTH;
 
 // What a plus and a minus at one position are gathered to: 1 and 2 bit by bit.
 const PLUS_AND_MINUS: u8 = 3;

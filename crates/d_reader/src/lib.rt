@@ -8,10 +8,9 @@ ghost use Rattle.hdlc.specs.Reading.{cleared};
 ghost use Rattle.d_reader.specs.Counters.{freshReader, takeUp, afterBit, storeWhole, answerTo, readBit, readOctets};
 ghost use Rattle.d_reader.specs.ReaderRange.{readerInRange};
 ghost use Rattle.d_reader.specs.StandsFor.{StandsFor, ReadsOn};
+use hdlc::LONGEST_BODY;
 
-// The most octets of a body.
-const LONGEST_BODY: usize = 266;
-// Its bits.
+// The bits of the longest body.
 const BODY_BITS: u16 = 8 * LONGEST_BODY as u16;
 // The count of bits goes up to here: MOST_BITS, even less the seven of a flag, are too many for a
 // body.

@@ -2,8 +2,10 @@
 // read from standard input.
 use d_reader::Reader;
 use d_reader::ReaderAnswer;
+use hdlc::LONGEST_BODY;
 use libc::STDIN_FILENO;
 use libc::STDOUT_FILENO;
+use packing::image::IMAGE_ROOM;
 use packing::image::Imaged;
 
 // Prints a text.
@@ -119,22 +121,22 @@ fn read(digits: &[u8], heard: &mut [u8]) {
 
 // Prints the images of some bodies.
 fn images() {
-    let mut out = [0u8; 322];
-    let longest = [255u8; 267];
+    let mut out = [0u8; IMAGE_ROOM];
+    let longest = [255u8; LONGEST_BODY + 1];
     image(b"\x00", &mut out, true);
     image(b"\xff", &mut out, true);
     image(b"\x01", &mut out, true);
     image(b"\x80\x0f", &mut out, true);
-    image(&longest[..266], &mut out, false);
+    image(&longest[..LONGEST_BODY], &mut out, false);
     image(&longest, &mut out, false);
     image(&longest[..0], &mut out, false);
-    let mut short = [0u8; 321];
-    image(&longest[..266], &mut short, false);
+    let mut short = [0u8; IMAGE_ROOM - 1];
+    image(&longest[..LONGEST_BODY], &mut short, false);
 }
 
 // Prints what the reader says to some bit strings.
 fn readings() {
-    let mut heard = [0u8; 266];
+    let mut heard = [0u8; LONGEST_BODY];
     text(b"an image of 00\n");
     read(b"011111100000000001111110", &mut heard);
     text(b"two images of ff with a shared 0 between the flags\n");
@@ -150,7 +152,7 @@ fn readings() {
     text(b"six 1s and a 0 first\n");
     read(b"11111100000000001111110", &mut heard);
     text(b"a short buffer\n");
-    let mut short = [0u8; 265];
+    let mut short = [0u8; LONGEST_BODY - 1];
     read(b"0", &mut short);
 }
 
@@ -158,7 +160,7 @@ fn main() {
     images();
     readings();
     let mut digits = io::large_buffer();
-    let mut heard = [0u8; 266];
+    let mut heard = [0u8; LONGEST_BODY];
     let n = io::read_full(STDIN_FILENO, &mut digits);
     text(b"standard input\n");
     read(&digits[..n], &mut heard);

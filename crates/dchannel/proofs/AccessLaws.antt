@@ -13,7 +13,7 @@ use lib.Seq.{getD-at, append-snoc, take-suc}
 use borrow.Author.Tests.{ltb-true, ltb-false, leb-true, leb-false, eqb-true, eqb-false, lt-ltb, le-ltb, le-leb, lt-leb, eq-eqb, ne-eqb, not-true}
 use Rattle.hdlc.specs.Bits.{sameBit}
 use Rattle.hdlc.specs.Image.{image, shortestImage, longestImage, IsBody}
-use Rattle.dchannel.specs.Access.{entered, countAfter, lowAfter, afterE, sending, lowOf, threshold, mayStart, sendsNext, stops, completes, idles, accessStep}
+use Rattle.dchannel.specs.Access.{normal1, normal2, entered, countAfter, lowAfter, afterE, sending, lowOf, threshold, mayStart, sendsNext, stops, completes, idles, accessStep}
 use Rattle.dchannel.specs.AtRest.{atRest}
 use Rattle.dchannel.specs.Handing.{takenUp, left}
 use Rattle.dchannel.specs.Calls.{classNumber, isImageLength, handed}
@@ -339,31 +339,31 @@ pub start-count : (x1 x2 : ℕ) (e next : Bool) (a : Access) → x1 ≤ x2 → S
 start-count x1 x2 e next a h s =
     omega (arith, start-needs x1 x2 e next a s .reached, threshold-least x1 x2 (a .held) (lowOf (a .held) a) h)
 
--- "It starts when C has reached 8 (class 1) or 10 (class 2); at the low level 9 or 11"
+-- "It starts when C has reached 8 (class 1) or 10 (class 2); at the low level 9 or 11": at x1 or x2, at the low level at one more
 pub start-at : (x1 x2 : ℕ) (e next : Bool) (a : Access) (n : ℕ) → threshold x1 x2 (a .held) (lowOf (a .held) a) ≡ n → a .sent ≡ 0
     → (a .held ≡ 0 → ⊥) → Starts x1 x2 e next a ↔ n ≤ countAfter x2 e (a .count)
 start-at x1 x2 e next a n t s h =
     (λ w. rw t at (start-needs x1 x2 e next a w .reached), λ w. start-happens x1 x2 e next a (record { free = s; holds = h; reached = rw t w }))
 
-pub class1-normal : (e next : Bool) (a : Access) → a .sent ≡ 0 → a .held ≡ 1 → a .low1 ≡ false
-    → Starts 8 10 e next a ↔ 8 ≤ countAfter 10 e (a .count)
+pub class1-normal : (x1 x2 : ℕ) (e next : Bool) (a : Access) → a .sent ≡ 0 → a .held ≡ 1 → a .low1 ≡ false
+    → Starts x1 x2 e next a ↔ x1 ≤ countAfter x2 e (a .count)
 unfolding threshold lowOf
-class1-normal e next a s h l = start-at 8 10 e next a 8 (rw (h, l)) s (λ z. omega arith)
+class1-normal x1 x2 e next a s h l = start-at x1 x2 e next a x1 (rw (h, l) (omega arith)) s (λ z. omega arith)
 
-pub class1-low : (e next : Bool) (a : Access) → a .sent ≡ 0 → a .held ≡ 1 → a .low1 ≡ true
-    → Starts 8 10 e next a ↔ 9 ≤ countAfter 10 e (a .count)
+pub class1-low : (x1 x2 : ℕ) (e next : Bool) (a : Access) → a .sent ≡ 0 → a .held ≡ 1 → a .low1 ≡ true
+    → Starts x1 x2 e next a ↔ x1 + 1 ≤ countAfter x2 e (a .count)
 unfolding threshold lowOf
-class1-low e next a s h l = start-at 8 10 e next a 9 (rw (h, l)) s (λ z. omega arith)
+class1-low x1 x2 e next a s h l = start-at x1 x2 e next a (x1 + 1) (rw (h, l)) s (λ z. omega arith)
 
-pub class2-normal : (e next : Bool) (a : Access) → a .sent ≡ 0 → a .held ≡ 2 → a .low2 ≡ false
-    → Starts 8 10 e next a ↔ 10 ≤ countAfter 10 e (a .count)
+pub class2-normal : (x1 x2 : ℕ) (e next : Bool) (a : Access) → a .sent ≡ 0 → a .held ≡ 2 → a .low2 ≡ false
+    → Starts x1 x2 e next a ↔ x2 ≤ countAfter x2 e (a .count)
 unfolding threshold lowOf
-class2-normal e next a s h l = start-at 8 10 e next a 10 (rw (h, l)) s (λ z. omega arith)
+class2-normal x1 x2 e next a s h l = start-at x1 x2 e next a x2 (rw (h, l) (omega arith)) s (λ z. omega arith)
 
-pub class2-low : (e next : Bool) (a : Access) → a .sent ≡ 0 → a .held ≡ 2 → a .low2 ≡ true
-    → Starts 8 10 e next a ↔ 11 ≤ countAfter 10 e (a .count)
+pub class2-low : (x1 x2 : ℕ) (e next : Bool) (a : Access) → a .sent ≡ 0 → a .held ≡ 2 → a .low2 ≡ true
+    → Starts x1 x2 e next a ↔ x2 + 1 ≤ countAfter x2 e (a .count)
 unfolding threshold lowOf
-class2-low e next a s h l = start-at 8 10 e next a 11 (rw (h, l)) s (λ z. omega arith)
+class2-low x1 x2 e next a s h l = start-at x1 x2 e next a (x2 + 1) (rw (h, l)) s (λ z. omega arith)
 
 -- the first bit of a start goes to the D of the same opportunity
 pub start-bit : (x1 x2 : ℕ) (e next : Bool) (a : Access) → Starts x1 x2 e next a → accessStep x1 x2 e next a .d ≡ next
@@ -452,7 +452,7 @@ abbrev leaving24 : ℕ → Access
 leaving24 n = record { length = 24; sent = n; count = 0; held = 1; low1 = false; low2 = false; last = false }
 
 -- with the closing flag's last bit to come nothing is completed; at its echo the frame is
-pub closing-flag : (accessStep 8 10 false false (leaving24 23) .done ≡ 0) × (accessStep 8 10 false false (leaving24 24) .done ≡ 1)
+pub closing-flag : (accessStep normal1 normal2 false false (leaving24 23) .done ≡ 0) × (accessStep normal1 normal2 false false (leaving24 24) .done ≡ 1)
 unfolding accessStep afterE sendsNext completes
 closing-flag = (refl, refl)
 

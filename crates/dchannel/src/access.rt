@@ -6,17 +6,18 @@ ghost use Rattle.dchannel.specs.AtRest.{atRest};
 ghost use Rattle.dchannel.specs.Handing.{left};
 ghost use Rattle.dchannel.specs.Calls.{handed};
 ghost use Rattle.dchannel.specs.Ranges.{accessInRange};
+use hdlc::LONGEST_BODY;
 
 // The C at which class 1 starts at its normal level. At the low level it is one more.
 pub const NORMAL_1: u8 = 8;
 // The same for class 2.
 pub const NORMAL_2: u8 = 10;
-// The most octets of a body.
-const LONGEST_BODY: u16 = 266;
+// The bits of the longest body.
+const BODY_BITS: u16 = 8 * LONGEST_BODY as u16;
 // The bits of the shortest image: two flags and one octet.
 const SHORTEST_IMAGE: u16 = 16 + 8;
 // The bits of the longest image: two flags, the longest body and a 0 after every five 1s of it.
-const LONGEST_IMAGE: u16 = 16 + 8 * LONGEST_BODY + 8 * LONGEST_BODY / 5;
+const LONGEST_IMAGE: u16 = 16 + BODY_BITS + BODY_BITS / 5;
 
 // The two priority classes of frames.
 pub enum Class {

@@ -4,7 +4,7 @@
 use mathlib.Core.Bool.{Bool, true, false, cond}
 use mathlib.Core.List.{List, [], _∷_, _++_}
 use mathlib.Core.Path.{_≡_}
-use Prim.Native.Nat.{ℕ, _+_, _≤_, _<_}
+use Prim.Native.Nat.{ℕ, _+_, _-_, _^_, _≤_, _<_}
 use lib.Dec.{eqb}
 use lib.ListN.{length, take, drop}
 use Rattle.hdlc.specs.Image.{longestBody}
@@ -76,7 +76,7 @@ first = record { progress = freshProgress; have = 0; why = TEXT; whole = false; 
 
 -- the number that the turns are counted down from: the greatest of 64 bits
 abbrev pub mostTurns : ℕ
-mostTurns = 18446744073709551615
+mostTurns = 2 ^ 64 - 1
 
 -- From the first turn on until there is no other, or the count is used up: a turn reads one part.
 pub record Drives (most : ℕ) (text room images octets letters text′ room′ images′ octets′ letters′ : List ℕ) : Type 0 where

@@ -10,11 +10,11 @@ ghost use Rattle.driver.specs.Turn.{Drives, Runs};
 use super::turn::Held;
 use super::turn::turn;
 use book_go_on::progress::OVER;
-use book_go_on::progress::PERIOD_ROOM;
 use book_go_on::progress::Progress;
 use book_go_on::progress::TEXT;
 use bus_event::event::IMAGES_ROOM;
-use packing::image::LONGEST_BODY;
+use hdlc::LONGEST_BODY;
+use period_text::period::PERIOD_ROOM;
 use symbols::LINE_LENGTH;
 
 // Takes turns until the book is over or a write has failed. Nothing says that the input ends, so

@@ -2,7 +2,9 @@
 // refused. The others stand in specs/Edges.antt.
 use dchannel::access::Access;
 use dchannel::access::Class;
+use hdlc::LONGEST_BODY;
 use libc::STDOUT_FILENO;
+use packing::image::IMAGE_ROOM;
 use packing::image::Imaged;
 use packing::image::image;
 
@@ -30,10 +32,10 @@ fn show(answer: Imaged) {
 }
 
 fn main() {
-    let body = [255u8; 267];
-    let mut out = [0u8; 322];
+    let body = [255u8; LONGEST_BODY + 1];
+    let mut out = [0u8; IMAGE_ROOM];
     say(b"266 octets: ");
-    show(image(&body[..266], &mut out));
+    show(image(&body[..LONGEST_BODY], &mut out));
     say(b"267 octets: ");
     show(image(&body, &mut out));
 }

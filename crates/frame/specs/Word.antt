@@ -3,12 +3,12 @@
 -- Interface: `topBits`. Assumes nothing.
 use mathlib.Core.Bool.{Bool}
 use mathlib.Core.List.{List, [], _∷_}
-use Prim.Native.Nat.{ℕ, zero, suc, _*_, _/_, _%_}
+use Prim.Native.Nat.{ℕ, zero, suc, _*_, _/_, _%_, _^_}
 use lib.Dec.{eqb}
 
 -- 2 to the 45th, the highest of the 46 bits.
 abbrev pub top : ℕ
-top = 35184372088832
+top = 2 ^ 45
 
 -- The n highest bits of w.
 unfoldable pub topBits : ℕ → ℕ → List Bool

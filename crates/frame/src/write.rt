@@ -19,7 +19,7 @@ use symbols::NONE;
 use symbols::PLUS;
 
 // 2 to the 45th, the highest of 46 bits.
-const TOP: u64 = 35184372088832;
+const TOP: u64 = 1 << 45;
 
 // Gives the symbol of a bit: none for a 1, the pulse `next` for a 0.
 fn symbol(b: bool, next: u8) -> u8

@@ -9,7 +9,7 @@ use lib.ListN.{length, getD, take, drop, replicate, length-append, length-replic
 use lib.Seq.{getD-at}
 use borrow.Author.Tests.{eqb-true, eqb-false, eq-eqb, ne-eqb, ltb-true, lt-ltb, leb-true, le-leb}
 use Rattle.hdlc.specs.Bits.{lowBits, bodyBits, numberLowFirst, octets}
-use Rattle.hdlc.specs.Image.{flag, stuff, image, IsBody, longestBody, longestImage, allOctets, isBody}
+use Rattle.hdlc.specs.Image.{flag, stuff, image, IsBody, longestBody, shortestImage, longestImage, allOctets, isBody}
 use Rattle.hdlc.specs.Reading.{unstuff}
 use Rattle.hdlc.specs.Ones.{onesAfter, endingOnes}
 use Rattle.test_lemmas.proofs.ByCases.{by-test, both}
@@ -145,7 +145,7 @@ length-stuff-ones (suc n) k h =
     (λ e. rw e (omega (arith, length-stuff-ones n (suc k) (omega (arith, eqb-false k 4 e)))))
 
 -- an image has 24 to 2,569 bits
-pub image-least : (body : List ℕ) → IsBody body → 24 ≤ length (image body)
+pub image-least : (body : List ℕ) → IsBody body → shortestImage ≤ length (image body)
 image-least body b = omega (arith, length-image body, length-stuff-least (bodyBits body) 0, length-bodyBits body)
 
 pub image-most : (body : List ℕ) → IsBody body → length (image body) ≤ longestImage

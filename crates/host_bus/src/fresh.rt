@@ -8,8 +8,8 @@ ghost use Rattle.host_bus.specs.Fresh.{freshOctets};
 use bus_octets::laid::lay;
 use bus_octets::layout::BUS_LENGTH;
 use bus_record::record::BusRecord;
+use hdlc::LONGEST_BODY;
 use note_text::room::put;
-use packing::image::LONGEST_BODY;
 use symbols::LINE_LENGTH;
 use terminal::Terminal;
 

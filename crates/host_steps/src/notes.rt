@@ -12,10 +12,11 @@ use note_text::note::put_notes;
 use note_text::room::put;
 use notes_and_cells::notes::Notes;
 use period_hearing::hears::UnitNotes;
+use period_text::period::PERIOD_OCTETS_ROOM;
 use period_text::period::put_period;
 
 // The room that holds the notes of any call, their end included.
-pub(crate) const NOTES_LENGTH: usize = 979;
+pub(crate) const NOTES_LENGTH: usize = PERIOD_OCTETS_ROOM + 1;
 
 #[no_mangle]
 pub extern "C" fn sbus_notes_length() -> usize

@@ -50,7 +50,7 @@ module _ (e : Bool) (a : Access) (low : countAfter normal2 e (a .count) < normal
   levels-kept : afterE normal1 normal2 e a ≡ heard
   unfolding afterE lowAfter
   levels-kept =
-      rw (ne-eqb (countAfter normal2 e (a .count)) 9 (λ z. omega arith), ne-eqb (countAfter normal2 e (a .count)) 11 (λ z. omega arith))
+      rw (ne-eqb (countAfter normal2 e (a .count)) (normal1 + 1) (λ z. omega arith), ne-eqb (countAfter normal2 e (a .count)) (normal2 + 1) (λ z. omega arith))
 
   threshold-above : (k : ℕ) (lower : Bool) → countAfter normal2 e (a .count) < threshold normal1 normal2 k lower
   unfolding threshold

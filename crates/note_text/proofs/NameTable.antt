@@ -27,9 +27,9 @@ abbrev pub begins : ℕ → List (List ℕ) → List ℕ
 begins at [] = at ∷ []
 begins at (t ∷ ts) = at ∷ begins (at + length t) ts
 
--- the sixteen codes, 0, and one number more, for every number that is no code
+-- one more than the last code: it stands for every number that is no code
 abbrev pub noCode : ℕ
-noCode = 17
+noCode = suc REFUSED
 
 abbrev pub table : List ℕ
 table = joined (texts (suc noCode) 0)

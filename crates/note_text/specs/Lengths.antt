@@ -10,16 +10,20 @@ use Rattle.bus_rules.specs.Bus.{Note}
 use Rattle.note_text.specs.NoteOctets.{noteOctets}
 use Rattle.note_text.specs.NoteText.{decimal, note, noteLine}
 
--- Numbers are below this: they have at most ten digits.
+-- Numbers are below this, and have at most so many digits.
 abbrev pub numbers : ℕ
 numbers = 2 ^ 32
 
-abbrev pub DecimalFits : Type 0
-DecimalFits = (n : ℕ) → n < numbers → length (decimal n) ≤ 10
+abbrev pub mostDigits : ℕ
+mostDigits = 10
 
--- The longest line without a body: two numbers, `MPH-II disconnected`, spaces and LF.
+abbrev pub DecimalFits : Type 0
+DecimalFits = (n : ℕ) → n < numbers → length (decimal n) ≤ mostDigits
+
+-- The longest line without a body: two numbers, `MPH-II disconnected`, a space behind each number,
+-- and LF.
 abbrev pub lineRoom : ℕ
-lineRoom = 42
+lineRoom = 2 * (mostDigits + 1) + 19 + 1
 
 abbrev pub LineFits : Type 0
 LineFits =
@@ -31,10 +35,10 @@ RefusedFits =
     (period unit number : ℕ) → period < numbers → unit < numbers → number < numbers
     → length (noteLine (note period unit REFUSED (number ∷ []))) ≤ lineRoom
 
--- The line of the longest body, of a unit of one digit: two digits for each octet, and 20 octets
--- besides.
+-- The line of the longest body, of a unit of one digit: the period, the unit and `heard`, a space
+-- behind each, two digits for each octet, and LF.
 abbrev pub heardRoom : ℕ
-heardRoom = 20 + 2 * longestBody
+heardRoom = (mostDigits + 1) + (1 + 1) + (5 + 1) + 2 * longestBody + 1
 
 abbrev pub HeardFits : Type 0
 HeardFits =

@@ -16,22 +16,34 @@ use super::low::put_half;
 use super::low::put_word;
 use super::number::put_decimal;
 use super::room::put;
+use hdlc::LONGEST_BODY;
 use notes_and_cells::notes::HEARD;
 use notes_and_cells::notes::Notes;
 use notes_and_cells::notes::REFUSED;
 use text::length::least;
 
+// The most digits of a number below 2^32.
+const MOST_DIGITS: usize = 10;
+// The longest line without a body: two numbers, `MPH-II disconnected`, a space behind each number,
+// and LF.
+pub const LINE_ROOM: usize = 2 * (MOST_DIGITS + 1) + 19 + 1;
+// The line of the longest body, of a unit of one digit: the period, the unit and `heard`, a space
+// behind each, two digits for each octet, and LF.
+pub const HEARD_ROOM: usize = (MOST_DIGITS + 1) + (1 + 1) + (5 + 1) + 2 * LONGEST_BODY + 1;
+// A note as octets takes these, and the octets of its value.
+pub const OCTETS_ROOM: usize = 8;
+
 // One more than the last code: where numbers that are no code stand in the table.
-const NO_CODE: usize = 17;
+const NO_CODE: usize = REFUSED as usize + 1;
 
 // For each code, from 0 on: a space, the note's name, a space, and the value where the code decides
 // it.
-const NAMES: [u8; 175] =
+const NAMES: [u8; PLACES[NO_CODE + 1] as usize] =
     *b"  - PH-ACT - PH-DEACT - MPH-ACT - MPH-DEACT - MPH-EI - MPH-EI1 - MPH-EI2 - \
     MPH-II connected MPH-II disconnected heard  torn - done1 - done2 - dropped1 - dropped2 - refused   -";
 
 // Where each code's part begins; the last one's end.
-const PLACES: [u8; 19] = [
+const PLACES: [u8; NO_CODE + 2] = [
     0,
     3,
     12,

@@ -1,5 +1,6 @@
 // The image of a body (document 01, "D access (6.1)"), packed into octets.
 use crate::bits;
+use hdlc::LONGEST_BODY;
 ghost use mathlib.Core.Path.{_≡_};
 ghost use Prim.Native.Nat.{_+_, _*_, _≤_, _<_};
 ghost use lib.ListN.{length, take};
@@ -8,9 +9,7 @@ ghost use Rattle.hdlc.specs.Image.{stuff, image, longestBody};
 ghost use Rattle.packing.specs.Packing.{filledOctets, onto, packedBit, imageRoom, imaged, imagedOctets, imageMeaning, imageOr};
 ghost use Rattle.packing.specs.Packer.{putBit, putBitOctets, putBits, putBitsOctets};
 
-// The most octets of a body.
-pub const LONGEST_BODY: usize = 266;
-// Its bits.
+// The bits of the longest body.
 const BODY_BITS: usize = 8 * LONGEST_BODY;
 // How many octets the longest image takes: two flags, the body's bits, and a 0 for every five of
 // them.

@@ -24,7 +24,7 @@ use Rattle.note_text.specs.declared.form.Form.{Form}
 use Rattle.note_text.specs.declared.form.Form.the-variants.{Line, Octets}
 use Rattle.note_text.proofs.NoteLaws.{one-note, form-append}
 use Rattle.note_text.proofs.Lengths.{line-fits, refused-fits, heard-fits, octets-length}
-use Rattle.period_text.specs.PeriodText.{eventNoted, PeriodFits, EventFits, PeriodOctetsFit, EventOctetsFit}
+use Rattle.period_text.specs.PeriodText.{eventNoted, mostNotes, PeriodFits, EventFits, PeriodOctetsFit, EventOctetsFit}
 use Rattle.period_text.proofs.PeriodLaws.{heardOf, timedOf, period-parts}
 
 at-most-four : (n : Notes) → length (noted n) ≤ 4
@@ -103,7 +103,7 @@ module _ (form : Form) (most heard now : ℕ) (r : RunAnswer) (ns : List UnitNot
 
   period-room : UnitsFit form most now → UnitsFit form most (now + 1)
       → length (noteIn form (note now 0 HEARD (take (r .body) octets))) ≤ heard → most ≤ heard → length ns ≡ terminals
-      → length (notesIn form (periodTold now r ns octets)) ≤ heard + (8 + terminals * 10) * most
+      → length (notesIn form (periodTold now r ns octets)) ≤ heard + mostNotes * most
   period-room p q h k long =
       rw (← period-parts form now r ns octets)
       (simp length-append

@@ -25,11 +25,14 @@ eventNoted period unit notes reply =
     cond (eqb reply 0) (notesOf period unit (noted notes))
     (note period unit REFUSED (reply ∷ []) ∷ [])
 
--- The most octets that the notes of a period take: one line of the reader; four notes of unit 0's
--- hearing and four of its timers; six of each terminal's hearing, two of them of its frames, and
--- four of its timer.
+-- The most notes of a period beside the reader's: four of unit 0's hearing and four of its timers;
+-- six of each terminal's hearing, two of them of its frames, and four of its timer.
+abbrev pub mostNotes : ℕ
+mostNotes = (4 + 4) + terminals * (6 + 4)
+
+-- The most octets that the notes of a period take, the reader's with a body among them.
 abbrev pub periodRoom : ℕ
-periodRoom = heardRoom + (8 + terminals * 10) * lineRoom
+periodRoom = heardRoom + mostNotes * lineRoom
 
 -- The text of a period's notes fits, whatever they are.
 abbrev pub PeriodFits : Type 0
@@ -45,7 +48,7 @@ EventFits =
 
 -- ---- The same as octets, where a refusal is the call's reply and no note.
 abbrev pub periodOctetsRoom : ℕ
-periodOctetsRoom = (octetsRoom + longestBody) + (8 + terminals * 10) * octetsRoom
+periodOctetsRoom = (octetsRoom + longestBody) + mostNotes * octetsRoom
 
 abbrev pub PeriodOctetsFit : Type 0
 PeriodOctetsFit =

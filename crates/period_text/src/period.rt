@@ -8,7 +8,12 @@ ghost use Rattle.notes_and_cells.specs.Notes.{noted};
 ghost use Rattle.note_text.specs.Room.{Put};
 ghost use Rattle.note_text.specs.NoteText.{notesIn};
 use bus_record::side::RunAnswer;
+use combining::combine::TERMINALS;
+use hdlc::LONGEST_BODY;
 use note_text::form::Form;
+use note_text::note::HEARD_ROOM;
+use note_text::note::LINE_ROOM;
+use note_text::note::OCTETS_ROOM;
 use note_text::note::put_note;
 use note_text::note::put_notes;
 use note_text::note::put_plain;
@@ -20,6 +25,14 @@ use notes_and_cells::notes::HEARD;
 use notes_and_cells::notes::Notes;
 use period_hearing::hears::UnitNotes;
 use text::length::least;
+
+// The most notes of a period beside the reader's: four of unit 0's hearing and four of its timers;
+// six of each terminal's hearing, two of them of its frames, and four of its timer.
+const MOST_NOTES: usize = (4 + 4) + TERMINALS * (6 + 4);
+// The most octets that the notes of a period take, the reader's with a body among them: as text,
+pub const PERIOD_ROOM: usize = HEARD_ROOM + MOST_NOTES * LINE_ROOM;
+// and as octets.
+pub const PERIOD_OCTETS_ROOM: usize = (OCTETS_ROOM + LONGEST_BODY) + MOST_NOTES * OCTETS_ROOM;
 
 // Puts the reader's note: `heard` with the octets of the body, or `torn`.
 fn put_reader(

@@ -3,11 +3,13 @@ use mathlib.Core.Path.{_≡_}
 use Prim.Native.Nat.{_≤_, _-_}
 use lib.ListN.{length}
 use borrow.Author.Needs.{needs}
+use Rattle.hdlc.specs.Image.{longestBody}
+use Rattle.bus_event.specs.Event.{imagesRoom}
 use Rattle.bus_rows.proofs.book.Statement.{statement}
 use Rattle.bus_rows.proofs.book.Tie as tie
 
 abbrev Inv-loop : tie.InvT-loop
-Inv-loop events used images₀ body₀ counts₀ bench₀ i₀ images body counts bench i = (i ≤ length events) × (length images ≡ 2576) × (length body ≡ 266)
+Inv-loop events used images₀ body₀ counts₀ bench₀ i₀ images body counts bench i = (i ≤ length events) × (length images ≡ imagesRoom) × (length body ≡ longestBody)
 
 abbrev μ-loop : tie.MeasureT-loop
 μ-loop events used images₀ body₀ counts₀ bench₀ i₀ images body counts bench i = length events - i

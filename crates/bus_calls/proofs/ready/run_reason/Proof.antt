@@ -5,6 +5,9 @@ use Prim.Native.Nat.{ℕ}
 use lib.Dec.{eqb, leb}
 use borrow.Author.Needs.{needs}
 use borrow.Author.Tests.{not-true, not-false}
+use Rattle.hdlc.specs.Image.{longestBody}
+use Rattle.bus_rules.specs.Bus.{terminals}
+use Rattle.bus_event.specs.Event.{imagesRoom}
 use Rattle.bus_call_specs.specs.Ready.{lentFits, runReason}
 use Rattle.bus_calls.proofs.ready.run_reason.Statement.{statement}
 use Rattle.bus_calls.proofs.ready.run_reason.Tie as tie
@@ -17,7 +20,7 @@ holds : (a : Bool) {b t : Bool} → t ≡ b → not (a && t) ≡ false → (a &&
 holds a {b} {t} is h = ap (λ (z : Bool). a && z) (sym is) ∙ not-false (a && t) h
 
 abbrev lent : ℕ → ℕ → ℕ → Bool
-lent images octets notes = (eqb images 2576 && leb 266 octets) && eqb notes 8
+lent images octets notes = (eqb images imagesRoom && leb longestBody octets) && eqb notes terminals
 
 in-range-requires : tie.Need-in-range-requires
 in-range-requires c κs = search needs

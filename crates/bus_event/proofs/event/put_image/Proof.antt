@@ -1,6 +1,7 @@
 -- `put_image` meets its contract: the image goes to its room; the call never refuses it there.
 use Prim.Native.Nat.{_+_, _-_, _*_}
 use native.Mathlib.Omega.{arith}
+use Rattle.packing.specs.Packing.{imageRoom}
 use Rattle.bus_event.proofs.Returns.{put-bits, never-refused}
 use borrow.Author.Needs.{needs}
 use Rattle.bus_event.proofs.event.put_image.Statement.{statement}
@@ -38,7 +39,7 @@ returns c =
     let called = c .before .before .before .before .before in
     let start = called .before .before .before .before in
     let a = start .args in
-    put-bits (a .i) (a .value .now) (a .images .now) (start .pre .0) (start .pre .1 .0) (start .pre .1 .1 .0) (start .pre .1 .1 .1) (a .i * 322 + 322 - a .i * 322) (omega arith)
+    put-bits (a .i) (a .value .now) (a .images .now) (start .pre .0) (start .pre .1 .0) (start .pre .1 .1 .0) (start .pre .1 .1 .1) (a .i * imageRoom + imageRoom - a .i * imageRoom) (omega arith)
     (called .image .result) (called .image .ensures .0) (c .before .n .given .0 .0) (c .before .n .given .1) (called .image .last .1 .0) (called .image .ensures .1 .0)
 
 same-length-2 : tie.Need-same-length-2
@@ -49,7 +50,7 @@ returns-2 c =
     let called = c .before .before .before .before in
     let start = called .before .before .before .before in
     let a = start .args in
-    absurd (never-refused (a .i) (a .value .now) (a .images .now) (start .pre .0) (start .pre .1 .0) (start .pre .1 .1 .0) (start .pre .1 .1 .1) (a .i * 322 + 322 - a .i * 322) (omega arith)
+    absurd (never-refused (a .i) (a .value .now) (a .images .now) (start .pre .0) (start .pre .1 .0) (start .pre .1 .1 .0) (start .pre .1 .1 .1) (a .i * imageRoom + imageRoom - a .i * imageRoom) (omega arith)
     (called .image .result) (called .image .ensures .0) (c .enum-told .given .0 .0) (c .enum-told .given .1))
 
 pub put-image-spec : {M : Type 1} → statement M
