@@ -1,25 +1,30 @@
 // Records as octets, in lent room.
 ghost use mathlib.Core.List.{_++_};
 ghost use mathlib.Core.Path.{_≡_};
+ghost use lib.ListN.{replicate};
 ghost use Rattle.note_text.specs.Room.{Put, laid};
+ghost use Rattle.bus_octets.specs.Layout.{recordLength, terminalLength, recordFields, terminalFields};
 ghost use Rattle.bus_octets.specs.Layout.{recordOctets, terminalOctets, terminalsOctets, headOctets};
+use super::layout::RECORD_LENGTH;
+use super::layout::TERMINAL_LENGTH;
 use super::layout::VERSION;
 use bus_record::record::BusRecord;
 use note_text::room::put;
 use terminal::Terminal;
 use text::length::least;
 
-// Puts the record.
-fn put_record(room: &mut [u8], wrote: usize, bus: BusRecord) -> usize
-    ensures { λ r. ⌜ Put (now (room .entry)) wrote (recordOctets bus) r (now (room .exit)) ⌝ }
+// Gives the record's octets: its fields, over as many 0s as the record has octets.
+fn record_octets(bus: BusRecord) -> [u8; RECORD_LENGTH]
+    ensures { λ r. ⌜ r ≡ laid (replicate recordLength 0) 0 (recordFields bus) ⌝ }
 {
     let periods = bus.periods.0;
     let opportunities = bus.opportunities.0;
     let network = bus.network;
     let reader = bus.reader;
+    let mut octets = [0u8; RECORD_LENGTH];
     put(
-        room,
-        wrote,
+        &mut octets,
+        0,
         &[
             b'S',
             b'B',
@@ -54,17 +59,27 @@ fn put_record(room: &mut [u8], wrote: usize, bus: BusRecord) -> usize
             bus.echo as u8,
             bus.hit as u8,
         ],
-    )
+    );
+    octets
 }
 
-// Puts a terminal.
-fn put_terminal(room: &mut [u8], wrote: usize, terminal: Terminal) -> usize
-    ensures { λ r. ⌜ Put (now (room .entry)) wrote (terminalOctets terminal) r (now (room .exit)) ⌝ }
+// Puts the record.
+fn put_record(room: &mut [u8], wrote: usize, bus: BusRecord) -> usize
+    ensures { λ r. ⌜ Put (now (room .entry)) wrote (recordOctets bus) r (now (room .exit)) ⌝ }
+{
+    let octets = record_octets(bus);
+    put(room, wrote, &octets)
+}
+
+// Gives a terminal's octets: its fields, over as many 0s as a terminal has octets.
+fn terminal_octets(terminal: Terminal) -> [u8; TERMINAL_LENGTH]
+    ensures { λ r. ⌜ r ≡ laid (replicate terminalLength 0) 0 (terminalFields terminal) ⌝ }
 {
     let access = terminal.access;
+    let mut octets = [0u8; TERMINAL_LENGTH];
     put(
-        room,
-        wrote,
+        &mut octets,
+        0,
         &[
             (terminal.t3 % 256) as u8,
             (terminal.t3 / 256 % 256) as u8,
@@ -83,7 +98,16 @@ fn put_terminal(room: &mut [u8], wrote: usize, terminal: Terminal) -> usize
             terminal.alignment.aligned as u8,
             terminal.alignment.run,
         ],
-    )
+    );
+    octets
+}
+
+// Puts a terminal.
+fn put_terminal(room: &mut [u8], wrote: usize, terminal: Terminal) -> usize
+    ensures { λ r. ⌜ Put (now (room .entry)) wrote (terminalOctets terminal) r (now (room .exit)) ⌝ }
+{
+    let octets = terminal_octets(terminal);
+    put(room, wrote, &octets)
 }
 
 // Puts the terminals, one behind the other.

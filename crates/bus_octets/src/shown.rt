@@ -1,11 +1,13 @@
 // What the octets of a bus stand for.
 ghost use mathlib.Core.Path.{_≡_};
 ghost use Prim.Native.Nat.{_+_, _*_};
-ghost use Rattle.bus_octets.specs.Layout.{recordIn, terminalAt, terminalsIn, lettersRead, octetsOf};
+ghost use Rattle.bus_octets.specs.Layout.{networkIn, readerIn, recordIn, accessAt, terminalAt, terminalsIn, lettersRead, octetsOf, terminalsAt, terminalLength};
 use super::layout::BUS_LENGTH;
 use super::layout::IMAGES_AT;
 use super::layout::LETTERS_AT;
 use super::layout::OCTETS_AT;
+use super::layout::TERMINALS_AT;
+use super::layout::TERMINAL_LENGTH;
 use super::numbers::flag_at;
 use super::numbers::half_at;
 use super::numbers::octet_at;
@@ -22,55 +24,77 @@ use terminal::Terminal;
 use timing::counts::Opportunities;
 use timing::counts::Periods;
 
+// Reads the network end.
+fn network_in(s: &[u8]) -> Network
+    ensures { λ r. ⌜ r ≡ networkIn (now (s .entry)) ⌝ }
+{
+    Network {
+        t1: word_at(s, 13) as u64,
+        t2: word_at(s, 17) as u64,
+        state: octet_at(s, 21),
+        alignment: Alignment {
+            aligned: flag_at(s, 22),
+            run: octet_at(s, 23),
+        },
+    }
+}
+
+// Reads the network end's reader.
+fn reader_in(s: &[u8]) -> Reader
+    ensures { λ r. ⌜ r ≡ readerIn (now (s .entry)) ⌝ }
+{
+    Reader {
+        bits: half_at(s, 24),
+        ones: octet_at(s, 26),
+        octet: octet_at(s, 27),
+        opened: flag_at(s, 28),
+        zero: flag_at(s, 29),
+    }
+}
+
 // Reads the record.
 pub fn record_in(s: &[u8]) -> BusRecord
     ensures { λ r. ⌜ r ≡ recordIn (now (s .entry)) ⌝ }
 {
     BusRecord {
-        network: Network {
-            t1: word_at(s, 13) as u64,
-            t2: word_at(s, 17) as u64,
-            state: octet_at(s, 21),
-            alignment: Alignment {
-                aligned: flag_at(s, 22),
-                run: octet_at(s, 23),
-            },
-        },
+        network: network_in(s),
         periods: Periods(word_at(s, 5)),
         opportunities: Opportunities(word_at(s, 9)),
-        reader: Reader {
-            bits: half_at(s, 24),
-            ones: octet_at(s, 26),
-            octet: octet_at(s, 27),
-            opened: flag_at(s, 28),
-            zero: flag_at(s, 29),
-        },
+        reader: reader_in(s),
         echo: flag_at(s, 30),
         hit: flag_at(s, 31),
     }
 }
 
-// Reads the terminal whose octets begin at index `at`.
-fn terminal_at(s: &[u8], at: u8) -> Terminal
-    ensures { λ r. ⌜ r ≡ terminalAt (now (s .entry)) at ⌝ }
+// Reads what the terminal whose octets begin at index `at` has for D.
+fn access_at(s: &[u8], at: u16) -> Access
+    ensures { λ r. ⌜ r ≡ accessAt (now (s .entry)) at ⌝ }
 {
     let i = at as usize;
     let start = at as u32;
+    Access {
+        length: half_at(s, start + 4),
+        sent: half_at(s, start + 6),
+        count: octet_at(s, i + 8),
+        held: octet_at(s, i + 9),
+        low1: flag_at(s, i + 10),
+        low2: flag_at(s, i + 11),
+        last: flag_at(s, i + 12),
+    }
+}
+
+// Reads the terminal with index i, of eight.
+fn terminal_at(s: &[u8], i: u8) -> Terminal
+    ensures { λ r. ⌜ r ≡ terminalAt (now (s .entry)) (terminalsAt + i * terminalLength) ⌝ }
+{
+    let at = TERMINALS_AT + i as usize * TERMINAL_LENGTH;
     Terminal {
-        t3: word_at(s, start) as u64,
-        access: Access {
-            length: half_at(s, start + 4),
-            sent: half_at(s, start + 6),
-            count: octet_at(s, i + 8),
-            held: octet_at(s, i + 9),
-            low1: flag_at(s, i + 10),
-            low2: flag_at(s, i + 11),
-            last: flag_at(s, i + 12),
-        },
-        state: octet_at(s, i + 13),
+        t3: word_at(s, at as u32) as u64,
+        access: access_at(s, at as u16),
+        state: octet_at(s, at + 13),
         alignment: Alignment {
-            aligned: flag_at(s, i + 14),
-            run: octet_at(s, i + 15),
+            aligned: flag_at(s, at + 14),
+            run: octet_at(s, at + 15),
         },
     }
 }
@@ -80,14 +104,14 @@ pub fn terminals_in(s: &[u8]) -> [Terminal; 8]
     ensures { λ r. ⌜ r ≡ terminalsIn (now (s .entry)) ⌝ }
 {
     [
-        terminal_at(s, 32),
-        terminal_at(s, 48),
-        terminal_at(s, 64),
-        terminal_at(s, 80),
-        terminal_at(s, 96),
-        terminal_at(s, 112),
-        terminal_at(s, 128),
-        terminal_at(s, 144),
+        terminal_at(s, 0),
+        terminal_at(s, 1),
+        terminal_at(s, 2),
+        terminal_at(s, 3),
+        terminal_at(s, 4),
+        terminal_at(s, 5),
+        terminal_at(s, 6),
+        terminal_at(s, 7),
     ]
 }
 
