@@ -5,3 +5,4 @@ pub mod Comparing
 pub mod Eight
 pub mod Exact
 pub mod RoundTrip
+pub mod Reserve

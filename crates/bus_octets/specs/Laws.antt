@@ -1,17 +1,20 @@
--- Laws: the octets of a bus are read back as what was stored, and only octets that a bus is stored
--- as are taken for one. The statements are types; proofs/RoundTrip.antt and proofs/Exact.antt prove
--- each under the same name in small letters.
+-- Laws: the octets of a bus are read back as what was stored, only octets that a bus is stored as
+-- are taken for one, and those have 0 in every reserved place. The statements are types;
+-- proofs/RoundTrip.antt, Exact.antt and Reserve.antt prove each under the same name in small
+-- letters.
 -- Interface: none but for laws and proofs. Assumes nothing.
 use mathlib.Core.Bool.{true}
 use mathlib.Core.List.{List}
 use mathlib.Core.Path.{_≡_}
-use Prim.Native.Nat.{ℕ}
-use lib.ListN.{length}
+use Prim.Native.Nat.{ℕ, _+_, _*_, _≤_, _<_}
+use lib.ListN.{length, getD}
 use Rattle.hdlc.specs.Image.{longestBody}
+use Rattle.bus_rules.specs.Bus.{terminals}
 use Rattle.bus_call_specs.specs.Kept.{Kept}
 use Rattle.bus_call_specs.specs.Ready.{runReply}
 use Rattle.bus_call_specs.specs.Kept.{found}
-use Rattle.bus_octets.specs.Layout.{busOctets, shown, busLength, isBus}
+use Rattle.bus_octets.specs.Layout.{busOctets, shown, busLength, isBus, recordFields, terminalFields, recordIn, terminalAt}
+use Rattle.bus_octets.specs.Layout.{recordLength, terminalLength, terminalsAt}
 
 -- What is in its range and of its length is stored as a bus, and read back as it was; the notes of
 -- its last period are no part of it.
@@ -32,3 +35,15 @@ pub record ShownAndStored (s : List ℕ) : Type 0 where
 
 abbrev pub Exact : Type 0
 Exact = (s : List ℕ) → isBus s ≡ true → ShownAndStored s
+
+-- Whatever is taken for a bus has 0 in the record's octets behind its fields, and in those of each
+-- terminal.
+pub record Reserve (s : List ℕ) : Type 0 where
+  pub of-record : (j : ℕ) → length (recordFields (recordIn s)) ≤ j → j < recordLength → getD s j 0 ≡ 0
+  pub of-terminal : (i j : ℕ) → i < terminals
+      → length (terminalFields (terminalAt s (terminalsAt + i * terminalLength))) ≤ j
+      → j < terminalLength
+      → getD s (terminalsAt + i * terminalLength + j) 0 ≡ 0
+
+abbrev pub ReserveIsZero : Type 0
+ReserveIsZero = (s : List ℕ) → isBus s ≡ true → Reserve s

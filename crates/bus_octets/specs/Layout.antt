@@ -6,9 +6,10 @@
 --   352 the octets of the network end's reader, 266
 --   618 the rooms of the eight images, 322 octets each, terminal 1 first
 -- 3,194 octets in all. Reserved octets are 0; octets of which one is not are no bus.
--- Interface: `flag`, `recordOctets`, `terminalOctets`, `terminalsOctets`, `busOctets`, `flagAt`,
--- `recordIn`, `terminalAt`, `busLength`, `terminalsIn`, `lettersRead`, `octetsOf`, `shown`,
--- `headOctets`, `isHead`, `isBus`. Assumes nothing.
+-- Interface: `flag`, `recordLength`, `terminalLength`, `terminalsAt`, `busLength`, `recordFields`,
+-- `recordOctets`, `terminalFields`, `terminalOctets`, `terminalsOctets`, `busOctets`, `flagAt`,
+-- `networkIn`, `readerIn`, `recordIn`, `accessAt`, `terminalAt`, `terminalsIn`, `lettersRead`,
+-- `octetsOf`, `shown`, `headOctets`, `isHead`, `isBus`. Assumes nothing.
 use mathlib.Core.Bool.{Bool, true, false, cond, _&&_}
 use mathlib.Core.List.{List, [], _∷_, _++_}
 use Prim.Native.Nat.{ℕ, zero, suc, _+_, _-_, _*_}

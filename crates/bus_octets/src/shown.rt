@@ -1,13 +1,14 @@
 // What the octets of a bus stand for.
 ghost use mathlib.Core.Path.{_≡_};
 ghost use Prim.Native.Nat.{_+_, _*_};
-ghost use Rattle.bus_octets.specs.Layout.{networkIn, readerIn, recordIn, accessAt, terminalAt, terminalsIn, lettersRead, octetsOf, terminalsAt, terminalLength};
+ghost use Rattle.bus_octets.specs.Layout.{terminalsAt, terminalLength, networkIn, readerIn, recordIn, accessAt, terminalAt};
+ghost use Rattle.bus_octets.specs.Layout.{terminalsIn, lettersRead, octetsOf};
 use super::layout::BUS_LENGTH;
 use super::layout::IMAGES_AT;
 use super::layout::LETTERS_AT;
 use super::layout::OCTETS_AT;
-use super::layout::TERMINALS_AT;
 use super::layout::TERMINAL_LENGTH;
+use super::layout::TERMINALS_AT;
 use super::numbers::flag_at;
 use super::numbers::half_at;
 use super::numbers::octet_at;
@@ -66,7 +67,7 @@ pub fn record_in(s: &[u8]) -> BusRecord
     }
 }
 
-// Reads what the terminal whose octets begin at index `at` has for D.
+// Reads how the terminal whose octets begin at index `at` stands with D.
 fn access_at(s: &[u8], at: u16) -> Access
     ensures { λ r. ⌜ r ≡ accessAt (now (s .entry)) at ⌝ }
 {
@@ -83,7 +84,7 @@ fn access_at(s: &[u8], at: u16) -> Access
     }
 }
 
-// Reads the terminal with index i, of eight.
+// Reads terminal i + 1.
 fn terminal_at(s: &[u8], i: u8) -> Terminal
     ensures { λ r. ⌜ r ≡ terminalAt (now (s .entry)) (terminalsAt + i * terminalLength) ⌝ }
 {

@@ -1,3 +1,4 @@
+-- `access_at` meets its contract: each field from its place.
 use borrow.Author.Needs.{needs}
 use Rattle.bus_octets.proofs.shown.access_at.Statement.{statement}
 use Rattle.bus_octets.proofs.shown.access_at.Tie as tie

@@ -1,3 +1,4 @@
+-- `network_in` meets its contract: each field from its place.
 use borrow.Author.Needs.{needs}
 use Rattle.bus_octets.proofs.shown.network_in.Statement.{statement}
 use Rattle.bus_octets.proofs.shown.network_in.Tie as tie

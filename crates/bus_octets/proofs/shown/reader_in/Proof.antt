@@ -1,3 +1,4 @@
+-- `reader_in` meets its contract: each field from its place.
 use borrow.Author.Needs.{needs}
 use Rattle.bus_octets.proofs.shown.reader_in.Statement.{statement}
 use Rattle.bus_octets.proofs.shown.reader_in.Tie as tie

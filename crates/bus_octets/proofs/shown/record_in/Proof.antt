@@ -1,3 +1,4 @@
+-- `record_in` meets its contract: each part from its place.
 use borrow.Author.Needs.{needs}
 use Rattle.bus_octets.specs.Layout.{recordIn}
 use Rattle.bus_octets.proofs.shown.record_in.Statement.{statement}

@@ -1,3 +1,4 @@
+-- `terminal_at` meets its contract: each part from its place.
 use borrow.Author.Needs.{needs}
 use Rattle.bus_octets.specs.Layout.{terminalAt}
 use Rattle.bus_octets.proofs.shown.terminal_at.Statement.{statement}
