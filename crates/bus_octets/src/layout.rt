@@ -1,7 +1,7 @@
 // Where the parts of a bus stand among its octets. specs/Layout.antt has the whole layout.
 use bus_event::event::IMAGES_ROOM;
 use combining::combine::TERMINALS;
-use packing::image::LONGEST_BODY;
+use hdlc::LONGEST_BODY;
 use symbols::LINE_LENGTH;
 
 // The layout's version.

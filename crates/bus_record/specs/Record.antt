@@ -24,9 +24,9 @@ freshRecord =
       hit = false;
     }
 
--- The changes of a record, each with all else as it was: nothing but these, the fresh record and
--- what octets stand for names all of its fields. Other periods and D opportunities run; another
--- network end, with its reader; another last D; whether a hit is pending.
+-- The changes of a record, each with all else as it was: other periods and D opportunities run;
+-- another network end, with its reader; another last D; whether a hit is pending. No definition but
+-- these, the fresh record and what octets stand for (bus_octets) names all fields.
 abbrev pub withCounts : Periods → Opportunities → BusRecord → BusRecord
 withCounts periods opportunities r =
     record {

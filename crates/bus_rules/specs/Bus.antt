@@ -70,9 +70,9 @@ freshBus =
       stations = replicate terminals freshStation;
     }
 
--- The changes of a bus, each with all else as it was: nothing but these and the fresh bus names all
--- of its fields. Other periods and D opportunities run; another network end, with its reader;
--- another last D; another hit; other stations.
+-- The changes of a bus, each with all else as it was: other periods and D opportunities run;
+-- another network end, with its reader; another last D; another hit; other stations. No rule but
+-- these and the fresh bus names all fields.
 abbrev pub withCounts : ℕ → ℕ → Bus → Bus
 withCounts periods opportunities b =
     record {

@@ -25,7 +25,7 @@ use Rattle.bus_rules.specs.Exchange.{Sender, Opportunity, stationsOf, ex
 unfoldable pub readingAfter : ℕ → ℕ → Reading → Reading
 readingAfter from to r = cond (eqb from G3) (cond (eqb to G3) r cleared) r
 
--- The network end becomes another one, where its reader stood at `reading`.
+-- Another network end, with its reader at `reading` but where G3 is left.
 abbrev pub networkNow : Network → Reading → Bus → Bus
 networkNow n reading b = withNetwork n (readingAfter (b .network .state) (n .state) reading) b
 

@@ -31,8 +31,9 @@ use Rattle.terminal.specs.declared.TerminalStep.{TerminalStep}
 abbrev pub fresh : Terminal
 fresh = record { t3 = 0; access = dchannel.fresh; state = F1; alignment = alignment.fresh }
 
--- The record with these fields, and what else it has as it was: every change of a terminal is one
--- of these, so that nothing else names all of its fields.
+-- The record with these fields, and what else it has as it was. Every change of a terminal is one
+-- of these: no definition but this one, `fresh` and what octets stand for (bus_octets) names all
+-- fields.
 abbrev pub withFields : ℕ → Access → ℕ → Alignment → Terminal → Terminal
 withFields t3 access state alignment t = record { t3 = t3; access = access; state = state; alignment = alignment }
 
