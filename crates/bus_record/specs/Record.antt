@@ -24,52 +24,26 @@ freshRecord =
       hit = false;
     }
 
--- The changes of a record, each with all else as it was: other periods and D opportunities run;
--- another network end, with its reader; another last D; whether a hit is pending. No definition but
--- these, the fresh record and what octets stand for (bus_octets) names all fields.
+-- A record with these fields, and what else it has as it was. Every change of a record is one of
+-- these: no definition but this one, `freshRecord` and what octets stand for (bus_octets) names all
+-- fields.
+abbrev pub withFields : Network → Periods → Opportunities → Reader → Bool → Bool → BusRecord → BusRecord
+withFields network periods opportunities reader echo hit r =
+    record { network = network; periods = periods; opportunities = opportunities; reader = reader; echo = echo; hit = hit }
+
+-- Other periods and D opportunities run; another network end, with its reader; another last D;
+-- whether a hit is pending.
 abbrev pub withCounts : Periods → Opportunities → BusRecord → BusRecord
-withCounts periods opportunities r =
-    record {
-      network = r .network;
-      periods = periods;
-      opportunities = opportunities;
-      reader = r .reader;
-      echo = r .echo;
-      hit = r .hit;
-    }
+withCounts periods opportunities r = withFields (r .network) periods opportunities (r .reader) (r .echo) (r .hit) r
 
 abbrev pub withNetwork : Network → Reader → BusRecord → BusRecord
-withNetwork network reader r =
-    record {
-      network = network;
-      periods = r .periods;
-      opportunities = r .opportunities;
-      reader = reader;
-      echo = r .echo;
-      hit = r .hit;
-    }
+withNetwork network reader r = withFields network (r .periods) (r .opportunities) reader (r .echo) (r .hit) r
 
 abbrev pub withEcho : Bool → BusRecord → BusRecord
-withEcho echo r =
-    record {
-      network = r .network;
-      periods = r .periods;
-      opportunities = r .opportunities;
-      reader = r .reader;
-      echo = echo;
-      hit = r .hit;
-    }
+withEcho echo r = withFields (r .network) (r .periods) (r .opportunities) (r .reader) echo (r .hit) r
 
 abbrev pub withHit : Bool → BusRecord → BusRecord
-withHit hit r =
-    record {
-      network = r .network;
-      periods = r .periods;
-      opportunities = r .opportunities;
-      reader = r .reader;
-      echo = r .echo;
-      hit = hit;
-    }
+withHit hit r = withFields (r .network) (r .periods) (r .opportunities) (r .reader) (r .echo) hit r
 
 -- Refusal 1: "A field of the bus record lies outside its range".
 unfoldable pub recordInRange : BusRecord → Bool

@@ -1,8 +1,8 @@
 -- Rules: the bus (document 01, "Order inside a period" and "D access (6.1)"): one network end,
 -- terminals 1 to 8, and what the record counts.
 -- Interface: `Station`, `Hit`, `Bus`, `terminals`, `freshStation`, `withTerminal`, `stationAt`,
--- `freshBus`, `withCounts`, `withNetwork`, `withHeardD`, `withHit`, `withStations`, `Note`,
--- `notesOf`. Assumes nothing.
+-- `freshBus`, `withFields`, `withCounts`, `withNetwork`, `withHeardD`, `withHit`, `withStations`,
+-- `Note`, `notesOf`. Assumes nothing.
 use mathlib.Core.Bool.{Bool, true}
 use mathlib.Core.List.{List, [], _∷_}
 use Prim.Native.Nat.{ℕ}
@@ -70,68 +70,40 @@ freshBus =
       stations = replicate terminals freshStation;
     }
 
--- The changes of a bus, each with all else as it was: other periods and D opportunities run;
--- another network end, with its reader; another last D; another hit; other stations. No rule but
--- these and the fresh bus names all fields.
-abbrev pub withCounts : ℕ → ℕ → Bus → Bus
-withCounts periods opportunities b =
+-- A bus with these fields, and what else it has as it was. Every change of a bus is one of these: no
+-- rule but this one and `freshBus` names all fields.
+abbrev pub withFields : ℕ → ℕ → Network → Reading → Bool → Hit → List Station → Bus → Bus
+withFields periods opportunities network reading heardD hit stations b =
     record {
       periods = periods;
       opportunities = opportunities;
-      network = b .network;
-      reading = b .reading;
-      heardD = b .heardD;
-      hit = b .hit;
-      stations = b .stations;
+      network = network;
+      reading = reading;
+      heardD = heardD;
+      hit = hit;
+      stations = stations;
     }
+
+-- Other periods and D opportunities run; another network end, with its reader; another last D;
+-- another hit; other terminals.
+abbrev pub withCounts : ℕ → ℕ → Bus → Bus
+withCounts periods opportunities b =
+    withFields periods opportunities (b .network) (b .reading) (b .heardD) (b .hit) (b .stations) b
 
 abbrev pub withNetwork : Network → Reading → Bus → Bus
 withNetwork network reading b =
-    record {
-      periods = b .periods;
-      opportunities = b .opportunities;
-      network = network;
-      reading = reading;
-      heardD = b .heardD;
-      hit = b .hit;
-      stations = b .stations;
-    }
+    withFields (b .periods) (b .opportunities) network reading (b .heardD) (b .hit) (b .stations) b
 
 abbrev pub withHeardD : Bool → Bus → Bus
 withHeardD heardD b =
-    record {
-      periods = b .periods;
-      opportunities = b .opportunities;
-      network = b .network;
-      reading = b .reading;
-      heardD = heardD;
-      hit = b .hit;
-      stations = b .stations;
-    }
+    withFields (b .periods) (b .opportunities) (b .network) (b .reading) heardD (b .hit) (b .stations) b
 
 abbrev pub withHit : Hit → Bus → Bus
-withHit hit b =
-    record {
-      periods = b .periods;
-      opportunities = b .opportunities;
-      network = b .network;
-      reading = b .reading;
-      heardD = b .heardD;
-      hit = hit;
-      stations = b .stations;
-    }
+withHit hit b = withFields (b .periods) (b .opportunities) (b .network) (b .reading) (b .heardD) hit (b .stations) b
 
 abbrev pub withStations : List Station → Bus → Bus
 withStations stations b =
-    record {
-      periods = b .periods;
-      opportunities = b .opportunities;
-      network = b .network;
-      reading = b .reading;
-      heardD = b .heardD;
-      hit = b .hit;
-      stations = stations;
-    }
+    withFields (b .periods) (b .opportunities) (b .network) (b .reading) (b .heardD) (b .hit) stations b
 
 -- A note: "The fields are the period, the unit, the note and its value." The note is its code, and
 -- the value of MPH-II is in its code; the value of `heard` is the body, others have none. `refused`
