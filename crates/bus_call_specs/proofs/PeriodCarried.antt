@@ -67,7 +67,7 @@ module _ (k : Kept) (b : Bus) (c : Carries k b) (f : Fit b) where
 
   -- ---- what it leaves
   pub run-carried : Carries (keptRun k) (periodRun b)
-  unfolding keptRun periodAnswer hitIn periodRun timed heardBy
+  unfolding keptRun periodAnswer busIn hitIn periodRun timed heardBy
   run-carried =
       let p = period-same (busIn k) b same in
       record {
