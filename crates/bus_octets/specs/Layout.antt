@@ -6,10 +6,11 @@
 --   352 the octets of the network end's reader, 266
 --   618 the rooms of the eight images, 322 octets each, terminal 1 first
 -- 3,194 octets in all. Reserved octets are 0; octets of which one is not are no bus.
--- Interface: `flag`, `recordLength`, `terminalLength`, `terminalsAt`, `busLength`, `recordFields`,
--- `recordOctets`, `terminalFields`, `terminalOctets`, `terminalsOctets`, `busOctets`, `flagAt`,
--- `networkIn`, `readerIn`, `recordIn`, `accessAt`, `terminalAt`, `terminalsIn`, `lettersRead`,
--- `octetsOf`, `shown`, `headOctets`, `isHead`, `isBus`. Assumes nothing.
+-- Interface: `flag`, `recordLength`, `terminalLength`, `terminalsAt`, `busLength`, `countsFields`,
+-- `networkFields`, `readerFields`, `recordFields`, `recordOctets`, `terminalFields`,
+-- `terminalOctets`, `terminalsOctets`, `busOctets`, `flagAt`, `networkIn`, `readerIn`, `recordIn`,
+-- `accessAt`, `terminalAt`, `terminalsIn`, `lettersRead`, `octetsOf`, `shown`, `headOctets`,
+-- `isHead`, `isBus`. Assumes nothing.
 use mathlib.Core.Bool.{Bool, true, false, cond, _&&_}
 use mathlib.Core.List.{List, [], _∷_, _++_}
 use Prim.Native.Nat.{ℕ, zero, suc, _+_, _-_, _*_}
@@ -68,27 +69,31 @@ busLength = imagesAt + imagesRoom
 abbrev pub filledUp : ℕ → List ℕ → List ℕ
 filledUp n s = s ++ replicate (n - length s) 0
 
--- The record: four letters, the version, the counts, the network end, its reader, the last D heard,
--- whether a hit is pending.
+-- what the record begins with: four letters, the version, the counts
+abbrev pub countsFields : ℕ → ℕ → List ℕ
+countsFields periods opportunities = ascii "SBUS" ++ (version ∷ []) ++ word periods ++ word opportunities
+
+-- the network end: its timers, its state, its alignment
+abbrev pub networkFields : Network → List ℕ
+networkFields n = word (n .t1) ++ word (n .t2) ++ (n .state ∷ flag (n .alignment .aligned) ∷ n .alignment .run ∷ [])
+
+-- its reader of D
+abbrev pub readerFields : Reader → List ℕ
+readerFields r = half (r .bits) ++ (r .ones ∷ r .octet ∷ flag (r .opened) ∷ flag (r .zero) ∷ [])
+
+-- The record: these, the last D heard, whether a hit is pending.
 abbrev pub recordFields : BusRecord → List ℕ
 recordFields r =
-    ascii "SBUS"
-    ++ (version ∷ [])
-    ++ word (r .periods .0)
-    ++ word (r .opportunities .0)
-    ++ word (r .network .t1)
-    ++ word (r .network .t2)
-    ++ (r .network .state ∷ flag (r .network .alignment .aligned) ∷ r .network .alignment .run ∷ [])
-    ++ half (r .reader .bits)
-    ++ (r .reader .ones ∷ r .reader .octet ∷ flag (r .reader .opened) ∷ flag (r .reader .zero) ∷ [])
-    ++ (flag (r .echo) ∷ [])
-    ++ (flag (r .hit) ∷ [])
+    countsFields (r .periods .0) (r .opportunities .0)
+    ++ networkFields (r .network)
+    ++ readerFields (r .reader)
+    ++ (flag (r .echo) ∷ flag (r .hit) ∷ [])
 
 unfoldable pub recordOctets : BusRecord → List ℕ
 recordOctets r = filledUp recordLength (recordFields r)
 
 -- A terminal: T3, the bits of the held frame and how many of them have left, C, the class held, the
--- two levels, the bit that left last, the state, alignment.
+-- two levels, the bit that left last, the state, its alignment.
 abbrev pub terminalFields : Terminal → List ℕ
 terminalFields t =
     word (t .t3)

@@ -46,7 +46,23 @@ flag-at-requires-3 : tie.Need-flag-at-requires-3
 flag-at-requires-3 c κs = search needs
 
 returns : tie.Need-returns
-returns c = cc
+returns c =
+    let last = c in
+    let low2 = last .before in
+    let low1 = low2 .before in
+    let held = low1 .before in
+    let count = held .before in
+    let sent = count .before in
+    let length = sent .before in
+    rw (
+      length .half-at .ensures,
+      sent .half-at2 .ensures,
+      count .octet-at .ensures,
+      held .octet-at2 .ensures,
+      low1 .flag-at .ensures,
+      low2 .flag-at2 .ensures,
+      last .flag-at3 .ensures,
+    )
 
 pub access-at-spec : {M : Type 1} → statement M
 access-at-spec =

@@ -25,7 +25,19 @@ octet-at-requires-2 : tie.Need-octet-at-requires-2
 octet-at-requires-2 c κs = search needs
 
 returns : tie.Need-returns
-returns c = cc
+returns c =
+    let run = c in
+    let aligned = run .before in
+    let state = aligned .before in
+    let t2 = state .before in
+    let t1 = t2 .before in
+    rw (
+      t1 .word-at .ensures,
+      t2 .word-at2 .ensures,
+      state .octet-at .ensures,
+      aligned .flag-at .ensures,
+      run .octet-at2 .ensures,
+    )
 
 pub network-in-spec : {M : Type 1} → statement M
 network-in-spec =

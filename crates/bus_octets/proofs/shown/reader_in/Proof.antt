@@ -19,7 +19,19 @@ flag-at-requires-2 : tie.Need-flag-at-requires-2
 flag-at-requires-2 c κs = search needs
 
 returns : tie.Need-returns
-returns c = cc
+returns c =
+    let zero = c in
+    let opened = zero .before in
+    let octet = opened .before in
+    let ones = octet .before in
+    let bits = ones .before in
+    rw (
+      bits .half-at .ensures,
+      ones .octet-at .ensures,
+      octet .octet-at2 .ensures,
+      opened .flag-at .ensures,
+      zero .flag-at2 .ensures,
+    )
 
 pub reader-in-spec : {M : Type 1} → statement M
 reader-in-spec =

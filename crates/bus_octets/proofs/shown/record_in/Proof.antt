@@ -24,7 +24,21 @@ flag-at-requires-2 c κs = search needs
 
 returns : tie.Need-returns
 unfolding recordIn
-returns c = cc
+returns c =
+    let hit = c in
+    let echo = hit .before in
+    let reader = echo .before in
+    let opportunities = reader .before in
+    let periods = opportunities .before in
+    let network = periods .before in
+    rw (
+      network .network-in .ensures,
+      periods .word-at .ensures,
+      opportunities .word-at2 .ensures,
+      reader .reader-in .ensures,
+      echo .flag-at .ensures,
+      hit .flag-at2 .ensures,
+    )
 
 pub record-in-spec : {M : Type 1} → statement M
 record-in-spec =

@@ -45,7 +45,19 @@ octet-at-requires-2 c κs = search needs
 
 returns : tie.Need-returns
 unfolding terminalAt
-returns c = cc
+returns c =
+    let run = c in
+    let aligned = run .before in
+    let state = aligned .before in
+    let access = state .before in
+    let t3 = access .before in
+    rw (
+      t3 .word-at .ensures,
+      access .access-at .ensures,
+      state .octet-at .ensures,
+      aligned .flag-at .ensures,
+      run .octet-at2 .ensures,
+    )
 
 pub terminal-at-spec : {M : Type 1} → statement M
 terminal-at-spec =
