@@ -29,21 +29,21 @@ extern "C" {
 
 // ---- Lengths, in octets unless something else is said ----------------------------------------------------------------------------------
 
-#define SBUS_BUS_LENGTH 3050       // a bus; sbus_bus_length()
-#define SBUS_NOTES_LENGTH 979      // the notes of any call at most, their end included; sbus_notes_length()
-#define SBUS_BOOK_LENGTH 3053      // a book; sbus_book_length()
-#define SBUS_SYMBOLS_LENGTH 48     // a period's symbols, and the letters of a hit
-#define SBUS_FIELDS_LENGTH 16      // the fields of a frame
-#define SBUS_COUNTS_LENGTH 8       // what sbus_counts tells
-#define SBUS_SEEN_LENGTH 7         // what sbus_unit tells
-#define SBUS_WENT_LENGTH 17        // what sbus_book_go_on tells
-#define SBUS_NOTE_HEAD_LENGTH 8    // a note without its value
-#define SBUS_BODY_MOST 266         // the longest body; the shortest has 1
-#define SBUS_REPORT_ROOM 4248      // with less room than this left for the report a book does not go on
-#define SBUS_LINE_MOST 600         // the longest line of a book, its LF included
-#define SBUS_TERMINALS 8           // terminals are units 1 to 8
-#define SBUS_PERIODS_MOST 4000000  // periods that a bus runs at most
-#define SBUS_VERSION 1             // of the layout at the end of this file
+#define SBUS_BUS_LENGTH 3194                    // a bus; sbus_bus_length()
+#define SBUS_NOTES_LENGTH 979                   // the notes of any call at most, their end included; sbus_notes_length()
+#define SBUS_BOOK_LENGTH (SBUS_BUS_LENGTH + 3)  // a book, 3197; sbus_book_length()
+#define SBUS_SYMBOLS_LENGTH 48                  // a period's symbols, and the letters of a hit
+#define SBUS_FIELDS_LENGTH 16                   // the fields of a frame
+#define SBUS_COUNTS_LENGTH 8                    // what sbus_counts tells
+#define SBUS_SEEN_LENGTH 7                      // what sbus_unit tells
+#define SBUS_WENT_LENGTH 17                     // what sbus_book_go_on tells
+#define SBUS_NOTE_HEAD_LENGTH 8                 // a note without its value
+#define SBUS_BODY_MOST 266                      // the longest body; the shortest has 1
+#define SBUS_REPORT_ROOM 4248                   // with less room than this left for the report a book does not go on
+#define SBUS_LINE_MOST 600                      // the longest line of a book, its LF included
+#define SBUS_TERMINALS 8                        // terminals are units 1 to 8
+#define SBUS_PERIODS_MOST 4000000               // periods that a bus runs at most
+#define SBUS_VERSION 2                          // of the layout at the end of this file
 
 // The same three lengths as the library has them: a program that was built with another header finds out here.
 size_t sbus_bus_length(void);
@@ -54,7 +54,8 @@ size_t sbus_book_length(void);
 
 enum sbus_refusal {
     SBUS_OK = 0,
-    SBUS_NO_BUS = 1,       // the octets are no bus or no book: their number, the letters "SBUS", the version, or a field outside its range
+    SBUS_NO_BUS = 1,       // the octets are no bus or no book: their number, the letters "SBUS", the version, a field outside its range,
+                           // a reserved octet that is not 0
     SBUS_WRONG_SLICE = 2,  // another slice is too short or of the wrong length, or holds a code that stands for nothing
     SBUS_NO_UNIT = 3,      // the unit is above 8
     SBUS_NOT_FOR_UNIT = 4, // the event is not one for this unit, or is none at all
@@ -107,7 +108,7 @@ uint32_t sbus_write_frame(uint32_t up, const uint8_t *fields, size_t fields_leng
 // ---- A bus -----------------------------------------------------------------------------------------------------------------------------
 
 // Makes the octets a fresh bus, whatever they were: no terminal is powered, nothing has been run, period 0 comes next.
-// 0; 1: the length is not 3050.
+// 0; 1: the length is not SBUS_BUS_LENGTH.
 uint32_t sbus_fresh(uint8_t *bus, size_t bus_length);
 
 enum sbus_event_number {
@@ -185,7 +186,7 @@ enum sbus_note {
 // ---- Books and reports -----------------------------------------------------------------------------------------------------------------
 
 // Makes the octets a book of which nothing has been read, with a fresh bus.
-// 0; 1: the length is not 3053.
+// 0; 1: the length is not SBUS_BOOK_LENGTH.
 uint32_t sbus_book_fresh(uint8_t *book, size_t book_length);
 
 // Why sbus_book_go_on has stopped.
@@ -208,14 +209,15 @@ enum sbus_stop {
 uint32_t sbus_book_go_on(uint8_t *book, size_t book_length, const uint8_t *text, size_t text_length, uint32_t whole, uint8_t *report,
                          size_t report_length, uint8_t *went, size_t went_length);
 
-// ---- The layout of a bus, version 1 ----------------------------------------------------------------------------------------------------
+// ---- The layout of a bus, version 2 ----------------------------------------------------------------------------------------------------
 
 // For whoever stores buses or looks into a dump. A host has no need of it, and nothing is promised of a bus that a host has written into: it is
-// refused with 1, or is a bus like any other.
+// refused with 1, or is a bus like any other. A bus of another version is refused with 1, too: later versions give reserved octets a
+// meaning. What has a place keeps it.
 //
 //     octets      range        what
 //     0-3         "SBUS"
-//     4           1            version
+//     4           2            version
 //     5-8         0-4000000    periods run
 //     9-12                     D opportunities run, at most four times the periods
 //     13-16       0-4120000    T1: the period at whose start it is due, 0 for none
@@ -230,7 +232,8 @@ uint32_t sbus_book_go_on(uint8_t *book, size_t book_length, const uint8_t *text,
 //     29          0-1          whether the last 0 counts among the bits
 //     30          0-1          the last D that the network end heard
 //     31          0-1          whether a hit is pending
-//     32-159                   terminals 1 to 8, 16 octets each; terminal u from 32 + 16 (u - 1) on:
+//     32-111      0            reserved
+//     112-303                  terminals 1 to 8, 24 octets each; terminal u from 112 + 24 (u - 1) on:
 //       0-3       0-4120000      T3
 //       4-5       0-2569         bits of the held frame's image
 //       6-7       0-2569         of them sent
@@ -242,13 +245,14 @@ uint32_t sbus_book_go_on(uint8_t *book, size_t book_length, const uint8_t *text,
 //       13        1-8            state, F1 to F8
 //       14        0-1            aligned
 //       15        0-2            its run
-//     160-207     0-3          letters of the hit
-//     208-473     any          octets that the reader has read
-//     474-3049    any          rooms of the images of terminals 1 to 8, 322 octets each, low-order bit first
+//       16-23     0              reserved
+//     304-351     0-3          letters of the hit
+//     352-617     any          octets that the reader has read
+//     618-3193    any          rooms of the images of terminals 1 to 8, 322 octets each, low-order bit first
 //
-// A book, 3053 octets: 0-3049 its bus, which sbus_counts and sbus_unit may be asked about (an event or a period that the host gives it by itself is not
-// in the book); 3050 its stage (0 the first line is to come, 1 lines, 2 or more `end` has come); 3051 whether the report is begun, 3052 whether it is
-// finished (0-1 both).
+// A book, 3197 octets: 0-3193 its bus, which sbus_counts and sbus_unit may be asked about (an event or a period that the host gives it by
+// itself is not in the book); 3194 its stage (0 the first line is to come, 1 lines, 2 or more `end` has come); 3195 whether the report is
+// begun, 3196 whether it is finished (0-1 both).
 
 #ifdef __cplusplus
 }

@@ -77,6 +77,20 @@ uint32_t try_book_fresh(struct tests *t, uint8_t *book, size_t book_length);
 uint32_t try_book_go_on(struct tests *t, uint8_t *book, size_t book_length, const uint8_t *text, size_t text_length, uint32_t whole, uint8_t *report,
                         size_t report_length, uint8_t *went, size_t went_length);
 
+// ---- The layout of a bus (sbus.h, at its end)
+
+// How many octets the record and a terminal have, and how many of them are fields; where the terminals, the letters of the hit and the
+// octets of the reader begin.
+enum {
+    RECORD_FIELDS = 32,
+    RECORD_LENGTH = 112,
+    TERMINAL_FIELDS = 16,
+    TERMINAL_LENGTH = 24,
+    TERMINALS_AT = 112,
+    LETTERS_AT = 304,
+    OCTETS_AT = 352
+};
+
 // ---- Numbers, notes and text (tests_text.c)
 
 // A number of n octets, the low-order one first; and such a number put.

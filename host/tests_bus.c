@@ -17,10 +17,10 @@ static void test_length_calls(struct tests *t)
 // Where a terminal's octets begin.
 static size_t terminal_at(uint32_t unit)
 {
-    return 32 + 16 * ((size_t)unit - 1);
+    return TERMINALS_AT + TERMINAL_LENGTH * ((size_t)unit - 1);
 }
 
-// The octets of a fresh bus by the layout of version 1: what is not named here is 0.
+// The octets of a fresh bus by the layout of version 2: what is not named here is 0.
 static void fresh_by_layout(uint8_t *bus)
 {
     memset(bus, 0, SBUS_BUS_LENGTH);
@@ -112,6 +112,68 @@ static void test_no_bus(struct tests *t)
     end(t);
 }
 
+// A fresh bus of version 1, which had no reserved octets: 3,050 octets, the terminals from 32 on, 16 each. It is refused as it was stored,
+// and with as many octets as a bus has now. A bus that is as it must be but for the version is refused as well.
+static void test_version_1(struct tests *t)
+{
+    uint8_t bus[SBUS_BUS_LENGTH] = "SBUS\001";
+    begin(t, "refusal 1 at every call: a bus of version 1");
+    bus[21] = 1;
+    bus[26] = 7;
+    bus[30] = 1;
+    for (size_t at = 32; at < 160; at += 16) {
+        bus[at + 12] = 1;
+        bus[at + 13] = 1;
+    }
+    all_calls_say(t, bus, 3050, SBUS_NO_BUS);
+    all_calls_say(t, bus, sizeof bus, SBUS_NO_BUS);
+    book_says(t, bus, SBUS_NO_BUS);
+    fresh_by_layout(bus);
+    bus[4] = 1;
+    all_calls_say(t, bus, sizeof bus, SBUS_NO_BUS);
+    book_says(t, bus, SBUS_NO_BUS);
+    end(t);
+}
+
+// ---- Reserved octets
+
+// With a reserved octet that is 1 or 255, every call refuses a bus with 1 and changes nothing.
+static void reserved(struct tests *t, uint8_t *bus, size_t from, size_t to)
+{
+    for (size_t i = from; i < to; i++) {
+        CHECK(t, bus[i] == 0);
+        for (unsigned value = 1; value < 256; value += 254) {
+            bus[i] = (uint8_t)value;
+            all_calls_say(t, bus, SBUS_BUS_LENGTH, SBUS_NO_BUS);
+            book_says(t, bus, SBUS_NO_BUS);
+        }
+        bus[i] = 0;
+    }
+    all_calls_say(t, bus, SBUS_BUS_LENGTH, SBUS_OK);
+    book_says(t, bus, SBUS_OK);
+}
+
+// On a bus in work: all terminals active, each with a frame.
+static void test_reserved(struct tests *t)
+{
+    static const uint8_t body[] = {0xfc, 0xff, 0x03};
+    struct scene s;
+    begin(t, "refusal 1: each of the 80 reserved octets of the record");
+    scene_open(&s, t);
+    activate(&s, SBUS_TERMINALS);
+    for (uint32_t unit = 1; unit <= SBUS_TERMINALS; unit++) {
+        CHECK(t, give_value(&s, unit, SBUS_D1, body, sizeof body) == SBUS_OK);
+    }
+    CHECK(t, run_to(&s, 30) == SBUS_OK);
+    reserved(t, s.bus, RECORD_FIELDS, RECORD_LENGTH);
+    end(t);
+    for (uint32_t unit = 1; unit <= SBUS_TERMINALS; unit++) {
+        begin(t, "refusal 1: each of the 8 reserved octets of terminal %u", (unsigned)unit);
+        reserved(t, s.bus, terminal_at(unit) + TERMINAL_FIELDS, terminal_at(unit) + TERMINAL_LENGTH);
+        end(t);
+    }
+}
+
 // ---- The range of every field
 
 struct field {
@@ -170,7 +232,7 @@ static void test_ranges(struct tests *t)
     }
     begin(t, "refusal 1: the letters of a hit");
     for (size_t i = 0; i < SBUS_SYMBOLS_LENGTH; i++) {
-        struct field f = {160 + i, 1, 0, 3};
+        struct field f = {LETTERS_AT + i, 1, 0, 3};
         test_field(t, bus, &f);
     }
     end(t);
@@ -194,7 +256,7 @@ static void test_free_fields(struct tests *t)
     begin(t, "octets of a bus that may be anything");
     fresh_by_layout(bus);
     bus[27] = 0xff;
-    memset(bus + 208, 0xff, SBUS_BUS_LENGTH - 208);
+    memset(bus + OCTETS_AT, 0xff, SBUS_BUS_LENGTH - OCTETS_AT);
     all_calls_say(t, bus, sizeof bus, SBUS_OK);
     end(t);
 }
@@ -494,6 +556,8 @@ void test_bus(struct tests *t)
     test_length_calls(t);
     test_fresh(t);
     test_no_bus(t);
+    test_version_1(t);
+    test_reserved(t);
     test_ranges(t);
     test_free_fields(t);
     test_notes_room(t);

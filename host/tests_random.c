@@ -180,8 +180,8 @@ static void refused_by_all(struct tests *t, struct random *r, uint8_t *bus, size
     CHECK(t, try_counts(t, bus, length, told, sizeof told) == SBUS_NO_BUS);
 }
 
-// Any octets: of any number; 3050 of them; with the right letters and version; with fields that are all alike as well, and a letter of a hit that is
-// none. They are a bus only by a chance that never comes.
+// Any octets: of any number; as many as a bus has; with the right letters and version; with fields that are all alike as well, and a letter
+// of a hit that is none. They are a bus only by a chance that never comes.
 static void try_garbage(struct tests *t, struct random *r)
 {
     uint8_t bus[SBUS_BUS_LENGTH + 50];
@@ -189,11 +189,12 @@ static void try_garbage(struct tests *t, struct random *r)
     size_t length = how == 0 ? random_below(r, sizeof bus + 1) : SBUS_BUS_LENGTH;
     random_fill(r, bus, sizeof bus);
     if (how >= 2) {
-        memcpy(bus, "SBUS\001", 5);
+        memcpy(bus, "SBUS", 4);
+        bus[4] = SBUS_VERSION;
     }
     if (how == 3) {
-        memset(bus + 5, (int)random_below(r, 256), 155);
-        bus[160 + random_below(r, SBUS_SYMBOLS_LENGTH)] = 4;
+        memset(bus + 5, (int)random_below(r, 256), LETTERS_AT - 5);
+        bus[LETTERS_AT + random_below(r, SBUS_SYMBOLS_LENGTH)] = 4;
     }
     refused_by_all(t, r, bus, length);
 }
@@ -227,7 +228,7 @@ static void try_mutant(struct tests *t, struct random *r, const uint8_t *real, u
     uint8_t bus[SBUS_BUS_LENGTH];
     uint8_t told[SBUS_COUNTS_LENGTH] = {0};
     memcpy(bus, real, sizeof bus);
-    mutate(r, bus, random_below(r, 4) == 0 ? sizeof bus : 208);
+    mutate(r, bus, random_below(r, 4) == 0 ? sizeof bus : OCTETS_AT);
     uint32_t reply = try_counts(t, bus, sizeof bus, told, sizeof told);
     if (reply != SBUS_OK) {
         CHECK(t, reply == SBUS_NO_BUS);
@@ -372,7 +373,7 @@ static void try_mutant_book(struct tests *t, struct random *r, const uint8_t *re
     book[SBUS_BUS_LENGTH + 1] = 1;
     book[SBUS_BUS_LENGTH + 2] = 0;
     if (random_below(r, 2) == 0) {
-        mutate(r, book, 208);
+        mutate(r, book, OCTETS_AT);
     } else {
         mutate(r, book + SBUS_BUS_LENGTH, 3);
     }

@@ -175,9 +175,9 @@ static void test_timers(struct tests *t)
     CHECK(t, run_one(&s) == SBUS_OK);
     CHECK(t, text_is(&s.told, t3_told, strlen(t3_told)));
     CHECK(t, give(&s, 1, SBUS_AR) == SBUS_OK);
-    CHECK(t, number(s.bus + 32, 4) == 120001);
+    CHECK(t, number(s.bus + TERMINALS_AT, 4) == 120001);
     CHECK(t, give(&s, 1, SBUS_OFF) == SBUS_OK);
-    CHECK(t, number(s.bus + 32, 4) == 0);
+    CHECK(t, number(s.bus + TERMINALS_AT, 4) == 0);
     end(t);
 }
 

@@ -1,6 +1,6 @@
 -- Calls: how far a book has come, as octets: its bus (crate `bus_octets`, specs/Layout.antt), and
 -- behind it the stage of the book's reader, whether the report's first line is written, and whether
--- all of it is. 3,053 octets in all.
+-- all of it is. 3,197 octets in all.
 -- Interface: `bookLength`, `bookOctets`, `bookStateIn`, `isBook`, `progressIn`, `progressLaid`.
 -- Assumes nothing.
 use mathlib.Core.Bool.{Bool, false, cond, _&&_}
