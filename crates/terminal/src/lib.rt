@@ -211,12 +211,12 @@ impl Terminal {
     pub fn with_fields(self, t3: u64, access: Access, state: u8, alignment: Alignment) -> Self
         ensures { λ r. ⌜ r ≡ spec.withFields t3 access state alignment self ⌝ }
     {
-        let mut terminal = self;
-        terminal.t3 = t3;
-        terminal.access = access;
-        terminal.state = state;
-        terminal.alignment = alignment;
-        terminal
+        Terminal {
+            t3,
+            access,
+            state,
+            alignment,
+        }
     }
 
     // Gives the record with another D access.
