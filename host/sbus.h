@@ -213,7 +213,7 @@ uint32_t sbus_book_go_on(uint8_t *book, size_t book_length, const uint8_t *text,
 
 // For whoever stores buses or looks into a dump. A host has no need of it, and nothing is promised of a bus that a host has written into: it is
 // refused with 1, or is a bus like any other. A bus of another version is refused with 1, too: later versions give reserved octets a
-// meaning. What has a place keeps it.
+// meaning. Fields of the record and of terminals keep their places.
 //
 //     octets      range        what
 //     0-3         "SBUS"

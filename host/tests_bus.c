@@ -268,7 +268,7 @@ static void test_notes_room(struct tests *t)
     struct scene s;
     uint8_t notes[SBUS_NOTES_LENGTH + 1];
     begin(t, "refusal 2: notes under 979 octets");
-    for (size_t n = 0; n <= SBUS_NOTES_LENGTH + 1; n += n == 0 ? 977 : 1) {
+    for (size_t n = 0; n <= SBUS_NOTES_LENGTH + 1; n += n == 0 ? SBUS_NOTES_LENGTH - 2 : 1) {
         uint32_t reply = n < SBUS_NOTES_LENGTH ? SBUS_WRONG_SLICE : SBUS_OK;
         memset(notes, 0xee, sizeof notes);
         scene_open(&s, t);

@@ -270,7 +270,8 @@ static void try_garbage_book(struct tests *t, struct random *r)
     random_fill(r, book, sizeof book);
     random_fill(r, text, sizeof text);
     if (random_below(r, 2) == 0) {
-        memcpy(book, "SBUS\001", 5);
+        memcpy(book, "SBUS", 4);
+        book[4] = SBUS_VERSION;
     }
     CHECK(t, try_book_go_on(t, book, length, text, random_below(r, sizeof text + 1), random_below(r, 2), report, sizeof report, went, sizeof went)
                  == SBUS_NO_BUS);
