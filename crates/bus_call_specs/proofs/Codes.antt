@@ -199,7 +199,7 @@ of-network number bus =
     (λ r. rw r no-codes)))
 
 of-event : (unit number : ℕ) (value : List ℕ) (k : Kept) → Codes (noted (told unit number value k .notes))
-unfolding told eventTold parts.told
+unfolding told eventTold parts.eventSettled parts.told
 of-event unit number value k =
     by-test (eqb (reason unit number value (k .bus) (k .terminals) (k .images) (k .letters)) 0)
     (λ r. rw r

@@ -16,12 +16,13 @@ use Rattle.terminal.specs.declared.Terminal.{Terminal}
 use Rattle.terminal.specs.declared.TerminalStep.{TerminalStep}
 use Rattle.terminal.proofs.Laws.{handed-over-called, hands-over-notes}
 use Rattle.bus_rules.specs.Bus.{Bus, terminals, notesOf}
-use Rattle.bus_rules.specs.Event.{stationOf, classOf, eventFor, reasons, firstHolding, refusal, networkDoes, terminalDoes, eventDone, eventNotes}
+use Rattle.bus_rules.specs.Event.{stationOf, classOf, eventFor, callReasons, stateReasons, reasons, firstHolding, refusal, networkDoes, terminalDoes, eventDone, eventNotes}
 use Rattle.notes_and_cells.specs.Events.{HIT}
 use Rattle.bus_rules.specs.Calls as bus
 use Rattle.bus_rules.specs.Calls.{Call}
 use Rattle.bus_rules.specs.Calls.Call.{event}
 use Rattle.bus_rules.proofs.Barred as barred
+use Rattle.bus_rules.proofs.Refusals.{first-append}
 use Rattle.bus_rules.proofs.Simulation.{Takes, accepted-frame}
 use Rattle.bus_rules.proofs.Ranges.{classGiven}
 use Rattle.bus_event.specs.Event.{imagesRoom, areLetters, firstReason, networkAsked, networkTold, imagePut, frameReason, turnedDown, frameGiven}
@@ -74,7 +75,7 @@ module _ (k : Kept) (b : Bus) (c : Carries k b) (unit number : ℕ) (value : Lis
   finish : told unit number value k .reply ≡ bus.reply b call → (eqb (bus.reply b call) 0 ≡ true → Accepted) → Carried k b call
   finish e accepted = record { replies = replied-told ∙ e; tells = tells-by e accepted; carries = carries-by e accepted }
 
-  -- ---- the reasons 1 to 4
+  -- ---- the reasons that are known before a unit is asked
   abbrev why : ℕ
   why = reason unit number value (k .bus) (k .terminals) (k .images) (k .letters)
 
@@ -103,7 +104,7 @@ module _ (k : Kept) (b : Bus) (c : Carries k b) (unit number : ℕ) (value : Lis
         (told unit number value k ≡ parts.told (k .bus) (here .notes) (here .reply))
         × (called k call ≡
         kept (k .bus) (set (k .terminals) (unit - 1) (here .terminal)) (parts.imagesAfter number there (unit - 1) value (k .images)) (k .octets) (k .letters) (k .notes))
-    unfolding called told eventTold terminalsAfter imagesAfter lettersAfter parts.told
+    unfolding called told eventTold terminalsAfter imagesAfter lettersAfter parts.eventSettled parts.told
     at-terminal t = (rw (e, t), rw (e, t))
 
     -- unit 0
@@ -172,36 +173,28 @@ module _ (k : Kept) (b : Bus) (c : Carries k b) (unit number : ℕ) (value : Lis
 
 -- ---- every event
 module _ (k : Kept) (b : Bus) (c : Carries k b) (f : Fit b) (unit number : ℕ) (value : List ℕ) where
-  why-is : why k b c unit number value
-      ≡ cond (not (eqb number HIT) || areLetters value) (cond (ltb terminals unit) 3 (cond (eventFor unit number) 0 4)) 2
-  unfolding firstReason
+  why-is : why k b c unit number value ≡ firstHolding (callReasons unit number value)
+  unfolding firstReason firstHolding
   why-is =
       let o = order-ranges k (in-order k b c f) in
       rw (o .0, o .1, eq-eqb (length (k .images)) imagesRoom (c .images-fit), c .letters-fit)
 
-  either-way : (a g : Bool) → (not a || g) ≡ not (a && not g)
-  either-way true true = refl
-  either-way true false = refl
-  either-way false g = refl
-
-  -- 2, 3 or 4, or what the two ends answer
+  -- what the call itself decides, or what the two ends answer
   pub event-carried : ((i : ℕ) → getD value i 0 < 256) → Carried k b (event unit number value)
-  unfolding bus.reply refusal reasons firstHolding
+  unfolding bus.reply refusal reasons
   event-carried octets =
-      by-test (eqb number HIT && not (areLetters value))
-      (λ l. turned-away k b c unit number value 2 (why-is ∙ rw (either-way (eqb number HIT) (areLetters value), l)) refl (rw l))
-      (λ l.
-      by-test (ltb terminals unit)
-      (λ u. turned-away k b c unit number value 3 (why-is ∙ rw (either-way (eqb number HIT) (areLetters value), l, u)) refl (rw (l, u)))
-      (λ u.
-      by-test (eventFor unit number)
-      (λ e.
-      let why-0 : why k b c unit number value ≡ 0 = why-is ∙ rw (either-way (eqb number HIT) (areLetters value), l, u, e) in
-      let r = barred.refusal-replied b unit value number l u e in
+      let by-call = firstHolding (callReasons unit number value) in
+      by-test (eqb by-call 0)
+      (λ none.
+      let e = eqb-true by-call 0 none in
+      let why-0 : why k b c unit number value ≡ 0 = why-is ∙ e in
+      let r = barred.refusal-replied b unit value number e in
       by-test (eqb unit 0)
-      (λ z. network-event k b c unit number value why-0 f r l z)
+      (λ z. network-event k b c unit number value why-0 f r (barred.right-letters unit number value e) z)
       (λ z.
       by-test (eqb (classOf number) 0)
-      (λ n. power-event k b c unit number value why-0 f r e z n)
-      (λ n. frame-event k b c unit number value why-0 f r octets u z n)))
-      (λ e. turned-away k b c unit number value 4 (why-is ∙ rw (either-way (eqb number HIT) (areLetters value), l, u, e)) refl (rw (l, u, e)))))
+      (λ n. power-event k b c unit number value why-0 f r (barred.for-its-unit unit number value e) z n)
+      (λ n. frame-event k b c unit number value why-0 f r octets (barred.unit-known unit number value e) z n)))
+      (λ some.
+      turned-away k b c unit number value by-call why-is some
+      (first-append (callReasons unit number value) (stateReasons b unit number value) (barred.none-is-0 unit number value) ∙ rw some))

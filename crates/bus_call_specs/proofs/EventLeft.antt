@@ -34,7 +34,7 @@ use Rattle.terminal.specs.declared.Terminal.{Terminal}
 use Rattle.terminal.proofs.Laws.{AccessByState, switches-on-access, switches-off-access, requests-access}
 use Rattle.bus_rules.specs.Bus.{Station, Hit, Bus, terminals, freshStation, stationAt, withNetwork, withHit}
 use Rattle.bus_rules.specs.Period.{readingAfter, stepped}
-use Rattle.bus_rules.specs.Event.{stationOf, classOf, eventFor, networkDoes, networkDone, hitGiven, terminalDoes, withFrame, stationAfter, stationDone}
+use Rattle.bus_rules.specs.Event.{stationOf, classOf, eventFor, firstHolding, networkDoes, networkDone, hitGiven, terminalDoes, withFrame, stationAfter, stationDone}
 use Rattle.notes_and_cells.specs.Events.{ON, OFF, AR, DR, D1, D2}
 use Rattle.bus_rules.proofs.Barred as barred
 use Rattle.bus_rules.proofs.Simulation.{Takes}
@@ -222,8 +222,8 @@ body-length value h =
 -- the reasons 6, 7 and 8
 pub frame-reason : (images i : ℕ) (value : List ℕ) (t : Terminal) → terminalCalls.terminalInRange t ≡ true → images ≡ imagesRoom → i < terminals →
     ((j : ℕ) → getD value j 0 < 256) → frameReason images i (length value) t ≡ barred.frameReply value t
-unfolding frameReason barred.frameReply
-frame-reason images i value t r e l h = rw (r, eq-eqb images imagesRoom e, lt-ltb i terminals l, body-length value h)
+unfolding frameReason firstHolding
+frame-reason images i value t r e l h = rw (r, eq-eqb images imagesRoom e, lt-ltb i terminals l, body-length value h) (barred.frame-reasons value t)
 
 changed-elsewhere : (g : Station → Station) (i : ℕ) (ss : List Station) (j : ℕ) → (j ≡ i → ⊥) → getD (change g i ss) j freshStation ≡ getD ss j freshStation
 unfolding change

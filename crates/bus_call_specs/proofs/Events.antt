@@ -1,12 +1,12 @@
 -- An event given to a bus: what each way through the call has to show.
 use mathlib.Core.Path.{_≡_, refl, sym, ap, _∙_}
-use mathlib.Core.Bool.{Bool, true, false, cond, not, _&&_, _||_}
+use mathlib.Core.Bool.{Bool, true, false, _&&_}
 use mathlib.Core.List.{List, []}
 use Prim.Native.Nat.{ℕ, _-_, _≤_, _<_}
 use native.Mathlib.Omega.{arith}
 use lib.Dec.{eqb, ltb}
 use lib.ListN.{length, getD, set}
-use borrow.Author.Tests.{eqb-true, eqb-false, ltb-false}
+use borrow.Author.Tests.{eqb-true, eqb-false, ltb-false, not-false}
 use Rattle.test_lemmas.proofs.ByCases.{by-test}
 use Rattle.test_lemmas.proofs.Operators.{and-both}
 use Rattle.notes_and_cells.specs.Notes.{packedNotes}
@@ -14,25 +14,17 @@ use Rattle.terminal.specs.Terminal.{fresh}
 use Rattle.terminal.specs.declared.Terminal.{Terminal}
 use Rattle.terminal.specs.declared.TerminalStep.{TerminalStep}
 use Rattle.bus_rules.specs.Bus.{terminals}
-use Rattle.bus_rules.specs.Event.{eventFor}
-use Rattle.notes_and_cells.specs.Events.{HIT}
+use Rattle.bus_rules.specs.Event.{callReasons}
+use Rattle.bus_rules.proofs.Refusals.{none-holds}
 use Rattle.period_hearing.specs.Shown.{allInRange}
 use Rattle.bus_record.specs.Record.{recordInRange}
 use Rattle.bus_record.specs.declared.record.BusRecord.{BusRecord}
-use Rattle.bus_event.specs.Event.{imagesRoom, areLetters, told, firstReason, networkTold, terminalTold}
+use Rattle.bus_event.specs.Event.{told, firstReason, networkTold, terminalTold, eventSettled}
 use Rattle.bus_event.specs.Event as parts
 use Rattle.bus_event.specs.declared.event.Told.{Told}
 use Rattle.bus_call_specs.specs.Ready.{eightInRange}
 use Rattle.bus_call_specs.specs.Event.{reason, eventTold, terminalsAfter, imagesAfter, lettersAfter}
 use Rattle.bus_call_specs.proofs.InOrder.{eight-in-range}
-
--- no reason: the terminals are in order, and the unit is one of the bus
-none-holds : (a b c d : Bool) → cond {A = ℕ} a (cond b (cond c 3 (cond d 0 4)) 2) 1 ≡ 0 → (a ≡ true) × (c ≡ false)
-none-holds true true false true h = (refl, refl)
-none-holds true true false false h = absurd (omega arith)
-none-holds true true true d h = absurd (omega arith)
-none-holds true false c d h = absurd (omega arith)
-none-holds false b c d h = absurd (omega arith)
 
 module _ (unit number : ℕ) (value : List ℕ) (bus : BusRecord) (ts : List Terminal) (images letters : List ℕ) where
   abbrev pub Promised : Told → List Terminal → List ℕ → List ℕ → Type 0
@@ -42,13 +34,11 @@ module _ (unit number : ℕ) (value : List ℕ) (bus : BusRecord) (ts : List Ter
       × (images′ ≡ imagesAfter unit number value bus ts images letters)
       × (letters′ ≡ lettersAfter unit number value bus ts images letters)
 
+  -- no reason: the terminals are in order, and the unit is one of the bus
   no-reason : (ready : Bool) → firstReason ready bus (length images) letters unit number value ≡ 0
       → ((ready && recordInRange bus) ≡ true) × (ltb terminals unit ≡ false)
-  unfolding firstReason
-  no-reason ready h =
-      none-holds (ready && recordInRange bus)
-      ((eqb (length images) imagesRoom && areLetters letters) && (not (eqb number HIT) || areLetters value))
-      (ltb terminals unit) (eventFor unit number) h
+  unfolding firstReason callReasons
+  no-reason ready h = let n = none-holds _ refl h in (not-false (ready && recordInRange bus) (n 1), n 3)
 
   -- an event that is not refused is of a unit of the bus
   pub unit-is : eventTold unit number value bus ts images letters .reply ≡ 0 → unit ≤ terminals
@@ -82,7 +72,7 @@ module _ (unit number : ℕ) (value : List ℕ) (bus : BusRecord) (ts : List Ter
         abbrev Stepped : Type 0
         Stepped = (s ≡ terminalTold number images i value (bus .periods) (getD ts i fresh)) × (images′ ≡ parts.imagesAfter number (getD ts i fresh) i value images)
 
-        pub at-terminal : Stepped → (r : Told) → r ≡ told bus (s .notes) (s .reply) → Promised r (set ts i (s .terminal)) images′ letters
+        pub at-terminal : Stepped → (r : Told) → r ≡ eventSettled bus unit number value s → Promised r (set ts i (s .terminal)) images′ letters
         unfolding eventTold terminalsAfter imagesAfter lettersAfter
         at-terminal so r so-r = (
           rw (← the-reason, a, b, ← is-i, ← so .0) so-r,

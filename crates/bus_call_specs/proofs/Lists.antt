@@ -8,12 +8,13 @@ use lib.Dec.{eqb, leb}
 use lib.ListN.{length, getD, replicate}
 use borrow.Author.Tests.{eqb-true, eqb-false}
 use Rattle.test_lemmas.proofs.ByCases.{by-test, and-right-false, and-left-false}
+use Rattle.test_lemmas.proofs.Operators.{cond-not}
 use Rattle.hdlc.specs.Image.{longestBody}
 use Rattle.d_reader.proofs.ReadingKept.{stands-fresh}
 use Rattle.d_reader.proofs.RangesKept as reader-kept
 use Rattle.terminal.specs.declared.Terminal.{Terminal}
 use Rattle.bus_rules.specs.Bus.{Bus, terminals, freshStation, freshBus, stationAt}
-use Rattle.notes_and_cells.specs.Events.{HIT}
+use Rattle.bus_rules.specs.Event.{firstHolding}
 use Rattle.bus_rules.specs.Calls as bus
 use Rattle.bus_rules.specs.Calls.{Call, afterAll}
 use Rattle.bus_rules.specs.Calls.Call.{event, period}
@@ -68,10 +69,6 @@ short-places k b c places t =
     let first = eqb (length (k .images)) imagesRoom && leb longestBody (length (k .octets)) in
     rw t (and-left-false (first && false) (areLetters (k .letters)) (and-right-false first false refl))
 
-narrower : (a b c : Bool) → (a && b) ≡ false → (a && (b && c)) ≡ false
-narrower true b c h = and-left-false b c h
-narrower false b c h = refl
-
 -- a call that is lent what does not fit
 module _ (k : Kept) (b : Bus) (c : Carries k b) (f : Fit b)
     (ts : List Terminal) (images octets letters : List ℕ) (places : List UnitNotes) where
@@ -98,10 +95,8 @@ module _ (k : Kept) (b : Bus) (c : Carries k b) (f : Fit b)
 
   event-refused : (unit number : ℕ) (value : List ℕ) → Unfit (event unit number value)
       → reason unit number value (k .bus) ts images letters ≡ its-number
-  unfolding firstReason wouldFit
-  event-refused unit number value h =
-      let slices = eqb (length images) imagesRoom && areLetters letters in
-      refused-first _ _ (narrower (eightInRange ts) slices (not (eqb number HIT) || areLetters value) h)
+  unfolding firstReason firstHolding wouldFit
+  event-refused unit number value h = rw (cond-not, cond-not) (refused-first (eqb (length images) imagesRoom && areLetters letters) _ h)
 
   not-0 : eqb its-number 0 ≡ false
   not-0 = by-test (eightInRange ts) (λ t. rw t) (λ t. rw t)

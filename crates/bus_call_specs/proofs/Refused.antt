@@ -1,14 +1,15 @@
 -- A call that is turned down hands back its number alone and leaves everything as it was.
 use mathlib.Core.Path.{_≡_, refl, _∙_}
 use mathlib.Core.Bool.{Bool, true, false, cond, not, _&&_, _||_}
-use mathlib.Core.List.{List, []}
+use mathlib.Core.List.{List, [], _∷_}
 use Prim.Native.Nat.{ℕ, zero, suc, _-_, _≤_}
 use native.Mathlib.Omega.{arith}
 use lib.Dec.{eqb, ltb, leb}
 use lib.ListN.{length}
 use lib.Seq.{set-getD}
-use borrow.Author.Tests.{eqb-true, eqb-false, ne-eqb, leb-true, le-leb}
+use borrow.Author.Tests.{eqb-true, eqb-false, ne-eqb, leb-true, le-leb, not-false}
 use Rattle.test_lemmas.proofs.ByCases.{by-test, neither}
+use Rattle.test_lemmas.proofs.Operators.{and-both}
 use Rattle.notes_and_cells.specs.Notes.{packedNotes}
 use Rattle.notes_and_cells.specs.declared.cell.Cell.{Cell}
 use Rattle.notes_and_cells.specs.declared.cell.Cell.the-variants.{To, Stay, Impossible, Absent}
@@ -31,11 +32,12 @@ use Rattle.terminal.specs.Calls as terminalCalls
 use Rattle.terminal.specs.declared.Terminal.{Terminal}
 use Rattle.terminal.specs.declared.TerminalStep.{TerminalStep}
 use Rattle.bus_rules.specs.Bus.{terminals}
-use Rattle.bus_rules.specs.Event.{classOf, eventFor}
+use Rattle.bus_rules.specs.Event.{among, classOf, callReasons, firstHolding}
 use Rattle.notes_and_cells.specs.Events.{ON, OFF, AR, D1, D2, HIT}
-use Rattle.bus_rules.specs.Calls.{Call}
+use Rattle.bus_rules.specs.Calls.{Call, busRefusals}
 use Rattle.bus_rules.specs.Calls.Call.{event, period}
 use Rattle.bus_rules.proofs.Ranges.{classGiven}
+use Rattle.bus_rules.proofs.Refusals.{none-holds}
 use Rattle.bus_record.specs.Record.{recordInRange}
 use Rattle.bus_record.specs.NetworkSide.{refusedRun}
 use Rattle.bus_record.specs.declared.record.BusRecord.{BusRecord}
@@ -48,44 +50,60 @@ use Rattle.bus_call_specs.specs.Ready.{eightInRange, lentFits, runReason
 use Rattle.bus_call_specs.specs.Run.{answerOn, notYet, runAnswer, keptAfter}
 use Rattle.bus_call_specs.specs.Event.{reason, terminalOf, atTerminal, eventTold, terminalsAfter, imagesAfter, lettersAfter}
 use Rattle.bus_call_specs.specs.Lists.{told, called, replied, notesTold}
-use Rattle.bus_call_specs.specs.Refused.{RefusedKeeps, RefusedRunKeeps, RefusedAlone, RefusedRunAlone, RepliesListed, RunRepliesListed}
+use Rattle.bus_call_specs.specs.Refused.{Listed, RefusedKeeps, RefusedRunKeeps, RefusedAlone, RefusedRunAlone, RepliesListed, RunRepliesListed}
 use Rattle.bus_call_specs.proofs.RunSingle.{stays, ran-ends, kept-ends}
 use Rattle.bus_call_specs.proofs.EventLeft.{no-refusal, reader-stays, no-frame, gives-frame}
+
+-- the first of some reasons with listed numbers
+abbrev eachListed : List (ℕ × Bool) → Bool
+eachListed [] = true
+eachListed (r ∷ rs) = among (r .0) busRefusals && eachListed rs
+
+listed-in : (rs : List (ℕ × Bool)) → eachListed rs ≡ true → Listed (firstHolding rs)
+unfolding firstHolding
+listed-in [] a = refl
+listed-in (r ∷ rs) a =
+    let l = and-both (among (r .0) busRefusals) (eachListed rs) a in
+    by-test (r .1) (λ t. rw (t, l .0) (or-true (eqb (r .0) 0))) (λ t. rw t (listed-in rs (l .1)))
+  where
+    or-true : (a : Bool) → (a || true) ≡ true
+    or-true true = refl
+    or-true false = refl
 
 -- ---- A step of the network end: refused, it changes nothing and has no note.
 record NetworkAnswer (n : Network) (s : NetworkStep) : Type 0 where
   keeps : (s .reply ≡ 0 → ⊥) → s .network ≡ n
   silent : (s .reply ≡ 0 → ⊥) → s .notes ≡ packedNotes []
-  listed : s .reply ≤ 9
+  listed : Listed (s .reply)
 
-network-down : (k : ℕ) → k ≤ 9 → (n : Network) → NetworkAnswer n (network.unchanged k n)
+network-down : (k : ℕ) → Listed k → (n : Network) → NetworkAnswer n (network.unchanged k n)
 network-down k l n = record { keeps = λ h. refl; silent = λ h. refl; listed = l }
 
 network-acts : (c : Cell) (now : ℕ) (n : Network) → NetworkAnswer n (network.acts c now n)
 unfolding network.acts
-network-acts (To next action notes) now n = record { keeps = λ h. absurd (h refl); silent = λ h. absurd (h refl); listed = omega arith }
-network-acts (Stay notes) now n = record { keeps = λ h. absurd (h refl); silent = λ h. absurd (h refl); listed = omega arith }
-network-acts Impossible now n = network-down 0 (omega arith) n
-network-acts Absent now n = network-down 0 (omega arith) n
+network-acts (To next action notes) now n = record { keeps = λ h. absurd (h refl); silent = λ h. absurd (h refl); listed = refl }
+network-acts (Stay notes) now n = record { keeps = λ h. absurd (h refl); silent = λ h. absurd (h refl); listed = refl }
+network-acts Impossible now n = network-down 0 refl n
+network-acts Absent now n = network-down 0 refl n
 
 network-requests : (number now : ℕ) (n : Network) → NetworkAnswer n (network.requests number now n)
 unfolding network.requests network.happens
 network-requests number now n =
     by-test (network.isRequest number)
-    (λ t. rw t (by-test (network.bars number (n .state)) (λ u. rw u (network-down 5 (omega arith) n)) (λ u. rw u (network-acts _ now n))))
-    (λ t. rw t (network-down 4 (omega arith) n))
+    (λ t. rw t (by-test (network.bars number (n .state)) (λ u. rw u (network-down 5 refl n)) (λ u. rw u (network-acts _ now n))))
+    (λ t. rw t (network-down 4 refl n))
 
 network-asked : (number : ℕ) (r : BusRecord) → NetworkAnswer (r .network) (asked number r)
 unfolding asked networkCalls.checked
 network-asked number r =
     by-test (networkCalls.ready (r .periods) (r .network))
     (λ t. rw t (network-requests _ (r .periods .0) (r .network)))
-    (λ t. rw t (network-down 1 (omega arith) (r .network)))
+    (λ t. rw t (network-down 1 refl (r .network)))
 
 module _ (number : ℕ) (r : BusRecord) where
-  network-listed : networkTold number r .reply ≤ 9
+  network-listed : Listed (networkTold number r .reply)
   unfolding networkTold networkAsked parts.told
-  network-listed = by-test (eqb number HIT) (λ t. rw t (omega arith)) (λ t. rw t (network-asked number r .listed))
+  network-listed = by-test (eqb number HIT) (λ t. rw t) (λ t. rw t (network-asked number r .listed))
 
   module _ (h : networkTold number r .reply ≡ 0 → ⊥) where
     no-hit : eqb number HIT ≡ false
@@ -102,17 +120,17 @@ module _ (number : ℕ) (r : BusRecord) where
 record TerminalAnswer (t : Terminal) (s : TerminalStep) : Type 0 where
   keeps : (s .reply ≡ 0 → ⊥) → s .terminal ≡ t
   silent : (s .reply ≡ 0 → ⊥) → s .notes ≡ packedNotes []
-  listed : s .reply ≤ 9
+  listed : Listed (s .reply)
 
-terminal-down : (k : ℕ) → k ≤ 9 → (t : Terminal) → TerminalAnswer t (terminal.unchanged k t)
+terminal-down : (k : ℕ) → Listed k → (t : Terminal) → TerminalAnswer t (terminal.unchanged k t)
 terminal-down k l t = record { keeps = λ h. refl; silent = λ h. refl; listed = l }
 
 accepted : (t : Terminal) (s : TerminalStep) → s .reply ≡ 0 → TerminalAnswer t s
-accepted t s e = record { keeps = λ h. absurd (h e); silent = λ h. absurd (h e); listed = omega (arith, e) }
+accepted t s e = record { keeps = λ h. absurd (h e); silent = λ h. absurd (h e); listed = rw e }
 
 module _ (now : ℕ) (t : Terminal) where
   unless-barred : (e : ℕ) (s : TerminalStep) → s .reply ≡ 0 → TerminalAnswer t (cond (terminal.bars e (t .state)) (terminal.unchanged 5 t) s)
-  unless-barred e s r = by-test (terminal.bars e (t .state)) (λ v. rw v (terminal-down 5 (omega arith) t)) (λ v. rw v (accepted t s r))
+  unless-barred e s r = by-test (terminal.bars e (t .state)) (λ v. rw v (terminal-down 5 refl t)) (λ v. rw v (accepted t s r))
 
   switches-on : TerminalAnswer t (terminal.switchesOn now t)
   unfolding terminal.switchesOn terminal.happens
@@ -128,7 +146,7 @@ module _ (now : ℕ) (t : Terminal) where
 
 when-ready : (step : ℕ → Terminal → TerminalStep) (now : Periods) (t : Terminal) → TerminalAnswer t (step (now .0) t) → TerminalAnswer t (terminalCalls.checked step now t)
 unfolding terminalCalls.checked
-when-ready step now t a = by-test (terminalCalls.ready now t) (λ v. rw v a) (λ v. rw v (terminal-down 1 (omega arith) t))
+when-ready step now t a = by-test (terminalCalls.ready now t) (λ v. rw v a) (λ v. rw v (terminal-down 1 refl t))
 
 -- ---- A frame: where no reason holds, the access takes it.
 image-length : (body : List ℕ) → isBodyLength (length body) ≡ true → isImageLength (length (image body)) ≡ true
@@ -142,22 +160,6 @@ image-length body h =
       le-leb (length (image body)) longestImage (omega (arith, most, length-image body, length-stuff-most (bodyBits body) 0 (omega arith), length-bodyBits body)),
     )
 
-frame-listed : (a b c d e : Bool) → cond {A = ℕ} a (cond b (cond c (cond d (cond e 0 8) 7) 6) 2) 1 ≤ 9
-frame-listed true true true true true = omega arith
-frame-listed true true true true false = omega arith
-frame-listed true true true false e = omega arith
-frame-listed true true false d e = omega arith
-frame-listed true false c d e = omega arith
-frame-listed false b c d e = omega arith
-
-frame-none : (a b c d e : Bool) → cond {A = ℕ} a (cond b (cond c (cond d (cond e 0 8) 7) 6) 2) 1 ≡ 0 → (a ≡ true) × (c ≡ true) × (d ≡ true) × (e ≡ true)
-frame-none true true true true true h = (refl, refl, refl, refl)
-frame-none true true true true false h = absurd (omega arith)
-frame-none true true true false e h = absurd (omega arith)
-frame-none true true false d e h = absurd (omega arith)
-frame-none true false c d e h = absurd (omega arith)
-frame-none false b c d e h = absurd (omega arith)
-
 module _ (class : Class) (images : List ℕ) (i : ℕ) (body : List ℕ) (t : Terminal) where
   abbrev why-not : ℕ
   why-not = frameReason (length images) i (length body) t
@@ -165,13 +167,17 @@ module _ (class : Class) (images : List ℕ) (i : ℕ) (body : List ℕ) (t : Te
   taken : eqb why-not 0 ≡ true → terminalCalls.handOverCall class (length (image body)) t .reply ≡ 0
   unfolding frameReason terminalCalls.handOverCall terminalCalls.handsOver terminalCalls.holding handed
   taken z =
-      let n = frame-none (terminalCalls.terminalInRange t) (eqb (length images) imagesRoom && ltb i terminals) (eqb (t .state) F7) (isBodyLength (length body)) (eqb (t .access .held) 0) (eqb-true why-not 0 z) in
-      rw (n .0, n .1, image-length body (n .2), n .3)
+      let n = none-holds _ refl (eqb-true why-not 0 z) in
+      rw (
+        not-false (terminalCalls.terminalInRange t) (n 1),
+        not-false (eqb (t .state) F7) (n 6),
+        image-length body (not-false (isBodyLength (length body)) (n 7)),
+        not-false (eqb (t .access .held) 0) (n 8),
+      )
 
-  why-listed : why-not ≤ 9
+  why-listed : Listed why-not
   unfolding frameReason
-  why-listed =
-      frame-listed (terminalCalls.terminalInRange t) (eqb (length images) imagesRoom && ltb i terminals) (eqb (t .state) F7) (isBodyLength (length body)) (eqb (t .access .held) 0)
+  why-listed = listed-in _ refl
 
   frame-given : TerminalAnswer t (frameGiven class images i body t)
   unfolding frameGiven turnedDown
@@ -191,7 +197,7 @@ module _ (number : ℕ) (images : List ℕ) (i : ℕ) (value : List ℕ) (now : 
       by-test (eqb number OFF) (λ v. rw (u, v) (when-ready terminal.switchesOff now t (switches-off (now .0) t)))
       (λ v.
       by-test (eqb number AR) (λ w. rw (u, v, w) (when-ready terminal.requests now t (requests (now .0) t)))
-      (λ w. rw (u, v, w, d .0, d .1) (terminal-down 4 (omega arith) t))))
+      (λ w. rw (u, v, w, d .0, d .1) (terminal-down 4 refl t))))
 
   terminal-answers : TerminalAnswer t (terminalTold number images i value now t)
   terminal-answers =
@@ -209,13 +215,6 @@ module _ (number : ℕ) (images : List ℕ) (i : ℕ) (value : List ℕ) (now : 
       g .1 ∙ frame-images (classGiven number) images i value t (rw (g .0) at h))
 
 -- ---- An event.
-reason-listed : (a b c d : Bool) → cond {A = ℕ} a (cond b (cond c 3 (cond d 0 4)) 2) 1 ≤ 9
-reason-listed true true true d = omega arith
-reason-listed true true false true = omega arith
-reason-listed true true false false = omega arith
-reason-listed true false c d = omega arith
-reason-listed false b c d = omega arith
-
 module _ (unit number : ℕ) (value : List ℕ) (k : Kept) where
   abbrev why : ℕ
   why = reason unit number value (k .bus) (k .terminals) (k .images) (k .letters)
@@ -226,21 +225,19 @@ module _ (unit number : ℕ) (value : List ℕ) (k : Kept) where
   answers : TerminalAnswer there (atTerminal unit number value (k .bus) (k .terminals) (k .images) (k .letters))
   answers = terminal-answers number (k .images) (unit - 1) value (k .bus .periods) there
 
-  why-fits : why ≤ 9
-  unfolding firstReason
-  why-fits =
-      reason-listed (eightInRange (k .terminals) && recordInRange (k .bus))
-      ((eqb (length (k .images)) imagesRoom && areLetters (k .letters)) && (not (eqb number HIT) || areLetters value)) (ltb terminals unit) (eventFor unit number)
+  why-fits : Listed why
+  unfolding firstReason callReasons
+  why-fits = listed-in _ refl
 
-  event-listed : told unit number value k .reply ≤ 9
-  unfolding told eventTold parts.told
+  event-listed : Listed (told unit number value k .reply)
+  unfolding told eventTold parts.eventSettled parts.told
   event-listed =
       by-test (eqb why 0)
       (λ z. by-test (eqb unit 0) (λ u. rw (z, u) (network-listed number (k .bus))) (λ u. rw (z, u) (answers .listed)))
       (λ z. rw z why-fits)
 
   event-alone : (told unit number value k .reply ≡ 0 → ⊥) → told unit number value k ≡ parts.told (k .bus) (packedNotes []) (told unit number value k .reply)
-  unfolding told eventTold parts.told
+  unfolding told eventTold parts.eventSettled parts.told
   event-alone h =
       by-test (eqb why 0)
       (λ z. by-test (eqb unit 0)
@@ -249,7 +246,7 @@ module _ (unit number : ℕ) (value : List ℕ) (k : Kept) where
       (λ z. rw z)
 
   event-keeps : (told unit number value k .reply ≡ 0 → ⊥) → called k (event unit number value) ≡ k
-  unfolding called told eventTold parts.told terminalsAfter imagesAfter lettersAfter parts.lettersAfter
+  unfolding called told eventTold parts.eventSettled parts.told terminalsAfter imagesAfter lettersAfter parts.lettersAfter
   event-keeps h =
       by-test (eqb why 0)
       (λ z. by-test (eqb unit 0)
@@ -265,11 +262,11 @@ pub refused-alone : RefusedAlone
 refused-alone = event-alone
 
 -- ---- A run.
-run-listed : (a b c : Bool) → cond {A = ℕ} a (cond b (cond c 9 0) 2) 1 ≤ 9
-run-listed true true true = omega arith
-run-listed true true false = omega arith
-run-listed true false c = omega arith
-run-listed false b c = omega arith
+run-listed : (a b c : Bool) → Listed (cond a (cond b (cond c 9 0) 2) 1)
+run-listed true true true = refl
+run-listed true true false = refl
+run-listed true false c = refl
+run-listed false b c = refl
 
 goes-replies : (n : ℕ) (last : RunAnswer) (k : Kept) → last .reply ≡ 0 → answerOn n last k .reply ≡ 0
 unfolding answerOn periodAnswer
@@ -285,7 +282,7 @@ module _ (most : ℕ) (k : Kept) where
   unfolding runAnswer notYet
   refused-ran z = ran-ends most (notYet most k) k (stays most most k z)
 
-  reply-listed : runReply most k ≤ 9
+  reply-listed : Listed (runReply most k)
   unfolding runReply runReason
   reply-listed =
       run-listed (eightInRange (k .terminals) && recordInRange (k .bus)) (lentFits (length (k .images)) (length (k .octets)) (k .letters) (length (k .notes)))
@@ -294,7 +291,7 @@ module _ (most : ℕ) (k : Kept) where
 pub run-replies-listed : RunRepliesListed
 unfolding refusedRun
 run-replies-listed most k =
-    by-test (eqb (runReply most k) 0) (λ z. omega (arith, run-accepted most k z)) (λ z. rw (refused-ran most k z) (reply-listed most k))
+    by-test (eqb (runReply most k) 0) (λ z. rw (run-accepted most k z)) (λ z. rw (refused-ran most k z) (reply-listed most k))
 
 pub refused-run-keeps : RefusedRunKeeps
 unfolding keptAfter

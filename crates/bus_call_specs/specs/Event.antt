@@ -10,7 +10,7 @@ use Rattle.notes_and_cells.specs.Notes.{packedNotes}
 use Rattle.terminal.specs.Terminal.{fresh}
 use Rattle.terminal.specs.declared.Terminal.{Terminal}
 use Rattle.terminal.specs.declared.TerminalStep.{TerminalStep}
-use Rattle.bus_event.specs.Event.{told, firstReason, networkTold, terminalTold}
+use Rattle.bus_event.specs.Event.{told, firstReason, networkTold, terminalTold, eventSettled}
 use Rattle.bus_event.specs.Event as parts
 use Rattle.bus_record.specs.declared.record.BusRecord.{BusRecord}
 use Rattle.bus_event.specs.declared.event.Told.{Told}
@@ -18,7 +18,7 @@ use Rattle.bus_call_specs.specs.Ready.{eightInRange}
 
 -- An event of unit `unit`, with a value, on a record, terminals, images and letters.
 module _ (unit event : ℕ) (value : List ℕ) (bus : BusRecord) (ts : List Terminal) (images letters : List ℕ) where
-  -- the first of the reasons 1 to 4 that holds, or 0
+  -- the first reason that is known before a unit is asked, or 0
   abbrev pub reason : ℕ
   reason = firstReason (eightInRange ts) bus (length images) letters unit event value
 
@@ -32,7 +32,7 @@ module _ (unit event : ℕ) (value : List ℕ) (bus : BusRecord) (ts : List Term
   unfoldable pub eventTold : Told
   eventTold =
       cond (eqb reason 0)
-      (cond (eqb unit 0) (networkTold event bus) (told bus (atTerminal .notes) (atTerminal .reply)))
+      (cond (eqb unit 0) (networkTold event bus) (eventSettled bus unit event value atTerminal))
       (told bus (packedNotes []) reason)
 
   unfoldable pub terminalsAfter : List Terminal

@@ -2,11 +2,13 @@
 -- comes back alone; record and lent buffers keep their contents." It holds of whatever a call
 -- finds, in range or not, and of whatever lengths are lent.
 -- Interface: none but for laws and proofs. Assumes nothing.
-use mathlib.Core.List.{List, []}
+use mathlib.Core.Bool.{true}
+use mathlib.Core.List.{List, [], _∷_}
 use mathlib.Core.Path.{_≡_}
-use Prim.Native.Nat.{ℕ, _≤_}
+use Prim.Native.Nat.{ℕ}
 use Rattle.notes_and_cells.specs.Notes.{packedNotes}
-use Rattle.bus_rules.specs.Calls.{Call}
+use Rattle.bus_rules.specs.Event.{among}
+use Rattle.bus_rules.specs.Calls.{Call, busRefusals}
 use Rattle.bus_event.specs.Event as parts
 use Rattle.bus_record.specs.NetworkSide.{refusedRun}
 use Rattle.bus_call_specs.specs.Kept.{Kept}
@@ -30,10 +32,12 @@ abbrev pub RefusedRunAlone : Type 0
 RefusedRunAlone =
     (most : ℕ) (k : Kept) → (runAnswer most k .reply ≡ 0 → ⊥) → runAnswer most k ≡ refusedRun (runAnswer most k .reply) (k .bus)
 
--- ---- The number is one of those listed for a bus, 1 to 9; the reply is 0 where the call is not
--- refused.
+-- ---- The number is one of those listed for a bus; the reply is 0 where the call is not refused.
+abbrev pub Listed : ℕ → Type 0
+Listed n = among n (0 ∷ busRefusals) ≡ true
+
 abbrev pub RepliesListed : Type 0
-RepliesListed = (k : Kept) (c : Call) → replied k c ≤ 9
+RepliesListed = (k : Kept) (c : Call) → Listed (replied k c)
 
 abbrev pub RunRepliesListed : Type 0
-RunRepliesListed = (most : ℕ) (k : Kept) → runAnswer most k .reply ≤ 9
+RunRepliesListed = (most : ℕ) (k : Kept) → Listed (runAnswer most k .reply)

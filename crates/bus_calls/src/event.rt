@@ -10,26 +10,19 @@ use super::fields::terminal_of;
 use super::network_end::network_event;
 use super::ready::in_range;
 use bus_event::event::Told;
+use bus_event::event::event_settled;
 use bus_event::event::first_reason;
 use bus_event::event::replied;
 use bus_event::event::terminal_event;
 use bus_record::record::BusRecord;
 use notes_and_cells::cell::NO_NOTES;
 use terminal::Terminal;
-use terminal::TerminalStep;
 
 // Turns the call down: the record as it is, no note, and the number of the refusal.
 fn refused(bus: BusRecord, reply: u8) -> Told
     ensures { λ r. ⌜ r ≡ told bus (packedNotes []) reply ⌝ }
 {
     replied(bus, NO_NOTES, reply)
-}
-
-// Gives the record as it is, with the notes and the reply of a terminal's step.
-fn replied_by(bus: BusRecord, step: TerminalStep) -> Told
-    ensures { λ r. ⌜ r ≡ told bus (step .notes) (step .reply) ⌝ }
-{
-    replied(bus, step.notes, step.reply)
 }
 
 // Gives the index of a terminal, from its unit.
@@ -70,5 +63,5 @@ pub fn event(
     let t = terminals[i];
     let s = terminal_event(t, images, i, event, value, periods_of(bus));
     terminals[i] = terminal_of(s);
-    replied_by(bus, s)
+    event_settled(bus, unit, event, value, s)
 }

@@ -1,5 +1,5 @@
 -- What the returns of the functions on an event have to show, over plain variables.
-use mathlib.Core.Path.{_≡_, sym, _∙_}
+use mathlib.Core.Path.{_≡_, refl, sym, _∙_}
 use mathlib.Core.Bool.{Bool, true, false, not, _&&_, _||_}
 use mathlib.Core.List.{List, _++_}
 use Prim.Native.Nat.{ℕ, _*_, _≤_, _<_}
@@ -17,7 +17,8 @@ use Rattle.table_6_2.specs.Table62.{F7}
 use Rattle.terminal.specs.Calls as terminalCalls
 use Rattle.terminal.specs.declared.Terminal.{Terminal}
 use Rattle.bus_rules.specs.Bus.{terminals}
-use Rattle.bus_rules.specs.Event.{eventFor}
+use Rattle.bus_rules.specs.Event.{eventFor, callReasons, firstHolding}
+use Rattle.bus_rules.proofs.Refusals.{none-holds}
 use Rattle.notes_and_cells.specs.Events.{HIT}
 use Rattle.bus_record.specs.Record.{recordInRange}
 use Rattle.bus_record.specs.declared.record.BusRecord.{BusRecord}
@@ -29,36 +30,53 @@ pub body-test : (n : ℕ) → isBodyLength n ≡ (not (eqb n 0) && leb n longest
 unfolding isBodyLength
 body-test n = by-test (eqb n 0) (λ t. rw t) (λ t. rw t)
 
--- ---- The first of the reasons 1 to 4.
+-- the letters of a hit, as the code tests them
+hit-letters : (hit right : Bool) → not (not hit || right) ≡ (hit && not right)
+hit-letters true right = refl
+hit-letters false right = refl
+
+-- ---- The first reason that is known before a unit is asked.
 module _ (ready : Bool) (r : BusRecord) (images : ℕ) (letters : List ℕ) (unit event : ℕ) (value : List ℕ) (fit : Bool) (is : fit ≡ recordInRange r) where
   abbrev First : ℕ → Type 0
   First k = k ≡ firstReason ready r images letters unit event value
 
   pub first-1 : not (ready && fit) ≡ true → First 1
-  unfolding firstReason
-  first-1 a = rw (← is, not-true (ready && fit) a)
+  unfolding firstReason firstHolding
+  first-1 a = rw (← is, a)
 
   module _ (a : not (ready && fit) ≡ false) (f g : Bool) (at-f : f ≡ areLetters letters) (at-g : g ≡ areLetters value) where
+    abbrev lentFits : Bool
+    lentFits = eqb images imagesRoom && f
+
+    -- what is lent, or the letters of a hit: the code has one test for the two
     abbrev slices : Bool
-    slices = (eqb images imagesRoom && f) && (not (eqb event HIT) || g)
+    slices = lentFits && (not (eqb event HIT) || g)
 
     pub first-2 : not slices ≡ true → First 2
-    unfolding firstReason
-    first-2 b = rw (← is, not-false (ready && fit) a, ← at-f, ← at-g, not-true slices b)
+    unfolding firstReason firstHolding callReasons
+    first-2 b =
+        rw (← is, a, ← at-f, ← at-g)
+        (by-test lentFits (λ t. rw (t, sym (hit-letters (eqb event HIT) g) ∙ (rw t at b))) (λ t. rw t))
 
     module _ (b : not slices ≡ false) where
+      lent-fit : not lentFits ≡ false
+      lent-fit = rw (and-left lentFits (not (eqb event HIT) || g) (not-false slices b))
+
+      struck : (eqb event HIT && not g) ≡ false
+      struck = sym (hit-letters (eqb event HIT) g) ∙ rw (and-right lentFits (not (eqb event HIT) || g) (not-false slices b))
+
       pub first-3 : terminals < unit → First 3
-      unfolding firstReason
-      first-3 d = rw (← is, not-false (ready && fit) a, ← at-f, ← at-g, not-false slices b, lt-ltb terminals unit d)
+      unfolding firstReason firstHolding callReasons
+      first-3 d = rw (← is, a, ← at-f, lent-fit, ← at-g, struck, lt-ltb terminals unit d)
 
       module _ (d : unit ≤ terminals) (h : Bool) (at-h : h ≡ eventFor unit event) where
         pub first-0 : h ≡ true → First 0
-        unfolding firstReason
-        first-0 t = rw (← is, not-false (ready && fit) a, ← at-f, ← at-g, not-false slices b, le-ltb terminals unit d, ← at-h, t)
+        unfolding firstReason firstHolding callReasons
+        first-0 t = rw (← is, a, ← at-f, lent-fit, ← at-g, struck, le-ltb terminals unit d, ← at-h, t)
 
         pub first-4 : h ≡ false → First 4
-        unfolding firstReason
-        first-4 t = rw (← is, not-false (ready && fit) a, ← at-f, ← at-g, not-false slices b, le-ltb terminals unit d, ← at-h, t)
+        unfolding firstReason firstHolding callReasons
+        first-4 t = rw (← is, a, ← at-f, lent-fit, ← at-g, struck, le-ltb terminals unit d, ← at-h, t)
 
 -- ---- The image in the room of terminal i.
 module _ (i : ℕ) (value images : List ℕ) (l : i < terminals) (e : length images ≡ imagesRoom) (some : 1 ≤ length value) (few : length value ≤ longestBody) where
@@ -92,32 +110,32 @@ module _ (images i octets : ℕ) (t : Terminal) (fit : Bool) (is : fit ≡ termi
   is-body = not (eqb octets 0) && leb octets longestBody
 
   pub reason-1 : not fit ≡ true → 1 ≡ frameReason images i octets t
-  unfolding frameReason
-  reason-1 a = rw (← is, not-true fit a)
+  unfolding frameReason firstHolding
+  reason-1 a = rw (← is, a)
 
   module _ (a : not fit ≡ false) where
     pub reason-2 : not lent ≡ true → 2 ≡ frameReason images i octets t
-    unfolding frameReason
-    reason-2 b = rw (← is, not-false fit a, not-true lent b)
+    unfolding frameReason firstHolding
+    reason-2 b = rw (← is, a, b)
 
     module _ (b : not lent ≡ false) where
       pub reason-6 : (t .state ≡ F7 → ⊥) → 6 ≡ frameReason images i octets t
-      unfolding frameReason
-      reason-6 c = rw (← is, not-false fit a, not-false lent b, ne-eqb (t .state) F7 c)
+      unfolding frameReason firstHolding
+      reason-6 c = rw (← is, a, b, ne-eqb (t .state) F7 c)
 
       module _ (c : t .state ≡ F7) where
         pub reason-7 : not is-body ≡ true → 7 ≡ frameReason images i octets t
-        unfolding frameReason
-        reason-7 d = rw (← is, not-false fit a, not-false lent b, eq-eqb (t .state) F7 c, body-test octets, not-true is-body d)
+        unfolding frameReason firstHolding
+        reason-7 d = rw (← is, a, b, eq-eqb (t .state) F7 c, body-test octets, d)
 
         module _ (d : not is-body ≡ false) where
           pub reason-0 : t .access .held ≡ 0 → 0 ≡ frameReason images i octets t
-          unfolding frameReason
-          reason-0 e = rw (← is, not-false fit a, not-false lent b, eq-eqb (t .state) F7 c, body-test octets, not-false is-body d, eq-eqb (t .access .held) 0 e)
+          unfolding frameReason firstHolding
+          reason-0 e = rw (← is, a, b, eq-eqb (t .state) F7 c, body-test octets, d, eq-eqb (t .access .held) 0 e)
 
           pub reason-8 : (t .access .held ≡ 0 → ⊥) → 8 ≡ frameReason images i octets t
-          unfolding frameReason
-          reason-8 e = rw (← is, not-false fit a, not-false lent b, eq-eqb (t .state) F7 c, body-test octets, not-false is-body d, ne-eqb (t .access .held) 0 e)
+          unfolding frameReason firstHolding
+          reason-8 e = rw (← is, a, b, eq-eqb (t .state) F7 c, body-test octets, d, ne-eqb (t .access .held) 0 e)
 
 -- ---- A frame given to terminal i.
 module _ (images : List ℕ) (i : ℕ) (value : List ℕ) (t : Terminal) where
@@ -126,21 +144,14 @@ module _ (images : List ℕ) (i : ℕ) (value : List ℕ) (t : Terminal) where
       → (i < terminals) × (length images ≡ imagesRoom) × (1 ≤ length value) × (length value ≤ longestBody)
   unfolding frameReason isBodyLength
   no-reason h =
-      by-test (terminalCalls.terminalInRange t)
-      (λ a. by-test (eqb (length images) imagesRoom && ltb i terminals)
-      (λ b. by-test (eqb (t .state) F7)
-      (λ c. by-test (isBodyLength (length value))
-      (λ d.
-      let w = neither (eqb (length value) 0) (leb (length value) longestBody) d in (
+      let n = none-holds _ refl h in
+      let b = not-false (eqb (length images) imagesRoom && ltb i terminals) (n 2) in
+      let w = neither (eqb (length value) 0) (leb (length value) longestBody) (not-false (isBodyLength (length value)) (n 7)) in (
         ltb-true i terminals (and-right (eqb (length images) imagesRoom) (ltb i terminals) b),
         eqb-true (length images) imagesRoom (and-left (eqb (length images) imagesRoom) (ltb i terminals) b),
         above (length value) (eqb-false (length value) 0 (w .0)),
         leb-true (length value) longestBody (w .1),
-      ))
-      (λ d. absurd (omega (arith, simp (a, b, c, d) at h))))
-      (λ c. absurd (omega (arith, simp (a, b, c) at h))))
-      (λ b. absurd (omega (arith, simp (a, b) at h))))
-      (λ a. absurd (omega (arith, simp a at h)))
+      )
     where
       above : (n : ℕ) → (n ≡ 0 → ⊥) → 1 ≤ n
       above n d = by-test (ltb 0 n) (λ t. ltb-true 0 n t) (λ t. absurd (d (omega (arith, ltb-false 0 n t))))

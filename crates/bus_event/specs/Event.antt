@@ -2,9 +2,9 @@
 -- images lent (document 01, "Bench book and report" and "Reasons a call is turned down").
 -- Interface: `imagesRoom`, `told`, `areLetters`, `firstReason`, `takenOver`, `networkAsked`,
 -- `networkTold`, `lettersAfter`, `imagePut`, `frameReason`, `turnedDown`, `frameGiven`,
--- `imagesWith`, `terminalTold`, `imagesAfter`. Assumes nothing.
+-- `imagesWith`, `terminalTold`, `imagesAfter`, `eventSettled`. Assumes nothing.
 use mathlib.Core.Bool.{Bool, true, cond, not, _&&_, _||_}
-use mathlib.Core.List.{List, [], _++_}
+use mathlib.Core.List.{List, [], _∷_, _++_}
 use Prim.Native.Nat.{ℕ, _*_}
 use lib.Dec.{eqb, ltb}
 use lib.ListN.{length, take, drop}
@@ -25,7 +25,7 @@ use Rattle.terminal.specs.Calls as terminalCalls
 use Rattle.terminal.specs.declared.Terminal.{Terminal}
 use Rattle.terminal.specs.declared.TerminalStep.{TerminalStep}
 use Rattle.bus_rules.specs.Bus.{terminals}
-use Rattle.bus_rules.specs.Event.{eventFor}
+use Rattle.bus_rules.specs.Event.{callReasons, firstHolding}
 use Rattle.notes_and_cells.specs.Events.{ON, OFF, AR, D1, D2, HIT}
 use Rattle.bus_record.specs.Record.{recordInRange, withNetwork, withHit}
 use Rattle.bus_record.specs.NetworkSide.{leavesG3, readerAfter}
@@ -43,14 +43,14 @@ told r notes k = record { bus = r; notes = notes; reply = k }
 abbrev pub areLetters : List ℕ → Bool
 areLetters letters = fits lineLength noneLetter letters
 
--- the first of the reasons 1 to 4 that holds, or 0
+-- The first reason, or 0, that is known before a unit is asked: 1 for the record and the terminals,
+-- 2 for what is lent with them, and those that the call itself decides.
 unfoldable pub firstReason : Bool → BusRecord → ℕ → List ℕ → ℕ → ℕ → List ℕ → ℕ
 firstReason ready r images letters unit event value =
-    cond (ready && recordInRange r)
-    (cond ((eqb images imagesRoom && areLetters letters) && (not (eqb event HIT) || areLetters value))
-    (cond (ltb terminals unit) 3 (cond (eventFor unit event) 0 4))
-    2)
-    1
+    firstHolding
+    ((1, not (ready && recordInRange r))
+    ∷ (2, not (eqb images imagesRoom && areLetters letters))
+    ∷ callReasons unit event value)
 
 -- ---- Unit 0.
 
@@ -87,11 +87,13 @@ imagePut i body images =
 -- terminal's range, 2 for what is lent, then 6, 7 and 8
 unfoldable pub frameReason : ℕ → ℕ → ℕ → Terminal → ℕ
 frameReason images i octets t =
-    cond (terminalCalls.terminalInRange t)
-    (cond (eqb images imagesRoom && ltb i terminals)
-    (cond (eqb (t .state) F7) (cond (isBodyLength octets) (cond (eqb (t .access .held) 0) 0 8) 7) 6)
-    2)
-    1
+    firstHolding
+    ((1, not (terminalCalls.terminalInRange t))
+    ∷ (2, not (eqb images imagesRoom && ltb i terminals))
+    ∷ (6, not (eqb (t .state) F7))
+    ∷ (7, not (isBodyLength octets))
+    ∷ (8, not (eqb (t .access .held) 0))
+    ∷ [])
 
 unfoldable pub turnedDown : ℕ → Terminal → TerminalStep
 turnedDown k t = record { terminal = t; notes = packedNotes []; reply = k }
@@ -115,3 +117,8 @@ terminalTold event images i value period t =
 
 unfoldable pub imagesAfter : ℕ → Terminal → ℕ → List ℕ → List ℕ → List ℕ
 imagesAfter event t i value images = cond (eqb event D1 || eqb event D2) (imagesWith t i value images) images
+
+-- What the call gives where terminal `unit` has answered an event so: the record, the notes and the
+-- reply. Every event of a terminal ends here, with all that is known of it; none changes the record.
+unfoldable pub eventSettled : BusRecord → ℕ → ℕ → List ℕ → TerminalStep → Told
+eventSettled r unit event value step = told r (step .notes) (step .reply)

@@ -62,8 +62,8 @@ fn event_for(unit: u32, event: u8) -> bool
     (event == ON) | (event == OFF) | (event == AR) | (event == D1) | (event == D2)
 }
 
-// Gives the first of the reasons 1 to 4 that holds, or 0: `ready` is whether the slice of terminals
-// is in order, `images` the number of octets lent for images.
+// Gives the first reason that is known before a unit is asked, 1 to 4, or 0: `ready` is whether the
+// slice of terminals is in order, `images` the number of octets lent for images.
 pub fn first_reason(
     ready: bool,
     bus: BusRecord,
@@ -175,4 +175,18 @@ pub fn terminal_event(
         D2 => give_frame(terminal, images, i, Class::Two, value),
         _ => turned_down(terminal, 4),
     }
+}
+
+// Gives what the call gives where terminal `unit` has answered an event with this step: the record,
+// the notes and the reply. Every event of a terminal ends here; none changes the record.
+pub fn event_settled(
+    bus: BusRecord,
+    unit: u32,
+    event: u8,
+    value: &[u8],
+    step: TerminalStep,
+) -> Told
+    ensures { λ r. ⌜ r ≡ spec.eventSettled bus unit event (now (value .entry)) step ⌝ }
+{
+    replied(bus, step.notes, step.reply)
 }

@@ -1,11 +1,11 @@
 -- Refusals 5 to 8 of an event are the replies of `network` and `terminal`: 5 where their rules bar it, 6 to 8 by the access record.
-use mathlib.Core.Path.{_≡_, refl, sym}
+use mathlib.Core.Path.{_≡_, refl, sym, _∙_}
 use mathlib.Core.Bool.{true, false, cond, not, _&&_, _||_}
 use mathlib.Core.List.{List, [], _∷_}
 use Prim.Native.Nat.{ℕ, _-_}
 use lib.Dec.{eqb, ltb}
 use lib.ListN.{length}
-use borrow.Author.Tests.{eqb-true}
+use borrow.Author.Tests.{eqb-true, not-false}
 use Rattle.test_lemmas.proofs.ByCases.{by-test, clash}
 use Rattle.test_lemmas.proofs.Operators.{cond-not}
 use Rattle.symbols.specs.Symbols.{lineLength, fits}
@@ -30,7 +30,8 @@ use Rattle.terminal.specs.declared.Terminal.{Terminal}
 use Rattle.terminal.proofs.Laws.{handed-over-called}
 use Rattle.bus_rules.specs.Bus.{Bus, terminals}
 use Rattle.notes_and_cells.specs.Events.{ON, OFF, AR, DR, D1, D2, HIT}
-use Rattle.bus_rules.specs.Event.{among, stationOf, classOf, eventFor, barsNetwork, barsTerminal, bars, givesFrame, reasons, firstHolding, refusal, networkDoes, terminalDoes}
+use Rattle.bus_rules.specs.Event.{among, networkEvents, terminalEvents, stationOf, classOf, eventFor, barsNetwork, barsTerminal, bars, callReasons, stateReasons, reasons, firstHolding, refusal, networkDoes, terminalDoes}
+use Rattle.bus_rules.proofs.Refusals.{numbersOf, holds, none-holds, first-append}
 
 -- ---- power and requests: the reply is 5 where the rules bar the event, and 0 at every cell
 network-reply : (c : Cell) (now : ℕ) (n : Network) → network.acts c now n .reply ≡ 0
@@ -107,26 +108,42 @@ replied b unit number value =
     (cond (eqb number HIT) 0 (networkDoes number (b .periods) (b .network) .reply))
     (cond (eqb (classOf number) 0) (terminalDoes number (b .periods) (stationOf b unit .terminal) .reply) (frameReply value (stationOf b unit .terminal)))
 
-frame-reasons : (value : List ℕ) (t : Terminal) →
+pub frame-reasons : (value : List ℕ) (t : Terminal) →
     cond (not (eqb (t .state) F7)) 6 (cond (not (isBody value)) 7 (cond (not (eqb (t .access .held) 0)) 8 0)) ≡ frameReply value t
 unfolding frameReply
 frame-reasons value t = simp cond-not
 
-module _ (b : Bus) (unit : ℕ) (value : List ℕ) where
-  -- the reasons from 5 on
-  abbrev from5 : ℕ → ℕ
-  from5 number =
-      firstHolding 5
-      (bars b unit number
-      ∷ (givesFrame number && not (eqb (stationOf b unit .terminal .state) F7))
-      ∷ (givesFrame number && not (isBody value))
-      ∷ (givesFrame number && not (eqb (stationOf b unit .terminal .access .held) 0))
-      ∷ [])
+-- ---- what the call itself decides
+module _ (unit number : ℕ) (value : List ℕ) where
+  pub none-is-0 : among 0 (numbersOf (callReasons unit number value)) ≡ false
+  unfolding callReasons
+  none-is-0 = refl
 
-  network-replies : eqb unit 0 ≡ true → (number : ℕ) → among number (AR ∷ DR ∷ HIT ∷ []) ≡ true → from5 number ≡ replied b unit number value
-  unfolding firstHolding bars replied classOf barsNetwork
+  module _ (none : firstHolding (callReasons unit number value) ≡ 0) where
+    not-held : (n : ℕ) → holds n (callReasons unit number value) ≡ false
+    not-held n = none-holds (callReasons unit number value) none-is-0 none n
+
+    pub right-letters : (eqb number HIT && not (fits lineLength noneLetter value)) ≡ false
+    unfolding callReasons
+    right-letters = not-held 2
+
+    pub unit-known : ltb terminals unit ≡ false
+    unfolding callReasons
+    unit-known = not-held 3
+
+    pub for-its-unit : eventFor unit number ≡ true
+    unfolding callReasons
+    for-its-unit = not-false (eventFor unit number) (not-held 4)
+
+module _ (b : Bus) (unit : ℕ) (value : List ℕ) where
+  -- the number that the state of the bus decides
+  abbrev byState : ℕ → ℕ
+  byState number = firstHolding (stateReasons b unit number value)
+
+  network-replies : eqb unit 0 ≡ true → (number : ℕ) → among number networkEvents ≡ true → byState number ≡ replied b unit number value
+  unfolding firstHolding stateReasons bars replied classOf barsNetwork
   network-replies t number k =
-      at-among (λ number. from5 number ≡ replied b unit number value) number (AR ∷ DR ∷ HIT ∷ []) k (
+      at-among (λ number. byState number ≡ replied b unit number value) number networkEvents k (
         rw t (sym (network-bars AR (b .periods) (b .network) refl)),
         (rw t (sym (network-bars DR (b .periods) (b .network) refl)), (rw t, tt)),
       )
@@ -135,19 +152,20 @@ module _ (b : Bus) (unit : ℕ) (value : List ℕ) where
       cond (barsTerminal number (stationOf b unit .terminal .state)) 5 0 ≡ terminalDoes number (b .periods) (stationOf b unit .terminal) .reply
   does-replies number k = sym (terminal-bars number (b .periods) (stationOf b unit .terminal) k)
 
-  terminal-replies : eqb unit 0 ≡ false → (number : ℕ) → among number (ON ∷ OFF ∷ AR ∷ D1 ∷ D2 ∷ []) ≡ true → from5 number ≡ replied b unit number value
-  unfolding firstHolding bars replied classOf barsTerminal
+  terminal-replies : eqb unit 0 ≡ false → (number : ℕ) → among number terminalEvents ≡ true → byState number ≡ replied b unit number value
+  unfolding firstHolding stateReasons bars replied classOf barsTerminal
   terminal-replies t number k =
       let frame = frame-reasons value (stationOf b unit .terminal) in
-      at-among (λ number. from5 number ≡ replied b unit number value) number (ON ∷ OFF ∷ AR ∷ D1 ∷ D2 ∷ []) k
+      at-among (λ number. byState number ≡ replied b unit number value) number terminalEvents k
       (rw t (does-replies ON refl), (rw t (does-replies OFF refl), (rw t (does-replies AR refl), (rw t frame, (rw t frame, tt)))))
 
-  -- Where none of the reasons 2 to 4 holds, the refusal is what the calls reply.
-  pub refusal-replied : (number : ℕ) → (eqb number HIT && not (fits lineLength noneLetter value)) ≡ false → ltb terminals unit ≡ false →
-      eventFor unit number ≡ true → refusal b unit number value ≡ replied b unit number value
-  unfolding refusal reasons firstHolding eventFor
-  refusal-replied number letters known for-unit =
-      rw (letters, known, for-unit)
+  -- Where the call itself gives no reason, the refusal is what the calls reply.
+  pub refusal-replied : (number : ℕ) → firstHolding (callReasons unit number value) ≡ 0 → refusal b unit number value ≡ replied b unit number value
+  unfolding refusal reasons
+  refusal-replied number none =
+      let for-unit = for-its-unit unit number value none in
+      first-append (callReasons unit number value) (stateReasons b unit number value) (none-is-0 unit number value)
+      ∙ rw none
       (by-test (eqb unit 0)
-      (λ t. network-replies t number (rw t at for-unit))
-      (λ t. terminal-replies t number (rw t at for-unit)))
+      (λ t. network-replies t number (unfold eventFor in (rw t at for-unit)))
+      (λ t. terminal-replies t number (unfold eventFor in (rw t at for-unit))))

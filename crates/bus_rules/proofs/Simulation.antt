@@ -29,11 +29,11 @@ use Rattle.terminal.proofs.Laws.{AccessByState, switches-on-access, switches-of
 use Rattle.bus_rules.specs.Bus.{Station, Bus, terminals, freshStation}
 use Rattle.bus_rules.specs.Exchange.{Opportunity, inF7, stationsOf, onward, begins, opportunitiesOf, exchanged, wholeDown, wholeUp}
 use Rattle.bus_rules.specs.Period.{readingAfter, networkHears, terminalHears, stepped, heardBy, timed, periodRun}
-use Rattle.bus_rules.specs.Event.{stationOf, classOf, eventFor, bars, givesFrame, reasons, refusal, networkDoes, networkDone, hitGiven, terminalDoes, withFrame, stationAfter, stationDone, eventDone}
+use Rattle.bus_rules.specs.Event.{stationOf, classOf, eventFor, bars, givesFrame, callReasons, stateReasons, reasons, refusal, networkDoes, networkDone, hitGiven, terminalDoes, withFrame, stationAfter, stationDone, eventDone}
 use Rattle.notes_and_cells.specs.Events.{ON, OFF, D1, D2, HIT}
 use Rattle.bus_rules.specs.Calls.{Call, reply, does, after, afterAll}
 use Rattle.bus_rules.specs.Calls.Call.{event, period}
-use Rattle.bus_rules.proofs.Refusals.{not-refused-only}
+use Rattle.bus_rules.proofs.Refusals.{accepted-holds}
 use Rattle.bus_rules.proofs.Stations.{Each, stations-stationed, each-onward, each-begins, each-period, each-event}
 use Rattle.bus_rules.proofs.Mapping.{contenderOf, contendersOf, channelOf, channelAt, Imaged, AllImaged, imaged-turned, actionAt, channel-onward}
 
@@ -88,10 +88,10 @@ pub record Accepted (b : Bus) (unit number : ℕ) (value : List ℕ) : Type 0 wh
   pub none-held : (givesFrame number && not (eqb (stationOf b unit .terminal .access .held) 0)) ≡ false
 
 pub accepted : (b : Bus) (unit number : ℕ) (value : List ℕ) → refusal b unit number value ≡ 0 → Accepted b unit number value
-unfolding reply reasons
+unfolding reply reasons callReasons stateReasons
 accepted b unit number value h =
-    let n = not-refused-only b unit number value h in
-    record { letters = n 0; unit-known = n 1; for-unit = n 2; not-barred = n 3; in-F7 = n 4; a-body = n 5; none-held = n 6 }
+    let n = accepted-holds b unit number value h in
+    record { letters = n 2; unit-known = n 3; for-unit = n 4; not-barred = n 5; in-F7 = n 6; a-body = n 7; none-held = n 8 }
 
 -- what a terminal has met that takes a frame
 pub record Takes (s : Station) (body : List ℕ) : Type 0 where

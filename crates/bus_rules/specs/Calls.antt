@@ -1,5 +1,5 @@
 -- Rules: lists of calls on a bus (document 01, "Lists and stretches").
--- Interface: `Call`, `reply`, `after`, `notes`, `afterAll`, `notesOfAll`, `runReply`, `runNotes`,
+-- Interface: `Call`, `reply`, `busRefusals`, `after`, `notes`, `afterAll`, `notesOfAll`, `runReply`, `runNotes`,
 -- `runLeaves`. Assumes nothing.
 use mathlib.Core.Bool.{Bool, cond, _&&_}
 use mathlib.Core.List.{List, [], _∷_, _++_}
@@ -9,7 +9,7 @@ use lib.ListN.{length}
 use Rattle.timing.specs.Counts.{mostPeriods}
 use Rattle.bus_rules.specs.Bus.{Bus, Note}
 use Rattle.bus_rules.specs.Period.{periodRun, periodNotes}
-use Rattle.bus_rules.specs.Event.{refusal, eventDone, eventNotes}
+use Rattle.bus_rules.specs.Event.{bookRefusals, refusal, eventDone, eventNotes}
 
 -- "A call on a bus gives it one of the book's events but `end`, or runs a period": any unit, event
 -- number and value
@@ -30,6 +30,11 @@ does b period = periodRun b
 unfoldable pub tells : Bus → Call → List Note
 tells b (event unit number value) = eventNotes unit number value b
 tells b period = periodNotes b
+
+-- Every number that can come back but 0: beside an event's and a period's 1, for a record out of its
+-- range, which no bus here is, and 2, for what is lent, as well.
+abbrev pub busRefusals : List ℕ
+busRefusals = 1 ∷ 2 ∷ bookRefusals ++ (9 ∷ [])
 
 -- "The number comes back alone; record and lent buffers keep their contents"
 unfoldable pub after : Bus → Call → Bus

@@ -1,9 +1,10 @@
 -- Rules: an event of the book on the bus (document 01, "Bench book and report" and "Reasons a call
 -- is turned down"): any unit number, any event number, any value.
--- Interface: `among`, `eventFor`, `refusal`, `eventDone`, `eventNotes`. Assumes nothing.
+-- Interface: `among`, `networkEvents`, `terminalEvents`, `eventFor`, `callReasons`, `stateReasons`,
+-- `bookRefusals`, `firstHolding`, `refusal`, `eventDone`, `eventNotes`. Assumes nothing.
 use mathlib.Core.Bool.{Bool, false, cond, not, _&&_, _||_}
-use mathlib.Core.List.{List, [], _∷_}
-use Prim.Native.Nat.{ℕ, suc, _-_}
+use mathlib.Core.List.{List, [], _∷_, _++_}
+use Prim.Native.Nat.{ℕ, _-_}
 use lib.Dec.{eqb, ltb}
 use lib.ListN.{length}
 use Rattle.symbols.specs.Symbols.{lineLength, fits}
@@ -40,8 +41,14 @@ classOf event = cond (eqb event D1) 1 (cond (eqb event D2) 2 0)
 
 -- 4: "`on`, `off` (terminals), `ar` (all), `dr` (unit 0), `d1`, `d2` (terminals ..), `hit` (unit 0
 -- ..)"
+abbrev pub networkEvents : List ℕ
+networkEvents = AR ∷ DR ∷ HIT ∷ []
+
+abbrev pub terminalEvents : List ℕ
+terminalEvents = ON ∷ OFF ∷ AR ∷ D1 ∷ D2 ∷ []
+
 unfoldable pub eventFor : ℕ → ℕ → Bool
-eventFor unit event = cond (eqb unit 0) (among event (AR ∷ DR ∷ HIT ∷ [])) (among event (ON ∷ OFF ∷ AR ∷ D1 ∷ D2 ∷ []))
+eventFor unit event = cond (eqb unit 0) (among event networkEvents) (among event terminalEvents)
 
 -- 5: what the rules of the network end and of a terminal bar, by their tables' numbers of the
 -- events
@@ -61,27 +68,41 @@ bars b unit event = cond (eqb unit 0) (barsNetwork event (b .network .state)) (b
 abbrev pub givesFrame : ℕ → Bool
 givesFrame event = not (eqb (classOf event) 0)
 
--- The reasons 2 to 8 in document 01's order. 2 is for the letters of a hit. 7 is for a body, whose
--- values are octets: a value here is any list of numbers, and `isBody` asks that each is an octet.
-unfoldable pub reasons : Bus → ℕ → ℕ → List ℕ → List Bool
-reasons b unit event value =
-    (eqb event HIT && not (fits lineLength noneLetter value))
-    ∷ ltb terminals unit
-    ∷ not (eventFor unit event)
-    ∷ bars b unit event
-    ∷ (givesFrame event && not (eqb (stationOf b unit .terminal .state) F7))
-    ∷ (givesFrame event && not (isBody value))
-    ∷ (givesFrame event && not (eqb (stationOf b unit .terminal .access .held) 0))
+-- The reasons in the order of the checks, each a number and whether it holds: first those that the
+-- call itself decides, then those that the state of the bus decides. 2 is for the letters of a hit.
+unfoldable pub callReasons : ℕ → ℕ → List ℕ → List (ℕ × Bool)
+callReasons unit event value =
+    (2, eqb event HIT && not (fits lineLength noneLetter value))
+    ∷ (3, ltb terminals unit)
+    ∷ (4, not (eventFor unit event))
     ∷ []
+
+-- 7 is for a body, whose values are octets: a value here is any list of numbers, and `isBody` asks
+-- that each is an octet.
+unfoldable pub stateReasons : Bus → ℕ → ℕ → List ℕ → List (ℕ × Bool)
+stateReasons b unit event value =
+    (5, bars b unit event)
+    ∷ (6, givesFrame event && not (eqb (stationOf b unit .terminal .state) F7))
+    ∷ (7, givesFrame event && not (isBody value))
+    ∷ (8, givesFrame event && not (eqb (stationOf b unit .terminal .access .held) 0))
+    ∷ []
+
+unfoldable pub reasons : Bus → ℕ → ℕ → List ℕ → List (ℕ × Bool)
+reasons b unit event value = callReasons unit event value ++ stateReasons b unit event value
+
+-- "In a book, 3 to 8 become the note `refused`": the numbers of these reasons but 2, since a hit of
+-- right form has 48 letters
+abbrev pub bookRefusals : List ℕ
+bookRefusals = 3 ∷ 4 ∷ 5 ∷ 6 ∷ 7 ∷ 8 ∷ []
 
 -- "The checks run in the order below, and the first that holds gives the number; where none holds,
 -- the call is not refused": 0
-unfoldable pub firstHolding : ℕ → List Bool → ℕ
-firstHolding k [] = 0
-firstHolding k (holds ∷ more) = cond holds k (firstHolding (suc k) more)
+unfoldable pub firstHolding : List (ℕ × Bool) → ℕ
+firstHolding [] = 0
+firstHolding (reason ∷ more) = cond (reason .1) (reason .0) (firstHolding more)
 
 unfoldable pub refusal : Bus → ℕ → ℕ → List ℕ → ℕ
-refusal b unit event value = firstHolding 2 (reasons b unit event value)
+refusal b unit event value = firstHolding (reasons b unit event value)
 
 -- ---- What an accepted event does.
 

@@ -48,7 +48,7 @@ use Rattle.bus_rules.specs.Exchange.{opportunitiesOf, exchanged, wholeDo
 use Rattle.bus_rules.specs.Period.{readingAfter, networkHears, terminalHears, stepped, saidNotes, doneCodes, heardBy}
 use Rattle.bus_rules.specs.Period.{timed, periodRun, periodNotes}
 use Rattle.bus_rules.specs.TwoParts.{notesHeard, notesTimed}
-use Rattle.bus_rules.specs.Event.{classOf, eventFor, barsNetwork, barsTerminal, bars, reasons, firstHolding, refusal}
+use Rattle.bus_rules.specs.Event.{classOf, eventFor, barsNetwork, barsTerminal, bars, callReasons, stateReasons, reasons, firstHolding, refusal}
 use Rattle.bus_rules.specs.Event.{networkDoes, networkDone, hitGiven, terminalDoes, withFrame, stationAfter, stationDone}
 use Rattle.bus_rules.specs.Event.{eventDone, eventNotes}
 use Rattle.bus_rules.specs.Calls.{Call, reply, does, tells, after, notes, afterAll, notesOfAll, runGoesOn, runCalls, runReply}
@@ -95,7 +95,7 @@ unfolding within fits tabulate sameSymbols bits.octetBits bits.zeros polarity.al
     terminal.heardAs terminal.hears notesOf sentDown sentUp accessStepOf stationAfterE dOf doneOf hearsE sentOf lineDown lineUp
     eComes sendersAfter dComes saidTo onward asSender begins opportunitiesOf exchanged wholeDown wholeUp readingAfter networkHears
     terminalHears stepped saidNotes doneCodes heardBy notesHeard timed notesTimed periodRun periodNotes classOf eventFor barsNetwork
-    barsTerminal bars reasons firstHolding refusal networkDoes networkDone hitGiven terminalDoes withFrame stationAfter stationDone
+    barsTerminal bars callReasons stateReasons reasons firstHolding refusal networkDoes networkDone hitGiven terminalDoes withFrame stationAfter stationDone
     eventDone eventNotes reply does tells after notes afterAll opportunitiesOfCall opportunitiesIn stationThen buses powered
     poweredFrom poweredIn longestOf longestIn network.bars terminal.bars unitByUnit notesOfAll runGoesOn runCalls runReply runNotes
     runLeaves

@@ -171,7 +171,7 @@ run-ahead s s′ left at unit number m value more w w′ k r h e e′ =
 
 -- ---- An event is given to the bus, at its period. It runs none, so that the period stays the last line's.
 pub event-periods : (k : Kept) (unit number : ℕ) (value : List ℕ) → done k (event unit number value) .bus .periods ≡ k .bus .periods
-unfolding done settled called lists.told eventTold parts.told parts.networkTold parts.networkAsked
+unfolding done settled called lists.told eventTold parts.eventSettled parts.told parts.networkTold parts.networkAsked
 event-periods k unit number value =
     by-test (eqb (reason unit number value (k .bus) (k .terminals) (k .images) (k .letters)) 0)
     (λ t. rw t

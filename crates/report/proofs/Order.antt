@@ -143,7 +143,7 @@ module _ (k : Kept) (o : InOrder k) (unit number : ℕ) (value : List ℕ) where
       (rw (r .0, r .1, eq-eqb _ _ (o .images-fit), o .letters-fit) at e)
 
   refused-event : eqb why 0 ≡ false → called k call ≡ k
-  unfolding called told eventTold terminalsAfter imagesAfter lettersAfter parts.told
+  unfolding called told eventTold terminalsAfter imagesAfter lettersAfter parts.eventSettled parts.told
   refused-event t = rw t
 
   network-event : eqb why 0 ≡ true → eqb unit 0 ≡ true → Ready (called k call)
@@ -156,7 +156,7 @@ module _ (k : Kept) (o : InOrder k) (unit number : ℕ) (value : List ℕ) where
       (letters-kept number value (k .letters) (o .letters-fit) (letters-good (eqb-true why 0 t))))
 
   terminal-event : eqb why 0 ≡ true → eqb unit 0 ≡ false → Ready (called k call)
-  unfolding called told eventTold terminalsAfter imagesAfter lettersAfter parts.told
+  unfolding called told eventTold terminalsAfter imagesAfter lettersAfter parts.eventSettled parts.told
   terminal-event t z =
       let r = order-ranges k o in
       let i : ℕ = unit - 1 in

@@ -12,7 +12,7 @@ use Rattle.terminal.specs.declared.TerminalStep.{TerminalStep}
 use Rattle.terminal.proofs.TerminalStep as S
 use Rattle.bus_record.specs.declared.record.BusRecord.{BusRecord}
 use Rattle.bus_record.proofs.record.BusRecord as B
-use Rattle.bus_event.specs.Event.{told, firstReason, networkTold, terminalTold, lettersAfter, imagesAfter}
+use Rattle.bus_event.specs.Event.{told, firstReason, networkTold, terminalTold, lettersAfter, imagesAfter, eventSettled}
 use Rattle.bus_event.specs.declared.event.Told.{Told}
 use Rattle.bus_event.proofs.event.Told as D
 use Rattle.bus_call_specs.specs.Ready.{eightInRange}
@@ -50,10 +50,10 @@ use Rattle.bus_calls.proofs.fields.terminal_of as after
 use Rattle.bus_calls.proofs.fields.terminal_of.Symbol as after-def
 use Rattle.bus_calls.proofs.fields.terminal_of.Symbol.{name as #after}
 use Rattle.bus_calls.proofs.fields.terminal_of.Met as after-thm
-use Rattle.bus_calls.proofs.event.replied_by as replied
-use Rattle.bus_calls.proofs.event.replied_by.Symbol as replied-def
-use Rattle.bus_calls.proofs.event.replied_by.Symbol.{name as #replied}
-use Rattle.bus_calls.proofs.event.replied_by.Met as replied-thm
+use Rattle.bus_event.proofs.event.event_settled as settled
+use Rattle.bus_event.proofs.event.event_settled.Symbol as settled-def
+use Rattle.bus_event.proofs.event.event_settled.Symbol.{name as #settled}
+use Rattle.bus_event.proofs.event.event_settled.Met as settled-thm
 use Rattle.bus_calls.proofs.event.event.Key.{name as #walk}
 use Rattle.bus_calls.proofs.event.event as all
 use Rattle.bus_calls.proofs.event.event.Statement as stated
@@ -87,8 +87,8 @@ module _ {M : Type 1} (𝓤 : URA M) (H : Heap 𝓤) (A : Atoms 𝓤) (mem : Mem
   abbrev After : Contract 𝓤
   After = tripleOf 𝓤 H A after.signature (after.spec 𝓤 H A mem run)
 
-  abbrev Replied : Contract 𝓤
-  Replied = tripleOf 𝓤 H A replied.signature (replied.spec 𝓤 H A mem run)
+  abbrev Settled : Contract 𝓤
+  Settled = tripleOf 𝓤 H A settled.signature (settled.spec 𝓤 H A mem run)
 
 -- the contracts of the functions that it calls
 record Known {M : Type 1} (𝓤 : URA M) (H : Heap 𝓤) (A : Atoms 𝓤) (mem : Memory → SProp 𝓤) (run : Routine → Fun 𝓤) (𝓣 : Tables 𝓤 H) : Type 1 where
@@ -100,7 +100,7 @@ record Known {M : Type 1} (𝓤 : URA M) (H : Heap 𝓤) (A : Atoms 𝓤) (mem :
   the-terminal : Triple 𝓤 (𝓣 .C #terminal) (AtTerminal 𝓤 H A mem run)
   the-period : Triple 𝓤 (𝓣 .C #period) (Period 𝓤 H A mem run)
   the-after : Triple 𝓤 (𝓣 .C #after) (After 𝓤 H A mem run)
-  the-replied : Triple 𝓤 (𝓣 .C #replied) (Replied 𝓤 H A mem run)
+  the-settled : Triple 𝓤 (𝓣 .C #settled) (Settled 𝓤 H A mem run)
 
 module _ {M : Type 1} (𝓤 : URA M) (H : Heap 𝓤) (A : Atoms 𝓤) (W : Given 𝓤 H A) (mem : Memory → SProp 𝓤) (run : Routine → Fun 𝓤) (bus : BusRecord) (s₁ s₂ s₃ s₄ : Spot) (ys : List Terminal) (images letters : List ℕ) (unit number : ℕ) (value : List ℕ)
     (gb : Is B.the-row bus (buses .val bus ∷ [])) (g₁ : Room T.the-row (length ys)) (g₂ : Room u8 (length images)) (g₃ : Room u8 (length letters)) (gu : unit < 2 ^ 32) (gn : number < 2 ^ 8) (g₄ : Room u8 (length value)) where
@@ -252,19 +252,19 @@ module _ {M : Type 1} (𝓤 : URA M) (H : Heap 𝓤) (A : Atoms 𝓤) (W : Given
     ensured = λ ns u ws. id⊢ 𝓤 _;
   }
 
-  abbrev to-replied : (s : TerminalStep) (gs : Is S.the-row s (terminal-steps .val s ∷ [])) → List Param
-  to-replied s gs = plain-of B.the-row buses bus gb ∷ plain-of S.the-row terminal-steps s gs ∷ []
+  abbrev to-settled : (s : TerminalStep) (gs : Is S.the-row s (terminal-steps .val s ∷ [])) → List Param
+  to-settled s gs = plain-of B.the-row buses bus gb ∷ plain-of u32 (uint-kind w32) unit (refl, gu) ∷ plain-of u8 (uint-kind w8) number (refl, gn) ∷ hands-at 3 u8 s₄ (length value) value ∷ plain-of S.the-row terminal-steps s gs ∷ []
 
-  abbrev replied-by : (s : TerminalStep) (gs : Is S.the-row s (terminal-steps .val s ∷ [])) → Call W (to-replied s gs) replied.ended (replied.clauses 𝓤 H A mem run)
-  replied-by s gs = record {
-    bound = λ ns. ((lfts-of (to-replied s gs) ns, shares-of (to-replied s gs), tt, args-of (to-replied s gs) ns, vals-of (to-replied s gs)), tt);
+  abbrev event-settled : (s : TerminalStep) (gs : Is S.the-row s (terminal-steps .val s ∷ [])) → Call W (to-settled s gs) settled.ended (settled.clauses 𝓤 H A mem run)
+  event-settled s gs = record {
+    bound = λ ns. ((lfts-of (to-settled s gs) ns, shares-of (to-settled s gs), tt, args-of (to-settled s gs) ns, vals-of (to-settled s gs)), tt);
     asks = λ ns. id⊢ 𝓤 _;
     needed = λ ns. id⊢ 𝓤 _;
     tokens = λ ns. id⊢ 𝓤 _;
     last = λ ns ws. ws;
     finals = λ ns ws. id⊢ 𝓤 _;
     result = λ ns. tolds;
-    Said = λ ns r ws. r ≡ told bus (s .notes) (s .reply);
+    Said = λ ns r ws. r ≡ eventSettled bus unit number value s;
     ensured = λ ns r ws. id⊢ 𝓤 _;
   }
 
@@ -299,8 +299,8 @@ module _ {M : Type 1} (𝓤 : URA M) (H : Heap 𝓤) (A : Atoms 𝓤) (W : Given
       -- terminals[i] = terminal_of(s)
       calls-giving (terminal-of s gs) [] ! refl 𝓣 (known .the-after) (λ ns Θ. and-then ! (loc ! tt refl) (no-more !)) tt (λ ns. refl) (λ ns u _ _ is-u gt.
       stores ! terminals (within unit number value bus ys images letters ready is-ready k is-k i is-i (not-false (eqb k 0) none)) (tt, refl, tt, refl, tt, refl, refl, tt, refl, tt, refl, tt, refl) u gt (λ Δ. of-opd ! (loc ! tt refl)) $
-      -- replied_by(bus, s)
-      calls-giving (replied-by s gs) [] ! refl 𝓣 (known .the-replied) (λ ns Θ. and-then ! (loc ! tt refl) (and-then ! (loc ! tt refl) (no-more !))) tt (λ ns. refl) (λ ns r w₇ l₇ so₇ gr.
+      -- event_settled(bus, unit, event, value, s)
+      calls-giving (event-settled s gs) (4 ∷ []) ! refl 𝓣 (known .the-settled) (λ ns Θ. and-then ! (loc ! tt refl) (and-then ! (loc ! tt refl) (and-then ! (loc ! tt refl) (and-then ! (loc ! tt refl) (and-then ! (loc ! tt refl) (no-more !)))))) tt (λ ns. refl) (λ ns r w₇ l₇ so₇ gr.
       leaves ! Post refl tt refl (exits r (set ys i u) (w₆ .1 .0) letters (length-set ys i u) (l₆ .0) refl (subst (λ (x : Terminal). Owed r (set ys i x) (w₆ .1 .0) letters) (sym is-u)
       (at-terminal unit number value bus ys images letters ready is-ready k is-k (not-false (eqb k 0) none) other i is-i s (w₆ .1 .0) (so₆ .0 ∙ ap (λ (q : Periods). terminalTold number images i value q (getD ys i fresh)) is-p, so₆ .1) r so₇)) gr))))))))))))
 
@@ -325,5 +325,5 @@ event-spec 𝓤 H 𝓜 𝓖 𝓡 =
       the-terminal = cited 𝓤 H (AtTerminal 𝓤 H (𝓖 .A) (𝓜 .mem) (𝓡 .run)) 𝓜 𝓡 code.env #terminal terminal-def.routine code.calls-bus-event·event·terminal-event (terminal-thm.met 𝓤 H 𝓜 𝓖 𝓡);
       the-period = cited 𝓤 H (Period 𝓤 H (𝓖 .A) (𝓜 .mem) (𝓡 .run)) 𝓜 𝓡 code.env #period period-def.routine code.calls-bus-calls·fields·periods-of (period-thm.met 𝓤 H 𝓜 𝓖 𝓡);
       the-after = cited 𝓤 H (After 𝓤 H (𝓖 .A) (𝓜 .mem) (𝓡 .run)) 𝓜 𝓡 code.env #after after-def.routine code.calls-bus-calls·fields·terminal-of (after-thm.met 𝓤 H 𝓜 𝓖 𝓡);
-      the-replied = cited 𝓤 H (Replied 𝓤 H (𝓖 .A) (𝓜 .mem) (𝓡 .run)) 𝓜 𝓡 code.env #replied replied-def.routine code.calls-bus-calls·event·replied-by (replied-thm.met 𝓤 H 𝓜 𝓖 𝓡);
+      the-settled = cited 𝓤 H (Settled 𝓤 H (𝓖 .A) (𝓜 .mem) (𝓡 .run)) 𝓜 𝓡 code.env #settled settled-def.routine code.calls-bus-event·event·event-settled (settled-thm.met 𝓤 H 𝓜 𝓖 𝓡);
     }))
