@@ -32,7 +32,7 @@ use Rattle.bus_call_specs.specs.Kept.{Kept, kept}
 use Rattle.bus_call_specs.specs.Event.{reason, terminalOf, atTerminal, eventTold, terminalsAfter, imagesAfter, lettersAfter}
 use Rattle.bus_call_specs.specs.Lists.{Carries, told, called, replied, notesTold}
 use Rattle.bus_call_specs.proofs.Fields.{periods-of}
-use Rattle.bus_call_specs.proofs.InOrder.{order-ranges}
+use Rattle.bus_call_specs.proofs.InOrder.{order-reason}
 use Rattle.bus_call_specs.proofs.Fitting.{Fit, in-order}
 use Rattle.bus_call_specs.proofs.Refused.{refused-keeps}
 use Rattle.bus_call_specs.proofs.EventLeft.{hit-carried, asked-is, asked-carried, terminal-there, power-told, power-carried, no-frame, frame-reason, gives-frame, frame-carried}
@@ -174,10 +174,7 @@ module _ (k : Kept) (b : Bus) (c : Carries k b) (unit number : ℕ) (value : Lis
 -- ---- every event
 module _ (k : Kept) (b : Bus) (c : Carries k b) (f : Fit b) (unit number : ℕ) (value : List ℕ) where
   why-is : why k b c unit number value ≡ firstHolding (callReasons unit number value)
-  unfolding firstReason firstHolding
-  why-is =
-      let o = order-ranges k (in-order k b c f) in
-      rw (o .0, o .1, eq-eqb (length (k .images)) imagesRoom (c .images-fit), c .letters-fit)
+  why-is = order-reason k (in-order k b c f) unit number value
 
   -- what the call itself decides, or what the two ends answer
   pub event-carried : ((i : ℕ) → getD value i 0 < 256) → Carried k b (event unit number value)

@@ -20,15 +20,17 @@ use Rattle.terminal.specs.Calls.{terminalInRange}
 use Rattle.terminal.specs.declared.Terminal.{Terminal}
 use Rattle.terminal.proofs.RangesKept.{fresh-in-range}
 use Rattle.bus_rules.specs.Bus.{Station, terminals, freshStation}
+use Rattle.bus_rules.specs.Event.{callReasons, firstHolding}
 use Rattle.bus_rules.specs.Ranges.{InRange, hitInRange}
 use Rattle.exchange.specs.Part.{stationIn}
 use Rattle.period_hearing.specs.Shown.{allInRange, terminalsOf}
 use Rattle.bus_record.specs.Record.{recordInRange}
-use Rattle.bus_event.specs.Event.{imagesRoom, areLetters}
+use Rattle.bus_event.specs.Event.{imagesRoom, areLetters, firstReason}
 use Rattle.bus_record.specs.declared.record.BusRecord.{BusRecord}
 use Rattle.bus_call_specs.specs.Kept.{Kept}
 use Rattle.bus_record.specs.Echo.{hitIn}
 use Rattle.bus_call_specs.specs.Shown.{busIn}
+use Rattle.bus_call_specs.specs.Event.{reason}
 use Rattle.bus_call_specs.specs.Ready.{eightInRange, lentFits, runReason, runReply}
 
 -- the record and what is lent are in order
@@ -139,6 +141,14 @@ order-ranges k o = (
   rw (eight-in-range (k .terminals), eq-eqb _ _ (o .eight), o .terminals-fit),
   rw (o .network-fits, le-leb _ _ (o .periods-fit), le-leb _ _ (o .opportunities-fit), o .reader-fits),
 )
+
+-- then an event is turned down, before a unit is asked, for what the call itself decides alone
+pub order-reason : (k : Kept) → InOrder k → (unit number : ℕ) (value : List ℕ)
+    → reason unit number value (k .bus) (k .terminals) (k .images) (k .letters) ≡ firstHolding (callReasons unit number value)
+unfolding firstReason firstHolding
+order-reason k o unit number value =
+    let r = order-ranges k o in
+    rw (r .0, r .1, eq-eqb (length (k .images)) imagesRoom (o .images-fit), o .letters-fit)
 
 -- ---- The bus in its range.
 fits-at : (images : List ℕ) (i : ℕ) (ts : List Terminal) → allInRange ts ≡ true →

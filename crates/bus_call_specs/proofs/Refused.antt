@@ -2,14 +2,13 @@
 use mathlib.Core.Path.{_≡_, refl, _∙_}
 use mathlib.Core.Bool.{Bool, true, false, cond, not, _&&_, _||_}
 use mathlib.Core.List.{List, [], _∷_}
-use Prim.Native.Nat.{ℕ, zero, suc, _-_, _≤_}
+use Prim.Native.Nat.{ℕ, zero, suc, _-_, _<_}
 use native.Mathlib.Omega.{arith}
 use lib.Dec.{eqb, ltb, leb}
 use lib.ListN.{length}
 use lib.Seq.{set-getD}
-use borrow.Author.Tests.{eqb-true, eqb-false, ne-eqb, leb-true, le-leb, not-false}
+use borrow.Author.Tests.{eqb-true, eqb-false, ne-eqb, leb-true, le-leb, ltb-true, not-false}
 use Rattle.test_lemmas.proofs.ByCases.{by-test, neither}
-use Rattle.test_lemmas.proofs.Operators.{and-both}
 use Rattle.notes_and_cells.specs.Notes.{packedNotes}
 use Rattle.notes_and_cells.specs.declared.cell.Cell.{Cell}
 use Rattle.notes_and_cells.specs.declared.cell.Cell.the-variants.{To, Stay, Impossible, Absent}
@@ -37,7 +36,7 @@ use Rattle.notes_and_cells.specs.Events.{ON, OFF, AR, D1, D2, HIT}
 use Rattle.bus_rules.specs.Calls.{Call, busRefusals}
 use Rattle.bus_rules.specs.Calls.Call.{event, period}
 use Rattle.bus_rules.proofs.Ranges.{classGiven}
-use Rattle.bus_rules.proofs.Refusals.{none-holds}
+use Rattle.bus_rules.proofs.Refusals.{numbersOf, each, each-among, none-holds, first-listed}
 use Rattle.bus_record.specs.Record.{recordInRange}
 use Rattle.bus_record.specs.NetworkSide.{refusedRun}
 use Rattle.bus_record.specs.declared.record.BusRecord.{BusRecord}
@@ -54,21 +53,13 @@ use Rattle.bus_call_specs.specs.Refused.{Listed, RefusedKeeps, RefusedRu
 use Rattle.bus_call_specs.proofs.RunSingle.{stays, ran-ends, kept-ends}
 use Rattle.bus_call_specs.proofs.EventLeft.{no-refusal, reader-stays, no-frame, gives-frame}
 
--- the first of some reasons with listed numbers
-abbrev eachListed : List (ℕ × Bool) → Bool
-eachListed [] = true
-eachListed (r ∷ rs) = among (r .0) busRefusals && eachListed rs
+-- listed numbers are octets
+pub listed-octet : (n : ℕ) → Listed n → n < 256
+listed-octet n l = ltb-true n 256 (each-among (λ x. ltb x 256) n (0 ∷ busRefusals) refl l)
 
-listed-in : (rs : List (ℕ × Bool)) → eachListed rs ≡ true → Listed (firstHolding rs)
-unfolding firstHolding
-listed-in [] a = refl
-listed-in (r ∷ rs) a =
-    let l = and-both (among (r .0) busRefusals) (eachListed rs) a in
-    by-test (r .1) (λ t. rw (t, l .0) (or-true (eqb (r .0) 0))) (λ t. rw t (listed-in rs (l .1)))
-  where
-    or-true : (a : Bool) → (a || true) ≡ true
-    or-true true = refl
-    or-true false = refl
+-- the first of some reasons with listed numbers
+listed-first : (rs : List (ℕ × Bool)) → each (λ n. among n (0 ∷ busRefusals)) (numbersOf rs) ≡ true → Listed (firstHolding rs)
+listed-first rs h = each-among (λ n. among n (0 ∷ busRefusals)) (firstHolding rs) (0 ∷ numbersOf rs) h (first-listed rs)
 
 -- ---- A step of the network end: refused, it changes nothing and has no note.
 record NetworkAnswer (n : Network) (s : NetworkStep) : Type 0 where
@@ -177,7 +168,7 @@ module _ (class : Class) (images : List ℕ) (i : ℕ) (body : List ℕ) (t : Te
 
   why-listed : Listed why-not
   unfolding frameReason
-  why-listed = listed-in _ refl
+  why-listed = listed-first _ refl
 
   frame-given : TerminalAnswer t (frameGiven class images i body t)
   unfolding frameGiven turnedDown
@@ -227,7 +218,7 @@ module _ (unit number : ℕ) (value : List ℕ) (k : Kept) where
 
   why-fits : Listed why
   unfolding firstReason callReasons
-  why-fits = listed-in _ refl
+  why-fits = listed-first _ refl
 
   event-listed : Listed (told unit number value k .reply)
   unfolding told eventTold parts.eventSettled parts.told

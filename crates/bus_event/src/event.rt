@@ -179,13 +179,7 @@ pub fn terminal_event(
 
 // Gives what the call gives where terminal `unit` has answered an event with this step: the record,
 // the notes and the reply. Every event of a terminal ends here; none changes the record.
-pub fn event_settled(
-    bus: BusRecord,
-    unit: u32,
-    event: u8,
-    value: &[u8],
-    step: TerminalStep,
-) -> Told
+pub fn event_settled(bus: BusRecord, unit: u32, event: u8, value: &[u8], step: TerminalStep) -> Told
     ensures { λ r. ⌜ r ≡ spec.eventSettled bus unit event (now (value .entry)) step ⌝ }
 {
     replied(bus, step.notes, step.reply)

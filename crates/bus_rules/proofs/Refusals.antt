@@ -7,7 +7,7 @@ use Prim.Native.Nat.{ℕ, zero, suc, _≤_, _<_}
 use native.Mathlib.Omega.{arith}
 use lib.Dec.{eqb, leb}
 use lib.ListN.{length, getD}
-use borrow.Author.Tests.{eq-eqb, eqb-false, ne-eqb, le-leb, leb-true, leb-false, lt-leb, not-true}
+use borrow.Author.Tests.{eq-eqb, eqb-true, eqb-false, ne-eqb, le-leb, leb-true, leb-false, lt-leb, not-true}
 use Rattle.test_lemmas.proofs.ByCases.{by-test, clash, and-left, and-right}
 use Rattle.timing.specs.Counts.{mostPeriods}
 use Rattle.bus_rules.specs.Bus.{Bus}
@@ -35,6 +35,18 @@ pub record First (rs : List (ℕ × Bool)) (i : ℕ) : Type 0 where
 -- no reason holds
 abbrev pub None : List (ℕ × Bool) → Type 0
 None rs = (i : ℕ) → reasonAt rs i .1 ≡ false
+
+-- what a test says of each of some numbers it says of one among them
+abbrev pub each : (ℕ → Bool) → List ℕ → Bool
+each f [] = true
+each f (x ∷ xs) = f x && each f xs
+
+pub each-among : (f : ℕ → Bool) (n : ℕ) (xs : List ℕ) → each f xs ≡ true → among n xs ≡ true → f n ≡ true
+each-among f n [] h a = clash false a refl
+each-among f n (x ∷ xs) h a =
+    by-test (eqb n x)
+    (λ t. rw (eqb-true n x t) (and-left (f x) (each f xs) h))
+    (λ t. each-among f n xs (and-right (f x) (each f xs) h) (rw t at a))
 
 -- ---- the first of a list
 first-number : (rs : List (ℕ × Bool)) (i : ℕ) → First rs i → firstHolding rs ≡ reasonAt rs i .0

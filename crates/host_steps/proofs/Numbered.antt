@@ -1,19 +1,19 @@
 -- An event number above an octet is no event, as 0 is none: the two calls are turned down alike.
-use mathlib.Core.Bool.{Bool, true, false, cond, _&&_}
+use mathlib.Core.Bool.{Bool, true, false, not}
 use mathlib.Core.List.{List}
 use mathlib.Core.Path.{_≡_, refl}
 use Prim.Native.Nat.{ℕ, _≤_}
 use native.Mathlib.Omega.{arith}
 use lib.Dec.{eqb, ltb}
 use lib.ListN.{length}
-use borrow.Author.Tests.{ne-eqb, ltb-false}
-use Rattle.test_lemmas.proofs.ByCases.{by-test}
-use Rattle.bus_rules.specs.Bus.{terminals}
-use Rattle.bus_rules.specs.Event.{eventFor}
+use borrow.Author.Tests.{eqb-true, ne-eqb, ltb-false, le-ltb}
+use Rattle.test_lemmas.proofs.ByCases.{by-test, clash}
+use Rattle.notes_and_cells.specs.Events.{HIT}
+use Rattle.bus_rules.specs.Event.{among, networkEvents, terminalEvents, eventFor, callReasons, firstHolding}
 use Rattle.bus_rules.specs.Calls.Call.{event}
-use Rattle.bus_record.specs.Record.{recordInRange}
+use Rattle.bus_rules.proofs.Refusals.{each, each-among, none-holds}
 use Rattle.bus_record.specs.declared.record.BusRecord.{BusRecord}
-use Rattle.bus_event.specs.Event.{imagesRoom, areLetters, firstReason}
+use Rattle.bus_event.specs.Event.{firstReason}
 use Rattle.bus_call_specs.specs.Kept.{Kept}
 use Rattle.bus_call_specs.specs.Ready.{eightInRange}
 use Rattle.bus_call_specs.specs.Event.{eventTold, terminalsAfter, imagesAfter, lettersAfter}
@@ -25,27 +25,26 @@ none : (unit : ℕ) → eventFor unit 0 ≡ false
 unfolding eventFor
 none unit = by-test (eqb unit 0) (λ t. rw t) (λ t. rw t)
 
+not-among : (n : ℕ) → 256 ≤ n → (xs : List ℕ) → each (λ x. ltb x 256) xs ≡ true → among n xs ≡ false
+not-among n h xs small =
+    by-test (among n xs) (λ t. clash (ltb n 256) (each-among (λ x. ltb x 256) n xs small t) (le-ltb n 256 h)) (λ t. t)
+
 above : (unit n : ℕ) → 256 ≤ n → eventFor unit n ≡ false
 unfolding eventFor
 above unit n h =
-    by-test (eqb unit 0)
-    (λ t. rw (t, ne-eqb n 3 (omega arith), ne-eqb n 4 (omega arith), ne-eqb n 7 (omega arith)))
-    (λ t. rw (t, ne-eqb n 1 (omega arith), ne-eqb n 2 (omega arith), ne-eqb n 3 (omega arith), ne-eqb n 5 (omega arith), ne-eqb n 6 (omega arith)))
-
-refused : (a b c : Bool) → eqb (cond {A = ℕ} a (cond b (cond c 3 4) 2) 1) 0 ≡ false
-refused true true true = refl
-refused true true false = refl
-refused true false c = refl
-refused false b c = refl
+    by-test (eqb unit 0) (λ t. rw (t, not-among n h networkEvents refl)) (λ t. rw (t, not-among n h terminalEvents refl))
 
 module _ (ready : Bool) (r : BusRecord) (images : ℕ) (letters : List ℕ) (unit n : ℕ) (value : List ℕ) (h : 256 ≤ n) where
   same-reason : firstReason ready r images letters unit n value ≡ firstReason ready r images letters unit 0 value
-  unfolding firstReason
-  same-reason = rw (ne-eqb n 7 (omega arith), above unit n h, none unit)
+  unfolding firstReason callReasons firstHolding
+  same-reason = rw (ne-eqb n HIT (omega arith), above unit n h, none unit)
 
   no-pass : eqb (firstReason ready r images letters unit 0 value) 0 ≡ false
-  unfolding firstReason
-  no-pass = rw (none unit) (refused (ready && recordInRange r) ((eqb images imagesRoom && areLetters letters) && true) (ltb terminals unit))
+  unfolding firstReason callReasons
+  no-pass =
+      by-test (eqb (firstReason ready r images letters unit 0 value) 0)
+      (λ z. clash (not (eventFor unit 0)) (rw (none unit)) (none-holds _ refl (eqb-true _ 0 z) 4))
+      (λ z. z)
 
 -- ---- The number that is passed on makes the same call.
 pub record SameCall (k : Kept) (unit n : ℕ) (value : List ℕ) : Type 0 where

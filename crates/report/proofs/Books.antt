@@ -1,4 +1,4 @@
--- What holds of every book's calls: its lines' periods do not fall, so that the periods before a line can be run; refusals are 3 to 8; values
+-- What holds of every book's calls: its lines' periods do not fall, so that the periods before a line can be run; refusals are those of a book; values
 -- are octets; and demand 3 speaks of them.
 use mathlib.Core.Path.{_≡_, refl}
 use mathlib.Core.Bool.{Bool, true, false, cond, not, _&&_}
@@ -8,7 +8,7 @@ use native.Mathlib.Omega.{arith}
 use lib.Dec.{eqb, leb}
 use lib.ListN.{length, getD, take, drop, replicate}
 use borrow.Author.Tests.{eqb-true, leb-true}
-use Rattle.test_lemmas.proofs.ByCases.{by-test, and-left, and-right}
+use Rattle.test_lemmas.proofs.ByCases.{by-test, clash, and-left, and-right}
 use Rattle.symbols.specs.Symbols.{lineLength, fits}
 use Rattle.combining.specs.Hit.{keepLetter, plusLetter, minusLetter, noneLetter}
 use Rattle.timing.specs.Counts.{mostPeriods}
@@ -21,12 +21,12 @@ use Rattle.book_line.proofs.Judging.{formed-parts}
 use Rattle.book_line.proofs.Values.{value-octets, hit-fits}
 use Rattle.book_reader.specs.Book.{Answer, firstLine, nothing, closing, lines, answersFrom, answers}
 use Rattle.book_reader.specs.Book.Answer.{entry, fault}
-use Rattle.bus_rules.specs.Event.{reasons, firstHolding, refusal}
+use Rattle.bus_rules.specs.Event.{among, bookRefusals, callReasons, stateReasons, reasons, firstHolding, refusal}
 use Rattle.bus_rules.specs.Bus.{Bus, freshBus}
 use Rattle.bus_rules.specs.Calls.{Call, reply, after, afterAll}
 use Rattle.bus_rules.specs.Calls.Call.{event, period}
 use Rattle.bus_rules.specs.Ranges.{runs, periodsRun}
-use Rattle.bus_rules.proofs.Refusals.{period-not-refused}
+use Rattle.bus_rules.proofs.Refusals.{first-listed, period-not-refused}
 use Rattle.bus_rules.proofs.Ranges.{periods-counted}
 use Rattle.bus_rules.proofs.Demand3.{demand3}
 use Rattle.bus_call_specs.specs.Lists.{OctetValues}
@@ -110,30 +110,18 @@ no-wrong-letters number value h =
     (λ t. let hit = eqb-true number HIT t in rw hit (rw (hit-fits value (rw hit at h))))
     (λ t. rw t)
 
-first-from : (k : ℕ) (holding : List Bool) → (firstHolding k holding ≡ 0 → ⊥) → (k ≤ firstHolding k holding) × (firstHolding k holding < k + length holding)
-unfolding firstHolding
-first-from k [] h = absurd (h refl)
-first-from k (true ∷ holding) h = (omega arith, omega arith)
-first-from k (false ∷ holding) h = let l = first-from (suc k) holding h in (omega arith, omega arith)
-
-from-three : (holding : List Bool) → length holding ≡ 7 → getD holding 0 false ≡ false → InBook (firstHolding 2 holding)
-unfolding firstHolding
-from-three [] n h = absurd (omega arith)
-from-three (first ∷ holding) n h =
-    let e : first ≡ false = h in
-    rw e (λ some. let l = first-from 3 holding some in (omega arith, omega arith))
-
 event-in-book : (b : Bus) (unit number : ℕ) (value : List ℕ) → valueFits number value ≡ true
     → InBook (reply b (event unit number (valueOctets number value)))
-unfolding reply refusal reasons
-event-in-book b unit number value h = from-three (reasons b unit number (valueOctets number value)) refl (no-wrong-letters number value h)
+unfolding reply refusal reasons callReasons stateReasons firstHolding
+event-in-book b unit number value h =
+    rw (no-wrong-letters number value h) (first-listed (drop 1 (reasons b unit number (valueOctets number value))))
 
 run-in-book : (n : ℕ) (b : Bus) (more : List Call) → b .periods + n ≤ mostPeriods → AllInBook (afterAll b (replicate n period)) more
     → AllInBook b (replicate n period ++ more)
 unfolding AllInBook afterAll
 run-in-book zero b more h m = m
 run-in-book (suc n) b more h m = (
-  λ some. absurd (some (period-not-refused b (omega arith))),
+  rw (period-not-refused b (omega arith)),
   run-in-book n (after b period) more (let one = period-counts b (omega arith) in omega arith) m,
 )
 
@@ -165,7 +153,7 @@ books-refused book = calls-in-book (answers-in-time book) freshBus refl
 in-time : (b : Bus) (calls : List Call) → AllInBook b calls → NoneLate b calls
 unfolding AllInBook NoneLate
 in-time b [] a = tt
-in-time b (c ∷ more) a = (λ nine. omega (arith, a .0 (λ z. omega arith) .1), in-time (after b c) more (a .1))
+in-time b (c ∷ more) a = (λ nine. clash _ (rw nine at (a .0)) refl, in-time (after b c) more (a .1))
 
 pub none-late : BooksInTime
 none-late book = in-time freshBus (bookCalls book) (books-refused book)

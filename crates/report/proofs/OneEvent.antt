@@ -9,7 +9,7 @@ use Rattle.test_lemmas.proofs.ByCases.{by-test}
 use Rattle.bus_rules.specs.Calls.Call.{event}
 use Rattle.bus_call_specs.specs.Kept.{Kept}
 use Rattle.bus_call_specs.specs.Lists.{told, replied, notesTold}
-use Rattle.bus_call_specs.proofs.Refused.{replies-listed}
+use Rattle.bus_call_specs.proofs.Refused.{listed-octet, replies-listed}
 use Rattle.note_text.specs.NoteText.{notesText}
 use Rattle.note_text.specs.Lengths.{numbers}
 use Rattle.period_text.specs.PeriodText.{eventNoted, periodRoom}
@@ -27,4 +27,4 @@ module _ (k : Kept) (unit number : ℕ) (value : List ℕ) where
   event-told-fits p u =
       rw event-told
       (event-fits (k .bus .periods .0) unit (told unit number value k .notes) (told unit number value k .reply) p u
-      (omega (arith, replies-listed k (event unit number value))))
+      (omega (arith, listed-octet (told unit number value k .reply) (replies-listed k (event unit number value)))))

@@ -1,12 +1,12 @@
 -- Every call, refused or not, leaves the record and what is lent with it in order: `specs/Told.antt`.
 use mathlib.Core.Path.{_≡_, refl, sym, ap, _∙_}
-use mathlib.Core.Bool.{Bool, true, false, cond, not, _||_}
+use mathlib.Core.Bool.{Bool, true, false, cond, not, _&&_, _||_}
 use mathlib.Core.List.{List, [], _∷_, _++_}
 use Prim.Native.Nat.{ℕ, zero, suc, _+_, _-_, _*_, _≤_}
 use native.Mathlib.Omega.{arith}
 use lib.Dec.{eqb, ltb}
 use lib.ListN.{length, take, drop, getD, set, length-append, length-drop, length-set, take-append-drop}
-use borrow.Author.Tests.{eqb-true, eq-eqb, le-leb, leb-true, ltb-false}
+use borrow.Author.Tests.{eqb-true, eq-eqb, le-leb, leb-true, ltb-false, not-false}
 use Rattle.test_lemmas.proofs.ByCases.{by-test}
 use Rattle.test_lemmas.proofs.Operators.{and-both}
 use Rattle.hdlc.specs.Bits.{bodyBits, octets}
@@ -19,13 +19,13 @@ use Rattle.terminal.specs.Calls.{terminalInRange}
 use Rattle.terminal.specs.declared.Terminal.{Terminal}
 use Rattle.terminal.proofs.RangesKept.{fresh-in-range}
 use Rattle.bus_rules.specs.Bus.{terminals}
-use Rattle.bus_rules.specs.Event.{eventFor}
+use Rattle.bus_rules.proofs.Barred.{right-letters}
 use Rattle.notes_and_cells.specs.Events.{D1, D2, HIT}
 use Rattle.bus_rules.specs.Calls.{Call}
 use Rattle.bus_rules.specs.Calls.Call.{event, period}
 use Rattle.period_hearing.specs.Shown.{allInRange}
 use Rattle.bus_record.specs.Record.{recordInRange}
-use Rattle.bus_event.specs.Event.{imagesRoom, areLetters, firstReason, takenOver, imagePut, frameReason, imagesWith, networkTold, terminalTold}
+use Rattle.bus_event.specs.Event.{imagesRoom, areLetters, takenOver, imagePut, frameReason, imagesWith, networkTold, terminalTold}
 use Rattle.bus_event.specs.Event as parts
 use Rattle.bus_event.proofs.Laws.{event-record-kept, event-terminal-kept}
 use Rattle.bus_call_specs.specs.Kept.{Kept, kept, settled}
@@ -33,7 +33,7 @@ use Rattle.bus_call_specs.specs.Ready.{eightInRange, lentFits, runReason, runRe
 use Rattle.bus_call_specs.specs.Run.{notYet, keptAfter}
 use Rattle.bus_call_specs.specs.Event.{reason, eventTold, terminalsAfter, imagesAfter, lettersAfter}
 use Rattle.bus_call_specs.specs.Lists.{told, called}
-use Rattle.bus_call_specs.proofs.InOrder.{InOrder, in-order, one-left, order-reply, order-ranges, eight-in-range}
+use Rattle.bus_call_specs.proofs.InOrder.{InOrder, in-order, one-left, order-reply, order-ranges, order-reason, eight-in-range}
 use Rattle.bus_call_specs.proofs.ReadyKept.{order-kept}
 use Rattle.bus_call_specs.proofs.RunSingle.{period-single, stays, kept-ends}
 use Rattle.report.specs.Told.{Ready, done, doneAll, StaysReady}
@@ -86,23 +86,14 @@ images-kept number t i value images =
     (λ a. rw a)
 
 -- ---- The letters of an accepted hit are letters.
-letters-passed : (a b c d : Bool) → cond {A = ℕ} a (cond b (cond c 3 (cond d 0 4)) 2) 1 ≡ 0 → b ≡ true
-letters-passed true true c d h = refl
-letters-passed true false c d h = absurd (omega arith)
-letters-passed false b c d h = absurd (omega arith)
-
-hit-letters : (a b : Bool) → (not a || b) ≡ true → a ≡ true → b ≡ true
-hit-letters true b h e = h
-hit-letters false b h e = cc
-
-letters-kept : (number : ℕ) (value letters : List ℕ) → areLetters letters ≡ true → (not (eqb number HIT) || areLetters value) ≡ true →
+letters-kept : (number : ℕ) (value letters : List ℕ) → areLetters letters ≡ true → (eqb number HIT && not (areLetters value)) ≡ false →
     areLetters (parts.lettersAfter number value letters) ≡ true
 unfolding parts.lettersAfter takenOver
 letters-kept number value letters l h =
     by-test (eqb number HIT)
     (λ t. rw t
     (by-test (eqb (length value) (length letters))
-    (λ u. rw u (hit-letters (eqb number HIT) (areLetters value) h t))
+    (λ u. rw u (not-false (areLetters value) (rw t at h)))
     (λ u. rw u l)))
     (λ t. rw t l)
 
@@ -135,12 +126,8 @@ module _ (k : Kept) (o : InOrder k) (unit number : ℕ) (value : List ℕ) where
   abbrev call : Call
   call = event unit number value
 
-  letters-good : why ≡ 0 → (not (eqb number HIT) || areLetters value) ≡ true
-  unfolding firstReason
-  letters-good e =
-      let r = order-ranges k o in
-      letters-passed true (not (eqb number HIT) || areLetters value) (ltb terminals unit) (eventFor unit number)
-      (rw (r .0, r .1, eq-eqb _ _ (o .images-fit), o .letters-fit) at e)
+  letters-good : why ≡ 0 → (eqb number HIT && not (areLetters value)) ≡ false
+  letters-good e = right-letters unit number value (sym (order-reason k o unit number value) ∙ e)
 
   refused-event : eqb why 0 ≡ false → called k call ≡ k
   unfolding called told eventTold terminalsAfter imagesAfter lettersAfter parts.eventSettled parts.told

@@ -1,11 +1,13 @@
 -- Laws: what holds of every book's calls.
 -- Interface: none but for laws and proofs. Assumes nothing.
+use mathlib.Core.Bool.{true}
 use mathlib.Core.List.{List, [], _∷_, _++_}
 use mathlib.Core.Path.{_≡_}
 use Prim.Native.Nat.{ℕ, _-_, _≤_}
 use lib.ListN.{replicate}
 use Rattle.timing.specs.Counts.{mostPeriods}
 use Rattle.bus_rules.specs.Bus.{Bus, freshBus}
+use Rattle.bus_rules.specs.Event.{among, bookRefusals}
 use Rattle.bus_rules.specs.Calls.{Call, reply, after, afterAll}
 use Rattle.bus_rules.specs.Calls.Call.{period}
 use Rattle.bus_rules.specs.Stretch.{Stretch}
@@ -21,7 +23,7 @@ RunsToLine = (b : Bus) (at : ℕ) → b .periods ≤ at → at ≤ mostPeriods �
 -- and 2 are for a record out of its range and for what is lent, and a hit of right form has 48
 -- letters.
 abbrev pub InBook : ℕ → Type 0
-InBook n = (n ≡ 0 → ⊥) → (3 ≤ n) × (n ≤ 8)
+InBook n = among n (0 ∷ bookRefusals) ≡ true
 
 unfoldable pub AllInBook : Bus → List Call → Type 0
 AllInBook b [] = Unit
