@@ -1,13 +1,13 @@
 -- An event on the record and what is lent with it: the reply and the notes of document 01's rules, and what it leaves stands for the bus
 -- after it.
 use mathlib.Core.Path.{_≡_, refl, sym, ap, _∙_}
-use mathlib.Core.Bool.{Bool, true, false, cond, not, _&&_, _||_}
+use mathlib.Core.Bool.{Bool, true, false, not, _&&_}
 use mathlib.Core.List.{List, []}
 use Prim.Native.Nat.{ℕ, _-_, _<_}
 use native.Mathlib.Omega.{arith}
 use lib.Dec.{eqb, ltb}
 use lib.ListN.{length, getD, set}
-use borrow.Author.Tests.{eqb-true, eqb-false, eq-eqb, ltb-false}
+use borrow.Author.Tests.{eqb-true, eqb-false, ltb-false}
 use Rattle.test_lemmas.proofs.ByCases.{by-test, clash}
 use Rattle.notes_and_cells.specs.Notes.{packedNotes, noted}
 use Rattle.hdlc.specs.Image.{image}
@@ -25,7 +25,7 @@ use Rattle.bus_rules.proofs.Barred as barred
 use Rattle.bus_rules.proofs.Refusals.{first-append}
 use Rattle.bus_rules.proofs.Simulation.{Takes, accepted-frame}
 use Rattle.bus_rules.proofs.Ranges.{classGiven}
-use Rattle.bus_event.specs.Event.{imagesRoom, areLetters, firstReason, networkAsked, networkTold, imagePut, frameReason, turnedDown, frameGiven}
+use Rattle.bus_event.specs.Event.{areLetters, networkAsked, networkTold, imagePut, frameReason, turnedDown, frameGiven}
 use Rattle.bus_event.specs.Event as parts
 use Rattle.bus_event.specs.declared.event.Told.{Told}
 use Rattle.bus_call_specs.specs.Kept.{Kept, kept}

@@ -11,7 +11,7 @@ use Rattle.test_lemmas.proofs.ByCases.{by-test, both, clash}
 use Rattle.symbols.specs.Symbols.{lineLength, fits}
 use Rattle.notes_and_cells.specs.declared.cell.Cell.{Cell}
 use Rattle.notes_and_cells.specs.declared.cell.Cell.the-variants.{To, Stay, Impossible, Absent}
-use Rattle.table_6_3.specs.Table63.{table63, G3}
+use Rattle.table_6_3.specs.Table63.{G3}
 use Rattle.table_6_3.specs.Table63 as Table63
 use Rattle.timing.specs.Calls.{atPeriod}
 use Rattle.hdlc.specs.Reading.{Reading, cleared}
@@ -35,7 +35,7 @@ use Rattle.terminal.proofs.Laws.{AccessByState, switches-on-access, switches-of
 use Rattle.bus_rules.specs.Bus.{Station, Hit, Bus, terminals, freshStation, stationAt, withNetwork, withHit}
 use Rattle.bus_rules.specs.Period.{readingAfter, stepped}
 use Rattle.bus_rules.specs.Event.{stationOf, classOf, eventFor, firstHolding, networkDoes, networkDone, hitGiven, terminalDoes, withFrame, stationAfter, stationDone}
-use Rattle.notes_and_cells.specs.Events.{ON, OFF, AR, DR, D1, D2}
+use Rattle.notes_and_cells.specs.Events.{ON, OFF, AR, D1, D2}
 use Rattle.bus_rules.proofs.Barred as barred
 use Rattle.bus_rules.proofs.Simulation.{Takes}
 use Rattle.bus_rules.proofs.Ranges.{network-does-called, terminal-does-called, hand-over-called, classGiven, class-given}

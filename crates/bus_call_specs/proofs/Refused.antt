@@ -1,6 +1,6 @@
 -- A call that is turned down hands back its number alone and leaves everything as it was.
 use mathlib.Core.Path.{_≡_, refl, _∙_}
-use mathlib.Core.Bool.{Bool, true, false, cond, not, _&&_, _||_}
+use mathlib.Core.Bool.{Bool, true, false, cond, _&&_}
 use mathlib.Core.List.{List, [], _∷_}
 use Prim.Native.Nat.{ℕ, zero, suc, _-_, _<_}
 use native.Mathlib.Omega.{arith}
@@ -41,7 +41,7 @@ use Rattle.bus_record.specs.Record.{recordInRange}
 use Rattle.bus_record.specs.NetworkSide.{refusedRun}
 use Rattle.bus_record.specs.declared.record.BusRecord.{BusRecord}
 use Rattle.bus_record.specs.declared.side.RunAnswer.{RunAnswer}
-use Rattle.bus_event.specs.Event.{imagesRoom, areLetters, firstReason, asked, networkAsked, networkTold, frameReason, turnedDown, frameGiven, terminalTold}
+use Rattle.bus_event.specs.Event.{firstReason, asked, networkAsked, networkTold, frameReason, turnedDown, frameGiven, terminalTold}
 use Rattle.bus_event.specs.Event as parts
 use Rattle.bus_call_specs.specs.Kept.{Kept}
 use Rattle.bus_call_specs.specs.Period.{periodAnswer, keptRun}

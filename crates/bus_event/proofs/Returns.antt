@@ -6,7 +6,7 @@ use Prim.Native.Nat.{ℕ, _*_, _≤_, _<_}
 use native.Mathlib.Omega.{arith}
 use lib.Dec.{eqb, ltb, leb}
 use lib.ListN.{length, take, drop}
-use borrow.Author.Tests.{eq-eqb, ne-eqb, le-ltb, le-leb, eqb-true, eqb-false, ltb-true, ltb-false, leb-true, lt-ltb, not-true, not-false}
+use borrow.Author.Tests.{eq-eqb, ne-eqb, le-ltb, le-leb, eqb-true, eqb-false, ltb-true, ltb-false, leb-true, lt-ltb, not-false}
 use Rattle.test_lemmas.proofs.ByCases.{by-test, and-left, and-right, neither}
 use Rattle.hdlc.specs.Image.{image, longestBody}
 use Rattle.packing.specs.Packing.{imageRoom, isBodyLength, imaged, imagedOctets}

@@ -118,7 +118,8 @@ terminalTold event images i value period t =
 unfoldable pub imagesAfter : ℕ → Terminal → ℕ → List ℕ → List ℕ → List ℕ
 imagesAfter event t i value images = cond (eqb event D1 || eqb event D2) (imagesWith t i value images) images
 
--- What the call gives where terminal `unit` has answered an event so: the record, the notes and the
--- reply. Every event of a terminal ends here, with all that is known of it; none changes the record.
+-- What the call gives where terminal `unit` has answered an event with this step: the record, the
+-- notes and the reply. Every event of a terminal ends here, with all that is known of it; no event
+-- of document 01 changes the record, or asks for more than the step.
 unfoldable pub eventSettled : BusRecord → ℕ → ℕ → List ℕ → TerminalStep → Told
 eventSettled r unit event value step = told r (step .notes) (step .reply)

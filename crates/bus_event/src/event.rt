@@ -178,7 +178,8 @@ pub fn terminal_event(
 }
 
 // Gives what the call gives where terminal `unit` has answered an event with this step: the record,
-// the notes and the reply. Every event of a terminal ends here; none changes the record.
+// the notes and the reply. Every event of a terminal ends here, with all that is known of it; no
+// event of document 01 changes the record, or asks for more than the step.
 pub fn event_settled(bus: BusRecord, unit: u32, event: u8, value: &[u8], step: TerminalStep) -> Told
     ensures { λ r. ⌜ r ≡ spec.eventSettled bus unit event (now (value .entry)) step ⌝ }
 {

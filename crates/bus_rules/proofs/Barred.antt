@@ -2,7 +2,7 @@
 use mathlib.Core.Path.{_≡_, refl, sym, _∙_}
 use mathlib.Core.Bool.{true, false, cond, not, _&&_, _||_}
 use mathlib.Core.List.{List, [], _∷_}
-use Prim.Native.Nat.{ℕ, _-_}
+use Prim.Native.Nat.{ℕ}
 use lib.Dec.{eqb, ltb}
 use lib.ListN.{length}
 use borrow.Author.Tests.{eqb-true, not-false}
@@ -29,7 +29,7 @@ use Rattle.terminal.specs.Calls as terminalCalls
 use Rattle.terminal.specs.declared.Terminal.{Terminal}
 use Rattle.terminal.proofs.Laws.{handed-over-called}
 use Rattle.bus_rules.specs.Bus.{Bus, terminals}
-use Rattle.notes_and_cells.specs.Events.{ON, OFF, AR, DR, D1, D2, HIT}
+use Rattle.notes_and_cells.specs.Events.{ON, OFF, AR, DR, HIT}
 use Rattle.bus_rules.specs.Event.{among, networkEvents, terminalEvents, stationOf, classOf, eventFor, barsNetwork, barsTerminal, bars, callReasons, stateReasons, reasons, firstHolding, refusal, networkDoes, terminalDoes}
 use Rattle.bus_rules.proofs.Refusals.{numbersOf, holds, none-holds, first-append}
 

@@ -1,6 +1,6 @@
 -- Rules: lists of calls on a bus (document 01, "Lists and stretches").
--- Interface: `Call`, `reply`, `busRefusals`, `after`, `notes`, `afterAll`, `notesOfAll`, `runReply`, `runNotes`,
--- `runLeaves`. Assumes nothing.
+-- Interface: `Call`, `reply`, `busRefusals`, `after`, `notes`, `afterAll`, `notesOfAll`, `runReply`,
+-- `runNotes`, `runLeaves`. Assumes nothing.
 use mathlib.Core.Bool.{Bool, cond, _&&_}
 use mathlib.Core.List.{List, [], _∷_, _++_}
 use Prim.Native.Nat.{ℕ, zero, suc}
@@ -31,8 +31,8 @@ unfoldable pub tells : Bus → Call → List Note
 tells b (event unit number value) = eventNotes unit number value b
 tells b period = periodNotes b
 
--- Every number that can come back but 0: beside an event's and a period's 1, for a record out of its
--- range, which no bus here is, and 2, for what is lent, as well.
+-- Every number with which a call on a bus can be turned down: an event's, 9 for a period, and 1 and 2
+-- for a record out of its range and for what is lent, which these rules do not speak of.
 abbrev pub busRefusals : List ℕ
 busRefusals = 1 ∷ 2 ∷ bookRefusals ++ (9 ∷ [])
 

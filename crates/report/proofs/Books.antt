@@ -6,7 +6,7 @@ use mathlib.Core.List.{List, [], _∷_, _++_, map}
 use Prim.Native.Nat.{ℕ, zero, suc, _+_, _-_, _≤_, _<_}
 use native.Mathlib.Omega.{arith}
 use lib.Dec.{eqb, leb}
-use lib.ListN.{length, getD, take, drop, replicate}
+use lib.ListN.{length, take, drop, replicate}
 use borrow.Author.Tests.{eqb-true, leb-true}
 use Rattle.test_lemmas.proofs.ByCases.{by-test, clash, and-left, and-right}
 use Rattle.symbols.specs.Symbols.{lineLength, fits}
@@ -21,7 +21,7 @@ use Rattle.book_line.proofs.Judging.{formed-parts}
 use Rattle.book_line.proofs.Values.{value-octets, hit-fits}
 use Rattle.book_reader.specs.Book.{Answer, firstLine, nothing, closing, lines, answersFrom, answers}
 use Rattle.book_reader.specs.Book.Answer.{entry, fault}
-use Rattle.bus_rules.specs.Event.{among, bookRefusals, callReasons, stateReasons, reasons, firstHolding, refusal}
+use Rattle.bus_rules.specs.Event.{callReasons, stateReasons, reasons, firstHolding, refusal}
 use Rattle.bus_rules.specs.Bus.{Bus, freshBus}
 use Rattle.bus_rules.specs.Calls.{Call, reply, after, afterAll}
 use Rattle.bus_rules.specs.Calls.Call.{event, period}
