@@ -49,8 +49,8 @@ use Rattle.bus_rules.specs.Period.{readingAfter, networkHears, terminalH
 use Rattle.bus_rules.specs.Period.{timed, periodRun, periodNotes}
 use Rattle.bus_rules.specs.TwoParts.{notesHeard, notesTimed}
 use Rattle.bus_rules.specs.Event.{classOf, eventFor, barsNetwork, barsTerminal, bars, callReasons, stateReasons, reasons}
-use Rattle.bus_rules.specs.Event.{firstHolding, refusal, networkDoes, networkDone, hitGiven, terminalDoes, withFrame, stationAfter, stationDone}
-use Rattle.bus_rules.specs.Event.{eventDone, eventNotes}
+use Rattle.bus_rules.specs.Event.{firstHolding, refusal, networkDoes, networkDone, hitGiven, terminalDoes, withFrame}
+use Rattle.bus_rules.specs.Event.{stationAfter, stationDone, eventDone, eventNotes}
 use Rattle.bus_rules.specs.Calls.{Call, reply, does, tells, after, notes, afterAll, notesOfAll, runGoesOn, runCalls, runReply}
 use Rattle.bus_rules.specs.Calls.{runNotes, runLeaves}
 use Rattle.notes_and_cells.specs.Events.{ON, OFF, AR, DR, D1, D2, HIT}
