@@ -1,4 +1,4 @@
--- Demand 3 of the bus, from demand 3 of the D channel.
+-- Demand 3 of the bus, from any sound one on, from demand 3 of the D channel.
 use mathlib.Core.Path.{_≡_, refl, sym, ap, _∙_}
 use mathlib.Core.Bool.{Bool, true}
 use mathlib.Core.List.{List, [], _∷_, _++_, map, append-assoc}
@@ -10,7 +10,6 @@ use lib.ListN.{length, getD, length-map, List·getD-map}
 use borrow.Author.Tests.{eqb-true, eqb-false, eq-eqb, ne-eqb, ltb-true, ltb-false}
 use Rattle.test_lemmas.proofs.ByCases.{by-test}
 use Rattle.table_6_2.specs.Table62.{F1, F7}
-use Rattle.hdlc.specs.Image.{image}
 use Rattle.hdlc.specs.Reading.{Said}
 use Rattle.hdlc.specs.Reading.Said.{nothing, torn, heard}
 use Rattle.hdlc.proofs.ImageLaws.{length-image}
@@ -20,7 +19,7 @@ use Rattle.contention.specs.Channel.{Channel, Action, freshChannel, accessStepA
 use Rattle.contention.specs.Stretch as channel
 use Rattle.contention.specs.Claims as channelClaims
 use Rattle.contention.proofs.Crossing.{contender-map}
-use Rattle.contention.proofs.Demand3.{demand3-from}
+use Rattle.contention.proofs.Demand3 as channel-demand3
 use Rattle.contention.proofs.Trace.{invariant-at}
 use Rattle.contention.proofs.HeardSteps.{completes-whole}
 use Rattle.contention.proofs.OpeningFlag as flag
@@ -30,10 +29,13 @@ use Rattle.bus_rules.specs.Calls.{Call, reply, after, notes, afterAll, n
 use Rattle.bus_rules.specs.Calls.Call.{event, period}
 use Rattle.bus_rules.specs.Stretch.{Stretch, opportunitiesOfCall, opportunitiesIn, stationThen, Waits, Completes, Begins, bodyIn, bodyHeard, firstDone, bodyCompleted, buses, powered, poweredFrom, poweredIn, longestOf, longestIn}
 use Rattle.bus_rules.specs.Claims.{nowhere, at, opps, NoRivalTwice, WaitEnds, NoStopInFlag, BegunSince, HeardWhole, HeardInOrder, BegunHeard, heardFrom, completedFrom, HeardAsCompleted, PartOfList, Demand3}
+use Rattle.bus_rules.specs.BusChannel.{contenderOf, contendersOf, channelOf}
+use Rattle.bus_rules.specs.Sound as sound
+use Rattle.bus_rules.specs.Sound.{Sound}
 use Rattle.bus_rules.proofs.Stations.{Each, each-begins, each-onward, length-ran}
-use Rattle.bus_rules.proofs.Mapping.{contenderOf, contendersOf, channelOf, channelAt, turn-is}
+use Rattle.bus_rules.proofs.Mapping.{channelAt, turn-is}
 use Rattle.bus_rules.proofs.Simulation.{chain, four-in-chain, allActions, calls-channel}
-use Rattle.bus_rules.proofs.Always.{always-imaged, always-invariant}
+use Rattle.bus_rules.proofs.Sound.{sound-fresh, sound-after}
 use Rattle.bus_rules.proofs.Stretches.{Faithful, Every, empty, also, every-append, faithful, calls-stretch, calls-opportunities}
 use Rattle.bus_rules.proofs.Telling.{all-tell}
 
@@ -166,11 +168,11 @@ notes-append b [] ys = refl
 notes-append b (c ∷ more) ys =
     rw (notes-append (after b c) more ys) (sym (append-assoc (notes b c) (notesOfAll (after b c) more) (notesOfAll (afterAll (after b c) more) ys)))
 
-part-of-list : (before during later : List Call) → PartOfList before during later
-part-of-list before during later =
+part-of-list : (b : Bus) (before during later : List Call) → PartOfList b before during later
+part-of-list b before during later =
     record {
-      in-opportunities = rw (opportunities-append freshBus before (during ++ later), opportunities-append (afterAll freshBus before) during later);
-      in-notes = rw (notes-append freshBus before (during ++ later), notes-append (afterAll freshBus before) during later);
+      in-opportunities = rw (opportunities-append b before (during ++ later), opportunities-append (afterAll b before) during later);
+      in-notes = rw (notes-append b before (during ++ later), notes-append (afterAll b before) during later);
     }
 
 -- ---- the body completed at an opportunity: none where nobody completes a frame; where all that complete one have one body, that body
@@ -200,13 +202,10 @@ nowhere-channel : channelAt nowhere ≡ freshChannel 0
 unfolding channelAt freshChannel
 nowhere-channel = refl
 
-module _ (before during : List Call) (stretch : Stretch (afterAll freshBus before) during) where
-  -- the bus where the stretch begins, and the stretch's D opportunities
-  abbrev b : Bus
-  b = afterAll freshBus before
-
+module _ (b : Bus) (during : List Call) (start : Sound b) (stretch : Stretch b during) where
+  -- the stretch's D opportunities
   abbrev here : List Opportunity
-  here = opps before during
+  here = opps b during
 
   abbrev then : ℕ → Opportunity
   then t = at here t
@@ -225,13 +224,13 @@ module _ (before during : List Call) (stretch : Stretch (afterAll freshBus befor
   thenThere t = channelClaims.at there t
 
   stretch-there : channel.Stretch normal1 normal2 c actions
-  stretch-there = calls-stretch b during (always-imaged before) stretch
+  stretch-there = calls-stretch b during (start .imaged) stretch
 
   parts : channelClaims.ThreeParts normal1 normal2 c actions
-  parts = demand3-from normal1 normal2 c actions (omega arith) (omega arith) (always-invariant before) stretch-there
+  parts = channel-demand3.demand3-from normal1 normal2 c actions (omega arith) (omega arith) (start .channel) stretch-there
 
   same-opps : there ≡ map channelAt here
-  same-opps = calls-opportunities b during (always-imaged before)
+  same-opps = calls-opportunities b during (start .imaged)
 
   same-at : (t : ℕ) → thenThere t ≡ channelAt (then t)
   same-at t = rw (same-opps, ← nowhere-channel) (List·getD-map channelAt here t nowhere)
@@ -240,7 +239,7 @@ module _ (before during : List Call) (stretch : Stretch (afterAll freshBus befor
   same-length = rw same-opps (length-map here channelAt)
 
   true-at : (t : ℕ) → t < length here → Faithful (then t)
-  true-at t h = every-at (faithful b during (always-imaged before) stretch) t h
+  true-at t h = every-at (faithful b during (start .imaged) stretch) t h
 
   -- the words at opportunity t
   waits-at : (k i t : ℕ) → Waits k i (then t) → channel.Waits k i (thenThere t)
@@ -264,7 +263,7 @@ module _ (before during : List Call) (stretch : Stretch (afterAll freshBus befor
   said-at : (t : ℕ) → t < length here → saidTo (then t) ≡ channel.saidAt normal1 normal2 (thenThere t)
   said-at t h = rw (same-at t) (said-then (then t) (true-at t h))
 
-  no-rival-twice : NoRivalTwice before during
+  no-rival-twice : NoRivalTwice b during
   no-rival-twice i j k p q other some later last cp cq waits not-done =
       parts .no-rival-twice i j k p q other some later (rw same-length last) (completes-at k j p (omega arith) cp) (completes-at k j q last cq)
       (λ t x y. waits-at k i t (waits t x y)) (λ t x y d. not-done t x y (completes-from k i t (omega arith) d))
@@ -284,9 +283,9 @@ module _ (before during : List Call) (stretch : Stretch (afterAll freshBus befor
   active-at-end : channel.activeCount (run normal1 normal2 c actions .contenders) ≤ n
   unfolding channelOf
   active-at-end =
-      rw (← calls-channel b during (always-imaged before)) (active-powered b during (length-ran freshBus before))
+      rw (← calls-channel b during (start .imaged)) (active-powered b during (start .in-range .eight))
 
-  wait-ends : WaitEnds before during
+  wait-ends : WaitEnds b during
   wait-ends i p waits long =
       let w = parts .wait-ends n L i p active-at-end images-at-most (waits-at 1 i p waits) (rw same-length long) in
       record {
@@ -298,7 +297,7 @@ module _ (before during : List Call) (stretch : Stretch (afterAll freshBus befor
         same-body = sym (body-at i (w .when)) ∙ (w .same-body ∙ body-at i p);
       }
 
-  begun-since : (p j u : ℕ) → u < length here → channelClaims.BegunSince normal1 normal2 c actions p j u → BegunSince before during p j u
+  begun-since : (p j u : ℕ) → u < length here → channelClaims.BegunSince normal1 normal2 c actions p j u → BegunSince b during p j u
   begun-since p j u h r =
       record {
         when = r .when;
@@ -308,7 +307,7 @@ module _ (before during : List Call) (stretch : Stretch (afterAll freshBus befor
         bits-since = rw (body-at j u) at (r .bits-since);
       }
 
-  heard-in-order : HeardInOrder before during
+  heard-in-order : HeardInOrder b during
   heard-in-order j p t begins late inside =
       let h = parts .heard-in-order j p t (begins-at j p (omega arith) begins) (omega arith) (rw same-length inside) in
       record {
@@ -324,21 +323,21 @@ module _ (before during : List Call) (stretch : Stretch (afterAll freshBus befor
   sent-then : (j t : ℕ) → channel.contender j (thenThere t) .access .sent ≡ stationThen j (then t) .terminal .access .sent
   sent-then j t = rw (same-at t, contender-then j (then t))
 
-  no-stop-in-flag : NoStopInFlag before during
+  no-stop-in-flag : NoStopInFlag b during
   no-stop-in-flag j p s begins few inside =
       sym (sent-then j (p + s))
-      ∙ flag.no-stop-in-flag normal1 normal2 c actions (omega arith) (omega arith) (always-invariant before) stretch-there j p s
+      ∙ flag.no-stop-in-flag normal1 normal2 c actions (omega arith) (omega arith) (start .channel) stretch-there j p s
       (begins-at j p (omega arith) begins) few (rw same-length inside)
 
   -- ---- in demand 3's words
   sent-whole : (j k u : ℕ) → 1 ≤ k → u < length here → Completes k j (then u) → 16 ≤ stationThen j (then u) .terminal .access .sent
   sent-whole j k u some inside completed =
       let there-too : u < length there = rw same-length inside in
-      let inv = invariant-at normal1 normal2 c actions (omega arith) (omega arith) (always-invariant before) stretch-there u there-too in
+      let inv = invariant-at normal1 normal2 c actions (omega arith) (omega arith) (start .channel) stretch-there u there-too in
       let whole = completes-whole inv j k some (completes-at k j u inside completed) in
       rw (← sent-then j u) (omega (arith, whole .all, length-image (channel.contender j (thenThere u) .body)))
 
-  begun-heard : BegunHeard before during
+  begun-heard : BegunHeard b during
   begun-heard j k p t some order inside begins completed =
       let whole = sent-whole j k (t + 1) some inside completed in
       let from-p : p + (t + 1 - p) ≡ t + 1 = omega arith in
@@ -348,7 +347,7 @@ module _ (before during : List Call) (stretch : Stretch (afterAll freshBus befor
       let few : t + 1 - p ≤ 9 = omega (arith, ltb-false (p + 7) t e) in
       absurd (omega (arith, whole, few, rw from-p at (no-stop-in-flag j p (t + 1 - p) begins few (rw from-p inside)))))
 
-  heard-completed-at : (p t : ℕ) → HeardWhole before during p t → bodyHeard (then t) ≡ bodyCompleted (then (t + 1))
+  heard-completed-at : (p t : ℕ) → HeardWhole b during p t → bodyHeard (then t) ≡ bodyCompleted (then (t + 1))
   unfolding bodyHeard bodyCompleted stationThen
   heard-completed-at p t h = go (saidTo (then t)) refl
     where
@@ -380,7 +379,7 @@ module _ (before during : List Call) (stretch : Stretch (afterAll freshBus befor
           (r .0) (r .3 .in-F7) (omega (arith, r .3 .done, r .2)))
 
   heard-as-completed-from : (j p n t : ℕ) → Begins j (then p) → p + 7 < t → t + n < length here →
-      heardFrom before during t n ≡ completedFrom before during (t + 1) n
+      heardFrom b during t n ≡ completedFrom b during (t + 1) n
   unfolding heardFrom completedFrom
   heard-as-completed-from j p zero t begins late inside = refl
   heard-as-completed-from j p (suc n) t begins late inside =
@@ -389,22 +388,32 @@ module _ (before during : List Call) (stretch : Stretch (afterAll freshBus befor
         heard-as-completed-from j p n (t + 1) begins (omega arith) (omega arith),
       )
 
-  heard-as-completed : HeardAsCompleted before during
+  heard-as-completed : HeardAsCompleted b during
   heard-as-completed j p n begins inside =
       rw (shift p) (heard-as-completed-from j p n (p + 8) begins (omega arith) inside)
     where
       shift : (a : ℕ) → a + 9 ≡ a + 8 + 1
       shift a = omega arith
 
-pub demand3 : Demand3
-demand3 before during later stretch =
+pub demand3-from : sound.Demand3From
+demand3-from b during start stretch =
     record {
-      part-of-list = part-of-list before during later;
-      told = all-tell (afterAll freshBus before) during;
-      no-rival-twice = no-rival-twice before during stretch;
-      wait-ends = wait-ends before during stretch;
-      heard-in-order = heard-in-order before during stretch;
-      begun-heard = begun-heard before during stretch;
-      heard-as-completed = heard-as-completed before during stretch;
-      no-stop-in-flag = no-stop-in-flag before during stretch;
+      told = all-tell b during;
+      no-rival-twice = no-rival-twice b during start stretch;
+      wait-ends = wait-ends b during start stretch;
+      heard-in-order = heard-in-order b during start stretch;
+      begun-heard = begun-heard b during start stretch;
+      heard-as-completed = heard-as-completed b during start stretch;
+      no-stop-in-flag = no-stop-in-flag b during start stretch;
     }
+
+-- ---- of lists, and so from the fresh bus
+pub demand3-of-lists : sound.Demand3OfLists
+demand3-of-lists b start before during later stretch =
+    record {
+      part-of-list = part-of-list b before during later;
+      of-stretch = demand3-from (afterAll b before) during (sound-after b before start) stretch;
+    }
+
+pub demand3 : Demand3
+demand3 = demand3-of-lists freshBus sound-fresh

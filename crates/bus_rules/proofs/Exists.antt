@@ -23,7 +23,7 @@ use Rattle.heard_line.specs.Sensing.{shownUp, shownDown}
 use Rattle.network.specs.Network as network
 use Rattle.network.specs.declared.Network.{Network}
 use Rattle.terminal.specs.Terminal as terminal
-use Rattle.bus_rules.specs.Bus.{Station, Hit, Bus, freshStation, freshBus, stationAt}
+use Rattle.bus_rules.specs.Bus.{Station, Hit, Bus, freshStation, freshBus, stationAt, withCounts}
 use Rattle.bus_rules.specs.Bus.Hit.{none, given}
 use Rattle.bus_rules.specs.Exchange.{Opportunity, accessStepOf, eComes, saidTo, stationsOf, anySends, anyInfo1, anyInfo3, stationAfterE, onward, begins, opportunitiesOf, exchanged, wholeDown, wholeUp, lineDown, inF7}
 use Rattle.bus_rules.specs.Period.{networkHears, terminalHears, stepped, heardBy, timed, periodRun}
@@ -33,11 +33,13 @@ use Rattle.bus_rules.specs.Stretch.{stationThen, Undisturbed, Stretch, o
 use Rattle.bus_rules.specs.Claims.{at, opps, waitBound}
 use Rattle.bus_rules.specs.Quick.{shownBy, shownFrom}
 use Rattle.bus_rules.specs.Scenes as scenes
-use Rattle.bus_rules.specs.Scenes.{handedBack, activated, beforeWait, duringWait, duringBusy}
+use Rattle.bus_rules.specs.Scenes.{handedBack, activating, activated, beforeWait, waitStart, duringWait, duringBusy}
 use Rattle.bus_rules.specs.Exists as exists
 use Rattle.bus_rules.proofs.Quick.{up-shown, down-shown}
 use Rattle.bus_rules.proofs.Stations.{Each, station-heard, station-timed, each-exchanged}
 use Rattle.bus_rules.proofs.Stretches.{state-exchanged}
+use Rattle.bus_rules.proofs.Ranges.{opportunities-counted}
+use Rattle.bus_rules.proofs.Sound.{sound-fresh, sound-after, sound-counted}
 use Rattle.bus_rules.proofs.Demand3.{demand3}
 
 -- ---- the conditions of a stretch, each by those that document 01 has for it
@@ -188,6 +190,27 @@ activated-steady = record { in-G3 = refl; aligned = refl; no-hit = refl; rest = 
 pub stretches-exist : exists.StretchesExist
 stretches-exist n = steady-stretch n activated activated-steady
 
+-- .. and so does it with one D opportunity counted, where no list from the fresh bus leads: those count by fours
+other-steady : Steady (withCounts (activated .periods) 1 activated)
+other-steady =
+    let s = activated-steady in
+    record { in-G3 = s .in-G3; aligned = s .aligned; no-hit = s .no-hit; rest = s .rest; who = s .who; sends = s .sends }
+
+one-is-no-four : (calls : List Call) → afterAll freshBus calls ≡ withCounts (activated .periods) 1 activated → ⊥
+one-is-no-four calls e =
+    let counted = opportunities-counted calls freshBus in
+    let one : afterAll freshBus calls .opportunities ≡ 1 = ap (λ (b : Bus). b .opportunities) e in
+    omega (arith, counted, one)
+
+pub other-start : exists.OtherStart
+unfolding handedBack
+other-start =
+    record {
+      is-sound = sound-counted activated (activated .periods) 1 (omega arith) (omega arith) (sound-after freshBus activating sound-fresh);
+      not-led-to = one-is-no-four;
+      stretches = λ n. steady-stretch n (withCounts (activated .periods) 1 activated) other-steady;
+    }
+
 periods-run : (b : Bus) → periodRun b .periods ≡ b .periods + 1
 unfolding periodRun timed heardBy
 periods-run b = refl
@@ -262,7 +285,7 @@ stretch-is b (c ∷ more) h =
 
 pub worst-stretch : exists.WorstStretch
 unfolding handedBack anySends
-worst-stretch = stretch-is (afterAll freshBus beforeWait) duringWait refl
+worst-stretch = stretch-is waitStart duringWait refl
 
 -- ---- the words as tests
 abbrev waitsNow : ℕ → ℕ → Opportunity → Bool
@@ -382,20 +405,20 @@ record Seen : Type 0 where
 abbrev seen : List Opportunity → Seen
 seen ms = record { tests = every (waitTests ms); said = saidTo (at ms 126); completed = bodyCompleted (at ms 127) }
 
-worst-seen : seen (opps beforeWait duringWait) ≡ record { tests = true; said = heard (1 ∷ []); completed = (1 ∷ []) ∷ [] }
+worst-seen : seen (opps waitStart duringWait) ≡ record { tests = true; said = heard (1 ∷ []); completed = (1 ∷ []) ∷ [] }
 unfolding handedBack anySends bodyCompleted firstDone
 worst-seen = refl
 
 pub worst-wait : exists.WorstWait
 worst-wait =
-    waits-to-the-last (opps beforeWait duringWait) (ap (λ (s : Seen). s .tests) worst-seen) (ap (λ (s : Seen). s .said) worst-seen)
+    waits-to-the-last (opps waitStart duringWait) (ap (λ (s : Seen). s .tests) worst-seen) (ap (λ (s : Seen). s .said) worst-seen)
     (ap (λ (s : Seen). s .completed) worst-seen)
 
 -- what demand 3 says there
 pub said-of-worst-wait : exists.SaidOfWorstWait
 said-of-worst-wait =
-    let claimed = demand3 beforeWait duringWait [] worst-stretch in
-    let bound : waitBound beforeWait duringWait ≡ 128 = scenes.worst-wait .0 in
+    let claimed = demand3 beforeWait duringWait [] worst-stretch .of-stretch in
+    let bound : waitBound waitStart duringWait ≡ 128 = scenes.worst-wait .0 in
     let long = worst-wait .lasts in
     record {
       in-time = claimed .wait-ends 0 0 (worst-wait .waits) (rw bound (omega (arith, long)));

@@ -1,4 +1,4 @@
--- The bus as the D channel of crate `contention` sees it, and one D opportunity of its exchange.
+-- The bus as the D channel of crate `contention` has it (specs/BusChannel.antt): one D opportunity of its exchange.
 use mathlib.Core.Path.{_≡_, refl, _∙_}
 use mathlib.Core.Bool.{Bool, false}
 use mathlib.Core.List.{List, [], _∷_, map}
@@ -9,35 +9,19 @@ use Rattle.test_lemmas.proofs.ByCases.{by-test, and-right-false}
 use Rattle.test_lemmas.proofs.Operators.{and-cond}
 use Rattle.notes_and_cells.specs.Cells.{infoIn}
 use Rattle.table_6_3.specs.Table63.{G3}
-use Rattle.hdlc.specs.Image.{image}
 use Rattle.dchannel.specs.Access.{normal1, normal2}
-use Rattle.contention.specs.Channel.{Contender, Channel, Action, nextBit, accessStepAt, contenderAfterE, sendsD, togetherD, step}
+use Rattle.contention.specs.Channel.{Channel, Action, nextBit, accessStepAt, contenderAfterE, sendsD, togetherD, step}
 use Rattle.contention.specs.Channel.Action.{opportunity}
-use Rattle.bus_rules.specs.Bus.{Station, Hit, Bus}
+use Rattle.bus_rules.specs.Bus.{Station, Hit}
 use Rattle.bus_rules.specs.Exchange.{Opportunity, inF7, inG3, stationsOf, anyInfo1, accessStepOf, stationAfterE, dOf, eComes, sendersAfter, dComes, onward}
+use Rattle.bus_rules.specs.BusChannel.{contenderOf, contendersOf, Imaged, AllImaged}
 use Rattle.bus_rules.specs.Quick.{InStep, sentE, struckAt, allD}
 use Rattle.bus_rules.proofs.Quick.{quick-e, quick-d}
-use Rattle.bus_rules.proofs.Stations.{Each, stations-hear}
+use Rattle.bus_rules.proofs.Stations.{stations-hear}
 
-abbrev pub contenderOf : Station → Contender
-contenderOf s = record { active = inF7 s; access = s .terminal .access; body = s .body }
-
-abbrev pub contendersOf : List Station → List Contender
-contendersOf ss = map contenderOf ss
-
--- the channel as a call finds it, and as an E comes
-unfoldable pub channelOf : Bus → Channel
-channelOf b = record { contenders = contendersOf (b .stations); heardD = b .heardD; reading = b .reading }
-
+-- the channel as an E comes
 unfoldable pub channelAt : Opportunity → Channel
 channelAt m = record { contenders = contendersOf (stationsOf (m .senders)); heardD = m .heardD; reading = m .reading }
-
--- The bits that a terminal sends are those of its body's image. The channel has only the body.
-abbrev pub Imaged : Station → Type 0
-Imaged s = s .image ≡ image (s .body)
-
-abbrev pub AllImaged : List Station → Type 0
-AllImaged ss = Each Imaged ss
 
 -- ---- an opportunity of the exchange is one of the channel, whatever is on the line
 pub turn-is : (e : Bool) (s : Station) → Imaged s → accessStepOf e s ≡ accessStepAt normal1 normal2 e (contenderOf s)

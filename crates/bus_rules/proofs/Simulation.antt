@@ -33,9 +33,10 @@ use Rattle.bus_rules.specs.Event.{stationOf, classOf, eventFor, bars, gi
 use Rattle.notes_and_cells.specs.Events.{ON, OFF, D1, D2, HIT}
 use Rattle.bus_rules.specs.Calls.{Call, reply, does, after, afterAll}
 use Rattle.bus_rules.specs.Calls.Call.{event, period}
+use Rattle.bus_rules.specs.BusChannel.{contenderOf, contendersOf, channelOf, Imaged, AllImaged}
 use Rattle.bus_rules.proofs.Refusals.{accepted-holds}
 use Rattle.bus_rules.proofs.Stations.{Each, stations-stationed, each-onward, each-begins, each-period, each-event}
-use Rattle.bus_rules.proofs.Mapping.{contenderOf, contendersOf, channelOf, channelAt, Imaged, AllImaged, imaged-turned, actionAt, channel-onward}
+use Rattle.bus_rules.proofs.Mapping.{channelAt, imaged-turned, actionAt, channel-onward}
 
 -- ---- a step of a terminal is an entry into F7, a leave of it, or nothing to the channel
 module _ (f : Terminal → TerminalStep) (by-state : (t : Terminal) → AccessByState f t) where

@@ -27,10 +27,11 @@ use Rattle.notes_and_cells.specs.Events.{HIT}
 use Rattle.bus_rules.specs.Calls.{Call, reply, does, after}
 use Rattle.bus_rules.specs.Calls.Call.{event, period}
 use Rattle.bus_rules.specs.Stretch.{stationThen, Undisturbed, Stays, Calm, Stretch, opportunitiesOfCall, opportunitiesIn}
+use Rattle.bus_rules.specs.BusChannel.{contenderOf, contendersOf, channelOf, AllImaged}
 use Rattle.bus_rules.specs.Quick.{InStep}
 use Rattle.bus_rules.proofs.Quick.{state-turned, info1-hears, one-more, in-step-stationed, in-step-hears}
 use Rattle.bus_rules.proofs.Stations.{stations-stationed, station-begins, station-onward, station-heard, station-timed}
-use Rattle.bus_rules.proofs.Mapping.{contenderOf, contendersOf, channelOf, channelAt, AllImaged, actionAt, channel-onward, e-quiet, d-quiet}
+use Rattle.bus_rules.proofs.Mapping.{channelAt, actionAt, channel-onward, e-quiet, d-quiet}
 use Rattle.bus_rules.proofs.Simulation.{hearingActions, chain, past, four-in-chain, four-past, eventActions, periodActions, actionsOf, allActions, channel-begins, imaged-begins, imaged-onward, imaged-after, call-channel}
 
 -- ---- the exchange in a stretch, as the E after k others comes

@@ -1,8 +1,9 @@
 -- Rules: demand 3: one claim about every list of calls from the fresh bus and every stretch of it.
 -- Opportunity t is the one at place t, from 0, of the stretch's D opportunities; terminal i is unit
 -- i + 1. Sentences in quotation marks are document 01's, or demand 3's, which docs/STATEMENTS.md
--- has in full.
--- Interface: `Demand3`, `Claimed`. Assumes nothing.
+-- has in full. Each is said of a stretch and the bus where it starts; so the same is claimed of
+-- lists from other buses, too (Sound.antt).
+-- Interface: `Demand3`, `Claimed`, `ClaimedFrom`, `ClaimedOfLists`. Assumes nothing.
 use mathlib.Core.List.{List, [], _++_}
 use mathlib.Core.Path.{_≡_}
 use mathlib.Core.Bool.{true}
@@ -27,12 +28,8 @@ nowhere = record { network = 0; hit = Hit.none; senders = []; es = []; heardD = 
 abbrev pub at : List Opportunity → ℕ → Opportunity
 at ms t = getD ms t nowhere
 
--- A list of calls with a stretch in it, and the stretch's D opportunities.
-module _ (before during : List Call) where
-  -- the bus where the stretch begins
-  abbrev pub start : Bus
-  start = afterAll freshBus before
-
+-- The bus where a stretch starts, the calls in it, and its D opportunities.
+module _ (start : Bus) (during : List Call) where
   abbrev pub opps : List Opportunity
   opps = opportunitiesIn start during
 
@@ -130,31 +127,39 @@ module _ (before during : List Call) where
   abbrev pub HeardAsCompleted : Type 0
   HeardAsCompleted = (j p n : ℕ) → Begins j (at opps p) → p + 8 + n < length opps → heardFrom (p + 8) n ≡ completedFrom (p + 9) n
 
--- "A stretch is any unbroken part of the list": its D opportunities and its notes are a part of the
--- whole list's
-pub record PartOfList (before during after : List Call) : Type 0 where
-  pub in-opportunities : opportunitiesIn freshBus (before ++ (during ++ after))
-      ≡ opportunitiesIn freshBus before
-      ++ (opportunitiesIn (afterAll freshBus before) during ++ opportunitiesIn (afterAll (afterAll freshBus before) during) after)
-  pub in-notes : notesOfAll freshBus (before ++ (during ++ after))
-      ≡ notesOfAll freshBus before
-      ++ (notesOfAll (afterAll freshBus before) during ++ notesOfAll (afterAll (afterAll freshBus before) during) after)
-
--- What is claimed of a stretch `during` of the list `before`, `during`, `after`.
-pub record Claimed (before during after : List Call) : Type 0 where
-  -- it is a part of the list, and its calls hand back the notes that its opportunities have
-  pub part-of-list : PartOfList before during after
-  pub told : AllTell (afterAll freshBus before) during
+-- What is claimed of a stretch `during` from the bus `start`.
+pub record ClaimedFrom (start : Bus) (during : List Call) : Type 0 where
+  -- its calls hand back the notes that its opportunities have
+  pub told : AllTell start during
   -- the three sentences
-  pub no-rival-twice : NoRivalTwice before during
-  pub wait-ends : WaitEnds before during
-  pub heard-in-order : HeardInOrder before during
+  pub no-rival-twice : NoRivalTwice start during
+  pub wait-ends : WaitEnds start during
+  pub heard-in-order : HeardInOrder start during
   -- the third once more, in demand 3's own words
-  pub begun-heard : BegunHeard before during
-  pub heard-as-completed : HeardAsCompleted before during
+  pub begun-heard : BegunHeard start during
+  pub heard-as-completed : HeardAsCompleted start during
   -- it rests on where a flag's last bit leaves
-  pub no-stop-in-flag : NoStopInFlag before during
+  pub no-stop-in-flag : NoStopInFlag start during
 
--- Demand 3.
+-- "A stretch is any unbroken part of the list": its D opportunities and its notes are a part of the
+-- whole list's, from the bus b on
+pub record PartOfList (b : Bus) (before during after : List Call) : Type 0 where
+  pub in-opportunities : opportunitiesIn b (before ++ (during ++ after))
+      ≡ opportunitiesIn b before
+      ++ (opportunitiesIn (afterAll b before) during ++ opportunitiesIn (afterAll (afterAll b before) during) after)
+  pub in-notes : notesOfAll b (before ++ (during ++ after))
+      ≡ notesOfAll b before
+      ++ (notesOfAll (afterAll b before) during ++ notesOfAll (afterAll (afterAll b before) during) after)
+
+-- What is claimed of a stretch `during` of the list `before`, `during`, `after` from the bus b.
+pub record Claimed (b : Bus) (before during after : List Call) : Type 0 where
+  pub part-of-list : PartOfList b before during after
+  pub of-stretch : ClaimedFrom (afterAll b before) during
+
+-- .. and of every list of calls from b and every stretch of it
+abbrev pub ClaimedOfLists : Bus → Type 0
+ClaimedOfLists b = (before during after : List Call) → Stretch (afterAll b before) during → Claimed b before during after
+
+-- Demand 3: "The list starts with a fresh bus".
 abbrev pub Demand3 : Type 0
-Demand3 = (before during after : List Call) → Stretch (afterAll freshBus before) during → Claimed before during after
+Demand3 = ClaimedOfLists freshBus

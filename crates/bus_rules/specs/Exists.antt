@@ -12,13 +12,14 @@ use Rattle.timing.specs.Counts.{mostPeriods}
 use Rattle.table_6_2.specs.Table62.{F7}
 use Rattle.table_6_3.specs.Table63.{G3}
 use Rattle.dchannel.specs.Access.{lowOf}
-use Rattle.bus_rules.specs.Bus.{Hit, Bus, freshBus, stationAt}
+use Rattle.bus_rules.specs.Bus.{Hit, Bus, freshBus, stationAt, withCounts}
 use Rattle.bus_rules.specs.Exchange.{Opportunity, anyInfo1, accessStepOf, eComes, saidTo}
 use Rattle.bus_rules.specs.Calls.{Call, reply, after, afterAll}
 use Rattle.bus_rules.specs.Calls.Call.{event, period}
 use Rattle.bus_rules.specs.Stretch.{Stretch, opportunitiesIn, stationThen, Waits, Completes, Begins, bodyHeard, bodyCompleted}
 use Rattle.bus_rules.specs.Claims.{at, opps, CompletedWithin, waitBound, heardFrom, completedFrom}
-use Rattle.bus_rules.specs.Scenes.{activating, activated, beforeWait, duringWait, duringBusy}
+use Rattle.bus_rules.specs.Sound.{Sound}
+use Rattle.bus_rules.specs.Scenes.{activated, waitStart, duringWait, duringBusy}
 
 -- After document 01's book has activated its terminal, n periods are a stretch, for every n.
 abbrev pub StretchesExist : Type 0
@@ -28,9 +29,19 @@ StretchesExist = (n : ℕ) → Stretch activated (replicate n period)
 abbrev pub StretchLength : Type 0
 StretchLength = (n : ℕ) (b : Bus) → b .periods + n ≤ mostPeriods → length (opportunitiesIn b (replicate n period)) ≡ 4 * n
 
+-- Stretches of any length start also at sound buses to which no list of calls from the fresh bus
+-- leads: the same bus with one D opportunity counted.
+pub record StartsElsewhere (b : Bus) : Type 0 where
+  pub is-sound : Sound b
+  pub not-led-to : (calls : List Call) → afterAll freshBus calls ≡ b → ⊥
+  pub stretches : (n : ℕ) → Stretch b (replicate n period)
+
+abbrev pub OtherStart : Type 0
+OtherStart = StartsElsewhere (withCounts (activated .periods) 1 activated)
+
 -- The scene of the worst wait is a stretch.
 abbrev pub WorstStretch : Type 0
-WorstStretch = Stretch (afterAll freshBus beforeWait) duringWait
+WorstStretch = Stretch waitStart duringWait
 
 -- .. and demand 3's words hold in it, at its D opportunities ms. Terminal 1 has the index 0. The
 -- bound is 128 (specs/Scenes.antt), so that 127 is the last opportunity at which its frame may be
@@ -52,14 +63,14 @@ pub record WaitsToTheLast (ms : List Opportunity) : Type 0 where
   pub body-completed : bodyCompleted (at ms 127) ≡ (1 ∷ []) ∷ []
 
 abbrev pub WorstWait : Type 0
-WorstWait = WaitsToTheLast (opps beforeWait duringWait)
+WorstWait = WaitsToTheLast (opps waitStart duringWait)
 
 -- .. and what demand 3 says of it: its frame is completed in time and heard, and what is heard from
 -- the frame's flag on is what is completed.
 pub record SaidOfWorstWait : Type 0 where
-  pub in-time : CompletedWithin beforeWait duringWait 1 0 0 (waitBound beforeWait duringWait)
-  pub frame-heard : saidTo (at (opps beforeWait duringWait) 126) ≡ heard (stationThen 0 (at (opps beforeWait duringWait) 127) .body)
-  pub as-completed : heardFrom beforeWait duringWait 111 16 ≡ completedFrom beforeWait duringWait 112 16
+  pub in-time : CompletedWithin waitStart duringWait 1 0 0 (waitBound waitStart duringWait)
+  pub frame-heard : saidTo (at (opps waitStart duringWait) 126) ≡ heard (stationThen 0 (at (opps waitStart duringWait) 127) .body)
+  pub as-completed : heardFrom waitStart duringWait 111 16 ≡ completedFrom waitStart duringWait 112 16
 
 -- ---- The words need no more than document 01 says. Each holds wherever its sentence does, of
 -- every terminal and class ..
@@ -103,7 +114,7 @@ AnyRefusedCall =
 
 -- The busy scene is a stretch, and in it the frame of terminal 1 is begun, heard and completed.
 abbrev pub busy : List Opportunity
-busy = opps activating duringBusy
+busy = opps activated duringBusy
 
 pub record BusyStretch : Type 0 where
   pub is-stretch : Stretch activated duringBusy

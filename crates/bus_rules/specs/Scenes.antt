@@ -255,13 +255,15 @@ abbrev pub duringWait : List Call
 duringWait =
     event 1 D1 (1 ∷ []) ∷ event 2 D2 (0 ∷ []) ∷ periods 5 (event 3 D1 (128 ∷ []) ∷ periods 3 (event 2 D1 (0 ∷ []) ∷ periods 24 []))
 
+abbrev pub waitStart : Bus
+waitStart = afterAll freshBus beforeWait
+
 -- the places, from t on, of the D opportunities at which terminal i completes a frame
 abbrev completedAt : ℕ → ℕ → List Opportunity → List ℕ
 completedAt i t [] = []
 completedAt i t (m ∷ ms) = map (λ (class : ℕ). t) (doneOf (eComes m) (stationThen i m)) ++ completedAt i (suc t) ms
 
-pub worst-wait : (waitBound beforeWait duringWait ≡ 128)
-    × (completedAt 0 0 (opportunitiesIn (afterAll freshBus beforeWait) duringWait) ≡ 127 ∷ [])
+pub worst-wait : (waitBound waitStart duringWait ≡ 128) × (completedAt 0 0 (opportunitiesIn waitStart duringWait) ≡ 127 ∷ [])
 unfolding handedBack
 worst-wait = (refl, refl)
 
