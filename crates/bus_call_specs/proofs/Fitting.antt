@@ -10,11 +10,10 @@ use lib.ListN.{getD, length-map}
 use Rattle.slice_lemmas.specs.Over.{mapFrom}
 use Rattle.hdlc.proofs.ImageLaws.{length-image}
 use Rattle.timing.specs.Counts.{mostPeriods}
-use Rattle.bus_rules.specs.Bus.{Station, Bus, freshStation, freshBus, stationAt}
-use Rattle.bus_rules.specs.Calls.{Call, afterAll}
+use Rattle.bus_rules.specs.Bus.{Station, Bus, freshStation, stationAt}
 use Rattle.bus_rules.specs.Ranges.{InRange}
-use Rattle.bus_rules.proofs.Always.{always-sound}
-use Rattle.bus_rules.proofs.Ranges.{always-in-range}
+use Rattle.bus_rules.specs.Sound.{Sound}
+use Rattle.bus_rules.proofs.Sound.{sound-contender}
 use Rattle.exchange.specs.Part.{imageOf, stationIn}
 use Rattle.bus_call_specs.specs.Kept.{Kept}
 use Rattle.bus_call_specs.specs.Shown.{busIn}
@@ -26,21 +25,18 @@ use Rattle.bus_call_specs.proofs.Fields.{periods-of, opportunities-of, 
 use Rattle.bus_call_specs.proofs.Pairs.{Both, none, one}
 use Rattle.bus_call_specs.proofs.SameExchange.{AccessInOrder, SameStation, SameBus, HasBits}
 
--- what every list of calls leaves
+-- what a sound bus has, and the calls need
 pub record Fit (b : Bus) : Type 0 where
   pub in-range : InRange b
   pub in-order : (i : ℕ) → AccessInOrder (stationAt i b .terminal .access)
 
-pub always-fit : (calls : List Call) → Fit (afterAll freshBus calls)
-always-fit calls =
+pub sound-fits : (b : Bus) → Sound b → Fit b
+sound-fits b s =
     record {
-      in-range = always-in-range calls;
+      in-range = s .in-range;
       in-order = λ i.
-          let s = always-sound calls i in
-          record {
-            none-held = s .none-held;
-            room = λ h. omega (arith, s .frame-held h .1, length-image (stationAt i (afterAll freshBus calls) .body));
-          };
+          let c = sound-contender b i s in
+          record { none-held = c .none-held; room = λ h. omega (arith, c .frame-held h .1, length-image (stationAt i b .body)) };
     }
 
 -- ---- the ranges, and what is lent

@@ -18,6 +18,8 @@ use Rattle.bus_rules.specs.Event.{firstHolding}
 use Rattle.bus_rules.specs.Calls as bus
 use Rattle.bus_rules.specs.Calls.{Call, afterAll}
 use Rattle.bus_rules.specs.Calls.Call.{event, period}
+use Rattle.bus_rules.specs.Sound.{Sound}
+use Rattle.bus_rules.proofs.Sound.{sound-fresh, sound-kept}
 use Rattle.period_hearing.specs.declared.hears.UnitNotes.{UnitNotes}
 use Rattle.bus_record.specs.Record.{recordInRange}
 use Rattle.bus_record.specs.NetworkSide.{noNotes, refusedRun}
@@ -27,10 +29,10 @@ use Rattle.bus_event.specs.Event as parts
 use Rattle.bus_call_specs.specs.Kept.{Kept, kept, settled}
 use Rattle.bus_call_specs.specs.Ready.{eightInRange, lentFits, runReason, runReply}
 use Rattle.bus_call_specs.specs.Event.{reason, eventTold}
-use Rattle.bus_call_specs.specs.Lists.{told, called, replied, notesTold, Carries, OctetValue, LentCall, callOf, finds, leftBy, isLent, wouldFit, Admitted, replyTo, notesTo, busAfter, Same, freshFound, ListsCarried, made, leftAll, notesOfCalls, AllAdmitted, ToldNotes}
+use Rattle.bus_call_specs.specs.Lists.{told, called, replied, notesTold, Carries, OctetValue, LentCall, callOf, finds, leftBy, isLent, wouldFit, Admitted, replyTo, notesTo, busAfter, Same, freshFound, ListsCarriedFrom, ListsCarried, made, leftAll, notesOfCalls, AllAdmitted, ToldNotesFrom, ToldNotes}
 use Rattle.bus_call_specs.specs.Lists.LentCall.{gives, runs, amiss}
 use Rattle.bus_call_specs.proofs.InOrder.{order-ranges}
-use Rattle.bus_call_specs.proofs.Fitting.{Fit, always-fit, in-order}
+use Rattle.bus_call_specs.proofs.Fitting.{Fit, sound-fits, in-order}
 use Rattle.bus_call_specs.proofs.Refused.{refused-ran, refused-keeps, refused-tells-none}
 use Rattle.bus_call_specs.proofs.PeriodCarried.{period-replied, period-notes, period-carried}
 use Rattle.bus_call_specs.proofs.EventCarried.{Carried, event-carried}
@@ -147,25 +149,17 @@ lent-carried k b c f (amiss x ts images octets letters places) m =
       carries = rw (called-nothing k b c f ts images octets letters places x m) (settled-carries k b c);
     }
 
--- ---- lists: from a record that stands for a bus on, whatever calls come
-ran-made : (b : Bus) (x : LentCall) (calls : List Call) → afterAll b (cond (isLent x) (callOf x ∷ calls) calls) ≡ afterAll (busAfter b x) calls
-unfolding afterAll
-ran-made b x calls = by-test (isLent x) (λ t. rw t) (λ t. rw t)
+-- ---- lists: from a record that stands for a sound bus on, whatever calls come
+sound-lent : (b : Bus) (x : LentCall) → Sound b → Sound (busAfter b x)
+sound-lent b x s = by-test (isLent x) (λ t. rw t (sound-kept b (callOf x) s)) (λ t. rw t s)
 
-Fits : Bus → Type 0
-Fits b = (later : List Call) → Fit (afterAll b later)
-
-fits-after : (b : Bus) (x : LentCall) → Fits b → Fits (busAfter b x)
-unfolding Fits
-fits-after b x fit later = rw (← ran-made b x later) (fit (cond (isLent x) (callOf x ∷ later) later))
-
-pub same-from : (calls : List LentCall) (k : Kept) (b : Bus) → Carries k b → ((later : List Call) → Fit (afterAll b later)) → Same k b calls
-unfolding Same Fits afterAll
-same-from [] k b c fit = c
-same-from (x ∷ more) k b c fit = (
+pub lists-carried-from : ListsCarriedFrom
+unfolding Same
+lists-carried-from k b [] c s = c
+lists-carried-from k b (x ∷ more) c s = (
   c,
-  λ m. let d = lent-carried k b c (fit []) x m in
-      (d .replies, d .tells, same-from more (leftBy k x) (busAfter b x) (d .carries) (fits-after b x fit)),
+  λ m. let d = lent-carried k b c (sound-fits b s) x m in
+      (d .replies, d .tells, lists-carried-from (leftBy k x) (busAfter b x) more (d .carries) (sound-lent b x s)),
 )
 
 -- ---- the fresh record
@@ -195,9 +189,13 @@ fresh-carries images octets letters i o l =
 
 pub lists-carried : ListsCarried
 lists-carried images octets letters calls i o l =
-    same-from calls (freshFound images octets letters) freshBus (fresh-carries images octets letters i o l) always-fit
+    lists-carried-from (freshFound images octets letters) freshBus calls (fresh-carries images octets letters i o l) sound-fresh
 
 -- ---- all of a list: what it leaves, and the notes together
+ran-made : (b : Bus) (x : LentCall) (calls : List Call) → afterAll b (cond (isLent x) (callOf x ∷ calls) calls) ≡ afterAll (busAfter b x) calls
+unfolding afterAll
+ran-made b x calls = by-test (isLent x) (λ t. rw t) (λ t. rw t)
+
 notes-made : (b : Bus) (x : LentCall) (calls : List Call)
     → bus.notesOfAll b (cond (isLent x) (callOf x ∷ calls) calls) ≡ notesTo b x ++ bus.notesOfAll (busAfter b x) calls
 unfolding bus.notesOfAll
@@ -212,7 +210,10 @@ same-all k b (x ∷ xs) ys m s =
     let r = same-all (leftBy k x) (busAfter b x) xs ys (m .1) (t .2) in
     (rw (notes-made b x (made xs), t .1, r .0), rw (ran-made b x (made xs)) (r .1))
 
-pub told-notes : ToldNotes
+pub told-notes-from : ToldNotesFrom
 unfolding Same
+told-notes-from k b calls c s m = same-all k b calls [] m (lists-carried-from k b (calls ++ []) c s) .0
+
+pub told-notes : ToldNotes
 told-notes images octets letters calls i o l m =
-    same-all (freshFound images octets letters) freshBus calls [] m (lists-carried images octets letters (calls ++ []) i o l) .0
+    told-notes-from (freshFound images octets letters) freshBus calls (fresh-carries images octets letters i o l) sound-fresh m

@@ -12,11 +12,11 @@ use Rattle.test_lemmas.proofs.ByCases.{by-test, clash}
 use Rattle.test_lemmas.proofs.Operators.{and-both}
 use Rattle.timing.specs.Counts.{mostPeriods}
 use Rattle.timing.specs.Calls.{allRun}
-use Rattle.bus_rules.specs.Bus.{Bus, Note, freshBus}
+use Rattle.bus_rules.specs.Bus.{Bus, Note}
 use Rattle.bus_rules.specs.Period.{periodRun, periodNotes}
 use Rattle.bus_rules.specs.Calls as bus
-use Rattle.bus_rules.specs.Calls.{Call}
 use Rattle.bus_rules.specs.Calls.Call.{period}
+use Rattle.bus_rules.proofs.Sound.{sound-kept}
 use Rattle.bus_record.specs.NetworkSide.{refusedRun}
 use Rattle.bus_record.specs.declared.side.RunAnswer.{RunAnswer}
 use Rattle.bus_call_specs.specs.Kept.{Kept}
@@ -27,7 +27,7 @@ use Rattle.bus_call_specs.specs.Lists.{Carries, called, replied, RunOfRu
 use Rattle.bus_call_specs.proofs.Fields.{periods-of}
 use Rattle.bus_call_specs.proofs.InOrder.{order-reply}
 use Rattle.bus_call_specs.proofs.RunSingle.{period-single}
-use Rattle.bus_call_specs.proofs.Fitting.{Fit, always-fit, in-order, run-reply}
+use Rattle.bus_call_specs.proofs.Fitting.{Fit, sound-fits, in-order, run-reply}
 use Rattle.bus_call_specs.proofs.PeriodCarried.{run-carried, run-told, period-replied, period-notes, period-carried}
 use Rattle.bus_call_specs.proofs.QuietRuns.{quiet-run, goes-by, goes-quiet, one-told, told-on, told-end, answer-on, ran-end, kept-on, kept-end, no-more}
 use Rattle.bus_call_specs.proofs.QuietEnds.{silent-period}
@@ -114,22 +114,14 @@ calls-end : (n : ℕ) (b : Bus) → bus.runGoesOn b ≡ false → bus.runCalls (
 unfolding bus.runCalls
 calls-end n b g = rw g
 
-from : (n : ℕ) (k : Kept) (b : Bus) → Carries k b → ((later : List Call) → Fit (bus.afterAll b later)) → RunOfRules (suc n) k b
-unfolding bus.afterAll called
-from zero k b c fit = ends k b c (fit []) zero (no-more (runAnswer 1 k)) (one-call b)
-from (suc m) k b c fit =
-    by-test (runGoesOn (runAnswer 1 k) (suc m))
-    (λ g.
-    goes k b c (fit []) m g (from m (keptAfter 1 k) (bus.after b period) (period-carried k b c (fit [])) (λ later. fit (period ∷ later))))
-    (λ g. ends k b c (fit []) (suc m) g (calls-end (suc m) b (sym (goes-same k b c (fit []) m) ∙ g)))
-
-ran-then : (xs ys : List Call) (b : Bus) → bus.afterAll b (xs ++ ys) ≡ bus.afterAll (bus.afterAll b xs) ys
-unfolding bus.afterAll
-ran-then [] ys b = refl
-ran-then (x ∷ xs) ys b = ran-then xs ys (bus.after b x)
-
 pub run-of-rules : RunCarried
-run-of-rules calls k n c = from n k (bus.afterAll freshBus calls) c (λ later. rw (← ran-then calls later freshBus) (always-fit (calls ++ later)))
+unfolding called
+run-of-rules k b zero c s = ends k b c (sound-fits b s) zero (no-more (runAnswer 1 k)) (one-call b)
+run-of-rules k b (suc m) c s =
+    let f = sound-fits b s in
+    by-test (runGoesOn (runAnswer 1 k) (suc m))
+    (λ g. goes k b c f m g (run-of-rules (keptAfter 1 k) (bus.after b period) m (period-carried k b c f) (sound-kept b period s)))
+    (λ g. ends k b c f (suc m) g (calls-end (suc m) b (sym (goes-same k b c f m) ∙ g)))
 
 -- ---- One of no periods.
 pub no-periods-run : NoPeriodsRun
@@ -138,4 +130,4 @@ no-periods-run k = record { replies = refl; tells-of-none = refl; keeps = refl }
 
 pub no-periods-carried : NoPeriodsCarried
 unfolding runAnswer answerOn notYet refusedRun bus.runReply
-no-periods-carried calls k c = order-reply 0 k (in-order k (bus.afterAll freshBus calls) c (always-fit calls))
+no-periods-carried k b c s = order-reply 0 k (in-order k b c (sound-fits b s))

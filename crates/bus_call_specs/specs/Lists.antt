@@ -26,6 +26,7 @@ use Rattle.bus_rules.specs.Order.{ByUnit, dFirst, unitByUnit, periodInOrder}
 use Rattle.bus_rules.specs.Calls as rules
 use Rattle.bus_rules.specs.Calls.{Call, reply, notes, after, notesOfAll}
 use Rattle.bus_rules.specs.Calls.Call.{event, period}
+use Rattle.bus_rules.specs.Sound.{Sound}
 use Rattle.exchange.specs.Part.{imageOf}
 use Rattle.period_hearing.specs.Shown.{allInRange}
 use Rattle.period_hearing.specs.declared.hears.UnitNotes.{UnitNotes}
@@ -200,8 +201,13 @@ Same k b (x ∷ more) =
     → (replied (finds k x) (callOf x) ≡ replyTo b x) × (notesTold (finds k x) (callOf x) ≡ notesTo b x)
     × Same (leftBy k x) (busAfter b x) more)
 
--- A fresh record with eight fresh terminals. In `ListsCarried` what is lent with it has the lengths
--- that it must have, and the letters are letters; else they are any octets.
+-- So it is with every list of calls, from whatever stands for a sound bus (crate `bus_rules`,
+-- specs/Sound.antt).
+abbrev pub ListsCarriedFrom : Type 0
+ListsCarriedFrom = (k : Kept) (b : Bus) (calls : List LentCall) → Carries k b → Sound b → Same k b calls
+
+-- A fresh record with eight fresh terminals is so, too. In `ListsCarried` what is lent with it has
+-- the lengths that it must have, and the letters are letters; else they are any octets.
 abbrev pub freshFound : List ℕ → List ℕ → List ℕ → Kept
 freshFound images octets letters = found freshRecord (replicate terminals terminal.fresh) images octets letters
 
@@ -228,6 +234,11 @@ notesOfCalls k (x ∷ more) = notesTold (finds k x) (callOf x) ++ notesOfCalls (
 unfoldable pub AllAdmitted : List LentCall → Type 0
 AllAdmitted [] = Unit
 AllAdmitted (x ∷ more) = Admitted x × AllAdmitted more
+
+abbrev pub ToldNotesFrom : Type 0
+ToldNotesFrom =
+    (k : Kept) (b : Bus) (calls : List LentCall) → Carries k b → Sound b → AllAdmitted calls
+    → notesOfCalls k calls ≡ notesOfAll b (made calls)
 
 abbrev pub ToldNotes : Type 0
 ToldNotes =
@@ -338,16 +349,14 @@ abbrev pub RunsAreCalls : Type 0
 RunsAreCalls = (n : ℕ) (k : Kept) → RunIsCalls n k
 
 -- Such a run is the rules' (crate `bus_rules`, specs/Calls.antt `runCalls`), of whatever stands for
--- a bus that a list of calls leads to (proofs/RunCarried.antt).
+-- a sound bus, as every list of calls leaves one (proofs/RunCarried.antt).
 pub record RunOfRules (most : ℕ) (k : Kept) (b : Bus) : Type 0 where
   pub replies : runAnswer most k .reply ≡ rules.runReply most b
   pub tells : runTold most k ≡ rules.runNotes most b
   pub carries : Carries (keptAfter most k) (rules.runLeaves most b)
 
 abbrev pub RunCarried : Type 0
-RunCarried =
-    (calls : List Call) (k : Kept) (n : ℕ) → Carries k (rules.afterAll freshBus calls)
-    → RunOfRules (suc n) k (rules.afterAll freshBus calls)
+RunCarried = (k : Kept) (b : Bus) (n : ℕ) → Carries k b → Sound b → RunOfRules (suc n) k b
 
 -- A run of no periods runs nothing, whatever it finds: what is kept stays, and no note is told of.
 -- It can be refused, with 1 or 2, but not where what it finds stands for such a bus.
@@ -363,9 +372,7 @@ abbrev pub NoPeriodsRun : Type 0
 NoPeriodsRun = (k : Kept) → NothingRun k
 
 abbrev pub NoPeriodsCarried : Type 0
-NoPeriodsCarried =
-    (calls : List Call) (k : Kept) → Carries k (rules.afterAll freshBus calls)
-    → runAnswer 0 k .reply ≡ rules.runReply 0 (rules.afterAll freshBus calls)
+NoPeriodsCarried = (k : Kept) (b : Bus) → Carries k b → Sound b → runAnswer 0 k .reply ≡ rules.runReply 0 b
 
 -- The codes that notes have stand in an octet and are not 0, which as an octet ends the notes of a
 -- call (proofs/Codes.antt).

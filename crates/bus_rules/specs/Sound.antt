@@ -38,8 +38,8 @@ SoundKept = (b : Bus) (c : Call) → Sound b → Sound (after b c)
 abbrev pub SoundAfter : Type 0
 SoundAfter = (b : Bus) (calls : List Call) → Sound b → Sound (afterAll b calls)
 
--- a frame that a terminal of it holds: the bits to send, and how many they are, are the image of a
--- body, that which the accepted `d1` or `d2` gave
+-- a frame that one of its terminals holds has a body, and the bits to send are that body's image:
+-- so it is with the body that an accepted `d1` or `d2` gives
 abbrev pub SoundHeld : Type 0
 SoundHeld =
     (b : Bus) (i : ℕ) → Sound b → 1 ≤ stationAt i b .terminal .access .held →
