@@ -4,11 +4,13 @@ use mathlib.Core.Path.{_≡_, refl, sym, _∙_}
 use Prim.Native.Nat.{ℕ}
 use Rattle.bus_rules.specs.Bus.{Bus, freshBus}
 use Rattle.bus_rules.specs.Calls.{afterAll, notesOfAll}
-use Rattle.bus_rules.proofs.Demand3.{demand3, notes-append}
+use Rattle.bus_rules.specs.Sound.{Sound}
+use Rattle.bus_rules.proofs.Sound.{sound-fresh}
+use Rattle.bus_rules.proofs.Demand3.{demand3-of-lists, notes-append}
 use Rattle.host_bus.specs.Fresh.{freshOctets}
-use Rattle.host_steps.specs.Laws.{HostCall, busAfter, callsOfHost, SteppedAll}
-use Rattle.host_steps.specs.Demand3.{leftBy, madeBy, HandBack, AllOctetsGiven, PartHandsBack, Demand3OnHostCalls}
-use Rattle.host_steps.proofs.Laws.{ran-append, lists-stepped}
+use Rattle.host_steps.specs.Laws.{HostCall, busAfter, callsOfHost, OctetsCarry, SteppedAll}
+use Rattle.host_steps.specs.Demand3.{leftBy, madeBy, HandBack, AllOctetsGiven, PartHandsBack, Demand3OnHostCalls, Demand3OnHostCallsFrom}
+use Rattle.host_steps.proofs.Laws.{ran-append, lists-stepped-from, fresh-carry}
 
 made-append : (s : List ℕ) (xs ys : List HostCall) → madeBy s (xs ++ ys) ≡ madeBy s xs ++ madeBy (leftBy s xs) ys
 unfolding madeBy leftBy
@@ -44,21 +46,25 @@ hand-back b s (x ∷ more) v a =
       hand-back (afterAll b (callsOfHost s x)) (busAfter s x) more (v .1) (r .1),
     )
 
-part-hands-back : (before during after : List HostCall) → AllOctetsGiven (before ++ (during ++ after)) → PartHandsBack before during after
-part-hands-back before during after v =
+part-hands-back : (s : List ℕ) (b : Bus) → OctetsCarry s b → Sound b → (before during after : List HostCall) → AllOctetsGiven (before ++ (during ++ after))
+    → PartHandsBack s b before during after
+part-hands-back s b o start before during after v =
     let p = values-parts before (during ++ after) v in
     let q = values-parts during after (p .1) in
     record {
-      in-calls = made-append freshOctets before (during ++ after) ∙ rw (made-append (leftBy freshOctets before) during after);
+      in-calls = made-append s before (during ++ after) ∙ rw (made-append (leftBy s before) during after);
       notes-of-part =
-          hand-back (afterAll freshBus (madeBy freshOctets before)) (leftBy freshOctets before) during (q .0)
-          (stepped-after freshBus freshOctets before during (p .0) (lists-stepped (before ++ during)));
+          hand-back (afterAll b (madeBy s before)) (leftBy s before) during (q .0)
+          (stepped-after b s before during (p .0) (lists-stepped-from s b (before ++ during) o start));
+    }
+
+pub demand3-on-host-calls-from : Demand3OnHostCallsFrom
+demand3-on-host-calls-from s b calls o start v =
+    record {
+      stepped = lists-stepped-from s b calls o start;
+      claims = λ before during after e stretch. demand3-of-lists b start before during after stretch;
+      parts = λ before during after e. part-hands-back s b o start before during after (rw e at v);
     }
 
 pub demand3-on-host-calls : Demand3OnHostCalls
-demand3-on-host-calls calls v =
-    record {
-      stepped = lists-stepped calls;
-      claims = λ before during after e stretch. demand3 before during after stretch;
-      parts = λ before during after e. part-hands-back before during after (rw e at v);
-    }
+demand3-on-host-calls calls v = demand3-on-host-calls-from freshOctets freshBus calls fresh-carry sound-fresh v

@@ -14,14 +14,16 @@ use Rattle.hdlc.specs.Image.{longestBody}
 use Rattle.bus_rules.specs.Bus.{Bus, Note, freshBus}
 use Rattle.bus_rules.specs.Calls.{Call, reply, after, afterAll, notesOfAll}
 use Rattle.bus_rules.specs.Calls.Call.{event, period}
+use Rattle.bus_rules.specs.Sound.{Sound}
+use Rattle.bus_rules.proofs.Sound.{sound-fresh, sound-after}
 use Rattle.bus_event.specs.Event.{imagesRoom, areLetters}
 use Rattle.bus_call_specs.specs.Kept.{Kept, settled}
 use Rattle.bus_call_specs.specs.Ready.{runGoesOn}
 use Rattle.bus_call_specs.specs.Lists.{Carries, isCode, coded, told, called, replied, notesTold, runTold, OctetValue, LentCall, callOf, finds, leftBy, isLent, Same, made, leftAll, notesOfCalls, AllAdmitted, lend, callsIn}
 use Rattle.bus_call_specs.specs.Run.{runAnswer as once, keptOn, keptAfter}
 use Rattle.bus_call_specs.proofs.InOrder.{InOrder, order-reply}
-use Rattle.bus_call_specs.proofs.Fitting.{Fit, always-fit}
-use Rattle.bus_call_specs.proofs.Lists.{call-carried, settled-carries, same-from, same-all, fresh-carries}
+use Rattle.bus_call_specs.proofs.Fitting.{sound-fits}
+use Rattle.bus_call_specs.proofs.Lists.{call-carried, settled-carries, lists-carried-from, same-all, fresh-carries}
 use Rattle.bus_call_specs.proofs.QuietRuns.{one-told, runs-are-calls}
 use Rattle.bus_call_specs.proofs.QuietEnds as quiet-ends
 use Rattle.bus_call_specs.proofs.Refused as turned-down
@@ -127,20 +129,17 @@ unfolding afterAll
 ran-append b [] ys = refl
 ran-append b (x ∷ xs) ys = ran-append (after b x) xs ys
 
-fit-on : (b : Bus) (calls : List Call) → ((later : List Call) → Fit (afterAll b later)) → (later : List Call) → Fit (afterAll (afterAll b calls) later)
-fit-on b calls fit later = rw (← ran-append b calls later) (fit (calls ++ later))
-
 record Goes (b : Bus) (calls : List Call) (reply : ℕ) (left : Kept) (told : List Note) : Type 0 where
   carries : Carries (settled left) (afterAll b calls)
   replies : reply ≡ laws.firstReply b calls
   tells : told ≡ notesOfAll b calls
 
-module _ (s : List ℕ) (b : Bus) (h : isBus s ≡ true) (fit : (later : List Call) → Fit (afterAll b later)) (c : Carries (shown s) b) where
+module _ (s : List ℕ) (b : Bus) (h : isBus s ≡ true) (start : Sound b) (c : Carries (shown s) b) where
   -- a list of calls on what the octets stand for: its notes, and what it leaves
   carried : (calls : List LentCall) → AllAdmitted calls
       → (notesOfCalls (shown s) calls ≡ notesOfAll b (made calls)) × Carries (leftAll (shown s) calls) (afterAll b (made calls))
   unfolding Same
-  carried calls m = same-all (shown s) b calls [] m (same-from (calls ++ []) (shown s) b c fit)
+  carried calls m = same-all (shown s) b calls [] m (lists-carried-from (shown s) b (calls ++ []) c start)
 
   one-goes : (x : Call) → OctetValue x → Goes b (made (lend x ∷ [])) (replied (shown s) x) (called (shown s) x) (notesTold (shown s) x)
   unfolding afterAll
@@ -148,7 +147,7 @@ module _ (s : List ℕ) (b : Bus) (h : isBus s ≡ true) (fit : (later : List Ca
       let a = carried (lend x ∷ []) (admitted x v) in
       record {
         carries = rw (one-left x) (a .1);
-        replies = call-carried (shown s) b c (fit []) x v .replies ∙ one-reply x;
+        replies = call-carried (shown s) b c (sound-fits b start) x v .replies ∙ one-reply x;
         tells = sym (one-told x) ∙ a .0;
       }
     where
@@ -176,7 +175,7 @@ module _ (s : List ℕ) (b : Bus) (h : isBus s ≡ true) (fit : (later : List Ca
       let a = carried (callsIn (suc n) (shown s)) (periods-admitted (suc n) (shown s)) in
       record {
         carries = rw (r .leaves) (a .1);
-        replies = r .replies ∙ call-carried (shown s) b c (fit []) period tt .replies;
+        replies = r .replies ∙ call-carried (shown s) b c (sound-fits b start) period tt .replies;
         tells = r .tells ∙ a .0;
       }
 
@@ -331,21 +330,20 @@ module _ (s room : List ℕ) (h : isBus s ≡ true) where
         stored = left-fits s h (mostTo until s);
       }
 
-from : (list : List laws.HostCall) (s : List ℕ) (b : Bus) → ((later : List Call) → Fit (afterAll b later)) → laws.OctetsCarry s b
-    → laws.SteppedAll b s list
+pub lists-stepped-from : laws.ListsSteppedFrom
 unfolding laws.SteppedAll laws.asked
-from [] s b fit o = o
-from (step x room ∷ more) s b fit o = (
+lists-stepped-from s b [] o start = o
+lists-stepped-from s b (step x room ∷ more) o start = (
   o,
   λ v.
-      let n = steps s b o (step x room) _ _ _ (step-parts s room (o .is-bus) x) (one-goes s b (o .is-bus) fit (o .carries) x v) in
-      (n .0, from more _ _ (fit-on b _ fit) (n .1)),
+      let n = steps s b o (step x room) _ _ _ (step-parts s room (o .is-bus) x) (one-goes s b (o .is-bus) start (o .carries) x v) in
+      (n .0, lists-stepped-from _ _ more (n .1) (sound-after b _ start)),
 )
-from (runTo until room ∷ more) s b fit o = (
+lists-stepped-from s b (runTo until room ∷ more) o start = (
   o,
   λ v.
-      let n = steps s b o (runTo until room) _ _ _ (run-parts s room (o .is-bus) until) (run-goes s b (o .is-bus) fit (o .carries) (mostTo until s)) in
-      (n .0, from more _ _ (fit-on b _ fit) (n .1)),
+      let n = steps s b o (runTo until room) _ _ _ (run-parts s room (o .is-bus) until) (run-goes s b (o .is-bus) start (o .carries) (mostTo until s)) in
+      (n .0, lists-stepped-from _ _ more (n .1) (sound-after b _ start)),
 )
 
 -- ---- The fresh bus.
@@ -356,13 +354,16 @@ pub zeros-are-letters : areLetters (replicate lineLength 0) ≡ true
 unfolding fits within
 zeros-are-letters = refl
 
-pub lists-stepped : laws.ListsStepped
-unfolding freshOctets freshZeros afterAll
-lists-stepped list =
+pub fresh-carry : laws.OctetsCarry freshOctets freshBus
+unfolding freshOctets freshZeros
+fresh-carry =
     let e = zeros-long longestBody in
     let c : Carries freshZeros freshBus =
     fresh-carries (replicate imagesRoom 0) (replicate longestBody 0) (replicate lineLength 0) (zeros-long imagesRoom) (omega arith) zeros-are-letters in
     let f : StoredAndShown freshZeros =
     round-trip freshZeros
     (fresh-ready (replicate imagesRoom 0) (replicate longestBody 0) (replicate lineLength 0) (zeros-long imagesRoom) (omega arith) zeros-are-letters) e in
-    from list freshOctets freshBus always-fit (record { is-bus = f .is-bus; carries = rw (f .shown-is) c })
+    record { is-bus = f .is-bus; carries = rw (f .shown-is) c }
+
+pub lists-stepped : laws.ListsStepped
+lists-stepped calls = lists-stepped-from freshOctets freshBus calls fresh-carry sound-fresh

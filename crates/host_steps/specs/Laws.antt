@@ -10,6 +10,7 @@ use lib.ListN.{length, getD, take}
 use Rattle.timing.specs.Counts.{mostPeriods}
 use Rattle.bus_rules.specs.Bus.{Bus, Note, freshBus}
 use Rattle.bus_rules.specs.Calls.{Call, reply, afterAll, notesOfAll}
+use Rattle.bus_rules.specs.Sound.{Sound}
 use Rattle.bus_call_specs.specs.Lists.{Carries, LentCall, OctetValue, made, lend, notesTold, callsIn, runTold}
 use Rattle.note_text.specs.Determined.{AllFitOctets}
 use Rattle.bus_octets.specs.Layout.{shown, isBus}
@@ -58,9 +59,8 @@ QuietRunEnds =
     (s room : List ℕ) (until : ℕ) → hostRunReply s room (mostTo until s) ≡ 0 → getD (hostRunNotes s room (mostTo until s)) 0 0 ≡ 0
     → shown (hostRunBus s room (mostTo until s)) .bus .periods .0 ≡ min (max until (shown s .bus .periods .0)) mostPeriods
 
--- ---- Lists of a host's calls on a fresh bus: an event or a period, or a run until a given number
--- of periods have been run in all, each with what is lent for its notes, of any length and
--- contents.
+-- ---- Lists of a host's calls on a bus: an event or a period, or a run until a given number of
+-- periods have been run in all, each with what is lent for its notes, of any length and contents.
 pub data HostCall : Type 0 where
   step : Call → List ℕ → HostCall
   runTo : ℕ → List ℕ → HostCall
@@ -136,6 +136,11 @@ unfoldable pub SteppedAll : Bus → List ℕ → List HostCall → Type 0
 SteppedAll b s [] = OctetsCarry s b
 SteppedAll b s (x ∷ more) =
     OctetsCarry s b × (OctetsGiven x → SteppedBy b s x × SteppedAll (afterAll b (callsOfHost s x)) (busAfter s x) more)
+
+-- So it is with every list of calls, from octets that stand for a sound bus (crate `bus_rules`,
+-- specs/Sound.antt), as those of a fresh bus do.
+abbrev pub ListsSteppedFrom : Type 0
+ListsSteppedFrom = (s : List ℕ) (b : Bus) (calls : List HostCall) → OctetsCarry s b → Sound b → SteppedAll b s calls
 
 abbrev pub ListsStepped : Type 0
 ListsStepped = (calls : List HostCall) → SteppedAll freshBus freshOctets calls

@@ -28,10 +28,11 @@ use Rattle.bus_rules.specs.Calls.Call.{event, period}
 use Rattle.bus_rules.specs.Ranges.{runs, periodsRun}
 use Rattle.bus_rules.proofs.Refusals.{first-listed, period-not-refused}
 use Rattle.bus_rules.proofs.Ranges.{periods-counted}
-use Rattle.bus_rules.proofs.Demand3.{demand3}
+use Rattle.bus_rules.proofs.Sound.{sound-fresh}
+use Rattle.bus_rules.proofs.Demand3.{demand3-of-lists}
 use Rattle.bus_call_specs.specs.Lists.{OctetValues}
 use Rattle.report.specs.Report.{callAt, callsOfAnswers, bookCalls}
-use Rattle.report.specs.Laws.{RunsToLine, InBook, AllInBook, BooksRefused, NoneLate, BooksInTime, BooksOctets, BookCalls}
+use Rattle.report.specs.Laws.{RunsToLine, InBook, AllInBook, BooksRefused, NoneLate, BooksInTime, BooksOctets, BookCalls, BookCallsFrom}
 
 -- the letters of a hit have the same codes on a line and on the bus
 pub same-letters : map letterCode (ascii "kpmn") ≡ keepLetter ∷ plusLetter ∷ minusLetter ∷ noneLetter ∷ []
@@ -181,5 +182,8 @@ unfolding bookCalls
 books-octets book = calls-octets (answers-in-time book)
 
 -- ---- Demand 3 of a book's calls is demand 3 of the bus.
+pub book-calls-from : BookCallsFrom
+book-calls-from b start book before during later is stretch = demand3-of-lists b start before during later stretch
+
 pub book-calls : BookCalls
-book-calls book before during later is stretch = demand3 before during later stretch
+book-calls = book-calls-from freshBus sound-fresh

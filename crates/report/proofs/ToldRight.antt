@@ -3,12 +3,13 @@
 use mathlib.Core.Path.{_≡_, refl}
 use mathlib.Core.List.{List, [], _∷_, map}
 use Rattle.bus_rules.specs.Bus.{Bus, freshBus}
-use Rattle.bus_rules.specs.Calls.{Call, after, afterAll, reply, notes}
+use Rattle.bus_rules.specs.Calls.{Call, after, reply, notes}
 use Rattle.bus_rules.specs.Calls.Call.{event, period}
+use Rattle.bus_rules.proofs.Sound.{sound-fresh}
 use Rattle.bus_call_specs.specs.Kept.{Kept, settled}
 use Rattle.bus_call_specs.specs.Lists.{callOf, finds, leftBy, isLent, Same, OctetValue, OctetValues, replied, notesTold, freshFound, lend}
 use Rattle.bus_call_specs.proofs.Fields.{periods-of}
-use Rattle.bus_call_specs.proofs.Fitting.{always-fit, in-order}
+use Rattle.bus_call_specs.proofs.Fitting.{sound-fits, in-order}
 use Rattle.bus_call_specs.proofs.Lists.{fresh-carries, lists-carried}
 use Rattle.report.specs.Report.{refusedNotes, bookNotes, allBookNotes}
 use Rattle.report.specs.Told.{done, refusedTold, bookTold, allBookTold, ToldRight, FreshReady}
@@ -53,10 +54,9 @@ told-same (c ∷ more) k e b v s =
 
 -- ---- the fresh record
 pub fresh-ready : FreshReady
-unfolding afterAll
 fresh-ready images octets letters i o l =
     let k = freshFound images octets letters in
-    order-ready k (in-order k freshBus (fresh-carries images octets letters i o l) (always-fit []))
+    order-ready k (in-order k freshBus (fresh-carries images octets letters i o l) (sound-fits freshBus sound-fresh))
 
 pub told-right : ToldRight
 unfolding settled

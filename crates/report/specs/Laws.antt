@@ -12,6 +12,7 @@ use Rattle.bus_rules.specs.Calls.{Call, reply, after, afterAll}
 use Rattle.bus_rules.specs.Calls.Call.{period}
 use Rattle.bus_rules.specs.Stretch.{Stretch}
 use Rattle.bus_rules.specs.Claims.{Claimed}
+use Rattle.bus_rules.specs.Sound.{Sound}
 use Rattle.bus_call_specs.specs.Lists.{OctetValues}
 use Rattle.report.specs.Report.{bookCalls}
 
@@ -46,8 +47,15 @@ abbrev pub BooksOctets : Type 0
 BooksOctets = (book : List ℕ) → OctetValues (bookCalls book)
 
 -- Demand 3 speaks of every book: of every stretch of its calls (crate `bus_rules`,
--- specs/Claims.antt).
-abbrev pub BookCalls : Type 0
-BookCalls =
+-- specs/Claims.antt), where the first of them finds the bus b.
+abbrev pub ClaimedOfBooks : Bus → Type 0
+ClaimedOfBooks b =
     (book : List ℕ) (before during after : List Call) → bookCalls book ≡ before ++ (during ++ after)
-    → Stretch (afterAll freshBus before) during → Claimed before during after
+    → Stretch (afterAll b before) during → Claimed b before during after
+
+-- "a fresh bus"; and any sound one (crate `bus_rules`, specs/Sound.antt)
+abbrev pub BookCalls : Type 0
+BookCalls = ClaimedOfBooks freshBus
+
+abbrev pub BookCallsFrom : Type 0
+BookCallsFrom = (b : Bus) → Sound b → ClaimedOfBooks b
