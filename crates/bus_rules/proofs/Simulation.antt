@@ -28,12 +28,12 @@ use Rattle.terminal.specs.declared.TerminalStep.{TerminalStep}
 use Rattle.terminal.proofs.Laws.{AccessByState, switches-on-access, switches-off-access, requests-access, hears-access, timer-keeps-F7, timer-keeps-access}
 use Rattle.bus_rules.specs.Bus.{Station, Bus, terminals, freshStation}
 use Rattle.bus_rules.specs.Exchange.{Opportunity, inF7, stationsOf, onward, begins, opportunitiesOf, exchanged, wholeDown, wholeUp}
+use Rattle.bus_rules.specs.BusChannel.{contenderOf, contendersOf, channelOf, Imaged, AllImaged}
 use Rattle.bus_rules.specs.Period.{readingAfter, networkHears, terminalHears, stepped, heardBy, timed, periodRun}
 use Rattle.bus_rules.specs.Event.{stationOf, classOf, eventFor, bars, givesFrame, callReasons, stateReasons, reasons, refusal, networkDoes, networkDone, hitGiven, terminalDoes, withFrame, stationAfter, stationDone, eventDone}
 use Rattle.notes_and_cells.specs.Events.{ON, OFF, D1, D2, HIT}
 use Rattle.bus_rules.specs.Calls.{Call, reply, does, after, afterAll}
 use Rattle.bus_rules.specs.Calls.Call.{event, period}
-use Rattle.bus_rules.specs.BusChannel.{contenderOf, contendersOf, channelOf, Imaged, AllImaged}
 use Rattle.bus_rules.proofs.Refusals.{accepted-holds}
 use Rattle.bus_rules.proofs.Stations.{Each, stations-stationed, each-onward, each-begins, each-period, each-event}
 use Rattle.bus_rules.proofs.Mapping.{channelAt, imaged-turned, actionAt, channel-onward}

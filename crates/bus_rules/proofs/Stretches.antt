@@ -21,13 +21,13 @@ use Rattle.network.proofs.Laws.{timers-keep-G3}
 use Rattle.terminal.proofs.Laws.{timer-keeps-F7}
 use Rattle.bus_rules.specs.Bus.{Station, Hit, Bus, freshStation, stationAt}
 use Rattle.bus_rules.specs.Exchange.{Opportunity, inF7, inG3, stationsOf, anyInfo1, eComes, dComes, sendersAfter, onward, begins, opportunitiesOf, exchanged, wholeDown, wholeUp}
+use Rattle.bus_rules.specs.BusChannel.{contenderOf, contendersOf, channelOf, AllImaged}
 use Rattle.bus_rules.specs.Period.{networkHears, terminalHears, stepped, heardBy, timed, periodRun}
 use Rattle.bus_rules.specs.Event.{stationOf, classOf, refusal, networkDoes, networkDone, terminalDoes, stationAfter, stationDone, eventDone}
 use Rattle.notes_and_cells.specs.Events.{HIT}
 use Rattle.bus_rules.specs.Calls.{Call, reply, does, after}
 use Rattle.bus_rules.specs.Calls.Call.{event, period}
 use Rattle.bus_rules.specs.Stretch.{stationThen, Undisturbed, Stays, Calm, Stretch, opportunitiesOfCall, opportunitiesIn}
-use Rattle.bus_rules.specs.BusChannel.{contenderOf, contendersOf, channelOf, AllImaged}
 use Rattle.bus_rules.specs.Quick.{InStep}
 use Rattle.bus_rules.proofs.Quick.{state-turned, info1-hears, one-more, in-step-stationed, in-step-hears}
 use Rattle.bus_rules.proofs.Stations.{stations-stationed, station-begins, station-onward, station-heard, station-timed}
