@@ -17,7 +17,7 @@ use Rattle.book_reader.specs.declared.step.Step.{Step}
 use Rattle.note_text.proofs.RoomLaws.{put-length, take-laid, drop-laid}
 use Rattle.period_text.specs.PeriodText.{periodRoom}
 use Rattle.report.specs.Told.{Ready}
-use Rattle.report.specs.Ahead.{BookState, Sound, TEXT, ROOM, OVER, Stopped}
+use Rattle.report.specs.Ahead.{BookState, ReadyState, TEXT, ROOM, OVER, Stopped}
 use Rattle.report.proofs.Order.{stays-ready}
 use Rattle.book_go_on.specs.Progress.{freshProgress, bookStateOf, reason}
 use Rattle.book_go_on.specs.Steps.{Moves, toDo, Steps}
@@ -27,7 +27,7 @@ use Rattle.book_go_on.specs.declared.progress.GoneOn.{GoneOn}
 use Rattle.book_go_on.proofs.Moving.{moves-none, moves-then}
 
 -- ---- Where nothing is refused.
-pub accepted-sound : (s : BookState) → reason s ≡ 0 → Sound s
+pub accepted-sound : (s : BookState) → reason s ≡ 0 → ReadyState s
 unfolding reason
 accepted-sound s e = e
 
@@ -56,7 +56,7 @@ module _ (p : Progress) (images octets letters : List ℕ) where
 
 -- ---- Before each turn.
 pub record Going (text : List ℕ) (whole : Bool) (s₀ : BookState) (room₀ : List ℕ) (s : BookState) (at : ℕ) (room : List ℕ) (wrote why : ℕ) : Type 0 where
-  pub sound : Sound s₀
+  pub sound : ReadyState s₀
   pub moves : Moves text whole s₀ 0 room₀ 0 s at room wrote
   pub for-text : why ≡ TEXT
       → (whole ≡ false) × (s .over ≡ false) × (s .begun ≡ true)
@@ -66,7 +66,7 @@ pub record Going (text : List ℕ) (whole : Bool) (s₀ : BookState) (room₀ : 
   pub over-said : (why ≡ 0 → ⊥) → s .over ≡ true → why ≡ OVER
   pub listed : why ≤ OVER
 
-pub going-first : (text : List ℕ) (whole : Bool) (s : BookState) (room : List ℕ) → Sound s → Going text whole s room s 0 room 0 0
+pub going-first : (text : List ℕ) (whole : Bool) (s : BookState) (room : List ℕ) → ReadyState s → Going text whole s room s 0 room 0 0
 going-first text whole s room g =
     record {
       sound = g;

@@ -5,7 +5,7 @@ use mathlib.Core.Bool.{Bool}
 use mathlib.Core.List.{List}
 use mathlib.Core.Path.{_≡_}
 use Prim.Native.Nat.{ℕ}
-use Rattle.report.specs.Ahead.{BookState, fresh, Sound, Stopped}
+use Rattle.report.specs.Ahead.{BookState, fresh, ReadyState, Stopped}
 use Rattle.book_go_on.specs.Progress.{freshProgress, bookStateOf, reason}
 use Rattle.book_go_on.specs.declared.progress.Progress.{Progress}
 use Rattle.book_go_on.specs.declared.progress.GoneOn.{GoneOn}
@@ -32,4 +32,4 @@ abbrev pub FreshBookState : Type 0
 FreshBookState = (images octets letters : List ℕ) → bookStateOf freshProgress images octets letters ≡ fresh images octets letters
 
 abbrev pub NeverRefused : Type 0
-NeverRefused = (s : BookState) → Sound s → reason s ≡ 0
+NeverRefused = (s : BookState) → ReadyState s → reason s ≡ 0

@@ -9,7 +9,7 @@ use Rattle.hdlc.proofs.ImageLaws.{length-image}
 use Rattle.dchannel.specs.Access.{normal1, normal2}
 use Rattle.contention.specs.Channel.{freshChannel}
 use Rattle.contention.specs.Stretch.{contender}
-use Rattle.contention.specs.Invariant.{Sound as SoundContender}
+use Rattle.contention.specs.Invariant.{SoundContender}
 use Rattle.contention.proofs.Crossing.{contender-map}
 use Rattle.contention.proofs.InvariantKept.{invariant-fresh, invariant-after}
 use Rattle.bus_rules.specs.Bus.{Bus, terminals, freshStation, freshBus, stationAt}

@@ -11,7 +11,7 @@ use Rattle.contention.specs.Channel.{Contender, Channel, Action, step}
 use Rattle.contention.specs.Channel.Action.{hand, enter, leave, clear, opportunity}
 use Rattle.contention.specs.Stretch.{Stretch, opportunities, onward}
 use Rattle.contention.specs.Claims.{at, opps}
-use Rattle.contention.specs.Invariant.{Sound, Invariant}
+use Rattle.contention.specs.Invariant.{SoundContender, Invariant}
 use Rattle.contention.proofs.InvariantKept.{Quiet, sending-holds}
 use Rattle.contention.proofs.Trace.{invariant-at, invariant-past, quiet-at}
 
@@ -23,7 +23,7 @@ pub record Frame (s : Contender) : Type 0 where
   pub whole : s .access .length ≡ length (image (s .body))
   pub part : s .access .sent ≤ length (image (s .body))
 
-pub frame : {x2 : ℕ} {s : Contender} → Sound x2 s → 1 ≤ s .access .sent → Frame s
+pub frame : {x2 : ℕ} {s : Contender} → SoundContender x2 s → 1 ≤ s .access .sent → Frame s
 frame {x2} {s} o h =
     let on : s .active ≡ true =
     by-test (s .active) (λ e. e) (λ e. absurd (let z : s .access .sent ≡ 0 = rw (o .outside e) refl in omega arith))

@@ -19,7 +19,7 @@ use Rattle.dchannel.specs.Handing.{takenUp, left}
 use Rattle.contention.specs.Channel.{Contender, Channel, Action, freshContender, freshChannel, mayHold, holding, entering, leaving, nextBit, accessStepAt, contenderAfterE, sendsD, step, run}
 use Rattle.contention.specs.Channel.Action.{hand, enter, leave, clear, opportunity}
 use Rattle.contention.specs.Stretch.{contender}
-use Rattle.contention.specs.Invariant.{Sound, Invariant}
+use Rattle.contention.specs.Invariant.{SoundContender, Invariant}
 use Rattle.contention.proofs.Change.{change-each, length-change}
 use Rattle.dchannel.proofs.AccessLaws.{count-most, count-up, count-zero}
 use Rattle.contention.proofs.Terminal.{Outcome, outcome, WentOn, Started, StartedAt, completed, went-on, stopped, started, idled, outside, hears-outside, active-after, body-after, count-after, level-threshold, level-least}
@@ -38,7 +38,7 @@ module _ (x1 x2 : ℕ) where
 -- ---- one terminal stays sound
 
 -- one that holds nothing and has all at its start
-pub sound-fresh : (x2 : ℕ) (s : Contender) → s .access ≡ fresh → Sound x2 s
+pub sound-fresh : (x2 : ℕ) (s : Contender) → s .access ≡ fresh → SoundContender x2 s
 sound-fresh x2 s q =
     record {
       counted = rw q (omega arith);
@@ -51,11 +51,11 @@ sound-fresh x2 s q =
     }
 
 -- A terminal s that becomes s′ at E in F7: C follows E, and the held frame stays, or is completed.
-module _ {x2 : ℕ} (e : Bool) {s s′ : Contender} (h : Sound x2 s) (act : s′ .active ≡ s .active) (bod : s′ .body ≡ s .body)
+module _ {x2 : ℕ} (e : Bool) {s s′ : Contender} (h : SoundContender x2 s) (act : s′ .active ≡ s .active) (bod : s′ .body ≡ s .body)
     (cnt : s .active ≡ true → s′ .access .count ≡ countAfter x2 e (s .access .count)) where
   sound-kept : s .active ≡ true → s′ .access .held ≡ s .access .held → s′ .access .length ≡ s .access .length
       → (s .access .held ≡ 0 → s′ .access .sent ≡ 0) → s′ .access .sent ≤ s′ .access .length
-      → ((n : ℕ) → s′ .access .sent ≡ suc n → s′ .access .last ≡ getD (image (s .body)) n true) → Sound x2 s′
+      → ((n : ℕ) → s′ .access .sent ≡ suc n → s′ .access .last ≡ getD (image (s .body)) n true) → SoundContender x2 s′
   sound-kept on held len none part last =
       record {
         counted = rw (cnt on) (count-most x2 e (s .access .count));
@@ -67,7 +67,7 @@ module _ {x2 : ℕ} (e : Bool) {s s′ : Contender} (h : Sound x2 s) (act : s′
         last-bit = λ n q. rw bod (last n q);
       }
 
-  sound-outcome : {x1 : ℕ} {d : Bool} {done : ℕ} → Outcome x1 x2 e s s′ d done → Sound x2 s′
+  sound-outcome : {x1 : ℕ} {d : Bool} {done : ℕ} → Outcome x1 x2 e s s′ d done → SoundContender x2 s′
   unfolding nextBit
   sound-outcome (completed r) =
       record {
@@ -92,13 +92,13 @@ module _ {x2 : ℕ} (e : Bool) {s s′ : Contender} (h : Sound x2 s) (act : s′
       sound-kept (r .in-F7) (r .held-now) (r .length-now) (λ _. r .sent-now) (omega arith) (λ n q. absurd (omega arith))
   sound-outcome (outside r) = rw (r .as-before) h
 
-pub sound-hears : (x1 x2 : ℕ) (e : Bool) (s : Contender) → Sound x2 s → Sound x2 (contenderAfterE x1 x2 e s)
+pub sound-hears : (x1 x2 : ℕ) (e : Bool) (s : Contender) → SoundContender x2 s → SoundContender x2 (contenderAfterE x1 x2 e s)
 sound-hears x1 x2 e s h =
     sound-outcome e h (active-after x1 x2 e s) (body-after x1 x2 e s)
     (count-after x1 x2 e s) (outcome x1 x2 e s)
 
 -- a terminal that is sending holds a frame
-pub sending-holds : (x2 : ℕ) (s : Contender) → Sound x2 s → 1 ≤ s .access .sent → 1 ≤ s .access .held
+pub sending-holds : (x2 : ℕ) (s : Contender) → SoundContender x2 s → 1 ≤ s .access .sent → 1 ≤ s .access .held
 sending-holds x2 s h k =
     by-test (leb 1 (s .access .held)) (λ l. leb-true 1 (s .access .held) l)
     (λ l. let z : s .access .held ≡ 0 = omega (arith, leb-false 1 (s .access .held) l) in absurd (omega (arith, h .none-held z)))
@@ -133,7 +133,7 @@ taken k body s h =
       of-octets = is-body body (right .1);
     }
 
-sound-holding : (x2 k : ℕ) (body : List ℕ) (s : Contender) → Sound x2 s → Sound x2 (holding k body s)
+sound-holding : (x2 k : ℕ) (body : List ℕ) (s : Contender) → SoundContender x2 s → SoundContender x2 (holding k body s)
 unfolding holding takenUp
 sound-holding x2 k body s h =
     by-test (mayHold k body s)
@@ -158,13 +158,13 @@ pub entering-outside : (s : Contender) → s .active ≡ false → entering s �
 unfolding entering
 entering-outside s h = rw h
 
-sound-entering : (x2 : ℕ) (s : Contender) → Sound x2 s → Sound x2 (entering s)
+sound-entering : (x2 : ℕ) (s : Contender) → SoundContender x2 s → SoundContender x2 (entering s)
 unfolding entered
 sound-entering x2 s h =
     by-test (s .active) (λ m. rw (entering-active s m) h)
     (λ m. rw (entering-outside s m) (sound-fresh x2 (record { active = true; access = entered (s .access); body = s .body }) (ap entered (h .outside m))))
 
-sound-leaving : (x2 : ℕ) (s : Contender) → Sound x2 (leaving s)
+sound-leaving : (x2 : ℕ) (s : Contender) → SoundContender x2 (leaving s)
 unfolding leaving left
 sound-leaving x2 s = sound-fresh x2 (leaving s) refl
 
@@ -181,7 +181,7 @@ pub quietly-same : (s : Contender) → Quietly s s
 quietly-same s =
     record { kept = λ _. refl; sent-same = refl; count-same = refl; low1-same = refl; low2-same = refl; stays = λ h. h }
 
-quietly-holding : (x2 k : ℕ) (body : List ℕ) (s : Contender) → Sound x2 s → Quietly s (holding k body s)
+quietly-holding : (x2 k : ℕ) (body : List ℕ) (s : Contender) → SoundContender x2 s → Quietly s (holding k body s)
 unfolding holding takenUp
 quietly-holding x2 k body s h =
     by-test (mayHold k body s)
@@ -197,7 +197,7 @@ quietly-holding x2 k body s h =
     }))
     (λ m. rw m (quietly-same s))
 
-quietly-entering : (x2 : ℕ) (s : Contender) → Sound x2 s → Quietly s (entering s)
+quietly-entering : (x2 : ℕ) (s : Contender) → SoundContender x2 s → Quietly s (entering s)
 unfolding entered
 quietly-entering x2 s h =
     by-test (s .active) (λ m. rw (entering-active s m) (quietly-same s))
@@ -219,7 +219,7 @@ record Less (s s′ : Contender) : Type 0 where
   count-less : s′ .access .count ≤ s .access .count
   sending-same : 1 ≤ s′ .access .sent → (s′ .access .sent ≡ s .access .sent) × (s′ .body ≡ s .body)
 
-less-quietly : (x2 : ℕ) (s s′ : Contender) → Sound x2 s → Quietly s s′ → Less s s′
+less-quietly : (x2 : ℕ) (s s′ : Contender) → SoundContender x2 s → Quietly s s′ → Less s s′
 less-quietly x2 s s′ h q =
     record {
       count-less = omega arith;
@@ -230,7 +230,7 @@ less-leaving : (s : Contender) → Less s (leaving s)
 unfolding leaving left
 less-leaving s = record { count-less = omega arith; sending-same = λ k. absurd (omega arith) }
 
-less-kept : (x2 : ℕ) (c c′ : Channel) → Invariant x2 c → ((i : ℕ) → Sound x2 (contender i c′)) → ((i : ℕ) → Less (contender i c) (contender i c′)) → Invariant x2 c′
+less-kept : (x2 : ℕ) (c c′ : Channel) → Invariant x2 c → ((i : ℕ) → SoundContender x2 (contender i c′)) → ((i : ℕ) → Less (contender i c) (contender i c′)) → Invariant x2 c′
 less-kept x2 c c′ inv snd less =
     record {
       sound = snd;
@@ -278,7 +278,7 @@ module _ (x1 x2 : ℕ) where
       record {
         heard-same = refl;
         as-many = length-change (holding k body) i (c .contenders);
-        each = λ j. change-each (holding k body) freshContender (λ s s′. Sound x2 s → Quietly s s′) (λ s _. quietly-same s) (λ s. quietly-holding x2 k body s) i (c .contenders) j (inv .sound j);
+        each = λ j. change-each (holding k body) freshContender (λ s s′. SoundContender x2 s → Quietly s s′) (λ s _. quietly-same s) (λ s. quietly-holding x2 k body s) i (c .contenders) j (inv .sound j);
       }
 
   pub quiet-enter : (c : Channel) (i : ℕ) → Invariant x2 c → Quiet c (step x1 x2 c (enter i))
@@ -287,7 +287,7 @@ module _ (x1 x2 : ℕ) where
       record {
         heard-same = refl;
         as-many = length-change entering i (c .contenders);
-        each = λ j. change-each entering freshContender (λ s s′. Sound x2 s → Quietly s s′) (λ s _. quietly-same s) (λ s. quietly-entering x2 s) i (c .contenders) j (inv .sound j);
+        each = λ j. change-each entering freshContender (λ s s′. SoundContender x2 s → Quietly s s′) (λ s _. quietly-same s) (λ s. quietly-entering x2 s) i (c .contenders) j (inv .sound j);
       }
 
   quiet-less : (c c′ : Channel) → Invariant x2 c → Quiet c c′ → (i : ℕ) → Less (contender i c) (contender i c′)
@@ -297,21 +297,21 @@ module _ (x1 x2 : ℕ) where
   unfolding step contender
   invariant-hand c i k body inv =
       less-kept x2 c (step x1 x2 c (hand i k body)) inv
-      (λ j. change-each (holding k body) freshContender (λ s s′. Sound x2 s → Sound x2 s′) (λ s h. h) (λ s. sound-holding x2 k body s) i (c .contenders) j (inv .sound j))
+      (λ j. change-each (holding k body) freshContender (λ s s′. SoundContender x2 s → SoundContender x2 s′) (λ s h. h) (λ s. sound-holding x2 k body s) i (c .contenders) j (inv .sound j))
       (quiet-less c (step x1 x2 c (hand i k body)) inv (quiet-hand c i k body inv))
 
   invariant-enter : (c : Channel) (i : ℕ) → Invariant x2 c → Invariant x2 (step x1 x2 c (enter i))
   unfolding step contender
   invariant-enter c i inv =
       less-kept x2 c (step x1 x2 c (enter i)) inv
-      (λ j. change-each entering freshContender (λ s s′. Sound x2 s → Sound x2 s′) (λ s h. h) (λ s. sound-entering x2 s) i (c .contenders) j (inv .sound j))
+      (λ j. change-each entering freshContender (λ s s′. SoundContender x2 s → SoundContender x2 s′) (λ s h. h) (λ s. sound-entering x2 s) i (c .contenders) j (inv .sound j))
       (quiet-less c (step x1 x2 c (enter i)) inv (quiet-enter c i inv))
 
   invariant-leave : (c : Channel) (i : ℕ) → Invariant x2 c → Invariant x2 (step x1 x2 c (leave i))
   unfolding step contender
   invariant-leave c i inv =
       less-kept x2 c (step x1 x2 c (leave i)) inv
-      (λ j. change-each leaving freshContender (λ s s′. Sound x2 s → Sound x2 s′) (λ s h. h) (λ s h. sound-leaving x2 s) i (c .contenders) j (inv .sound j))
+      (λ j. change-each leaving freshContender (λ s s′. SoundContender x2 s → SoundContender x2 s′) (λ s h. h) (λ s h. sound-leaving x2 s) i (c .contenders) j (inv .sound j))
       (λ j. change-each leaving freshContender Less (λ s. record { count-less = omega arith; sending-same = λ _. (refl, refl) }) less-leaving i (c .contenders) j)
 
   invariant-clear : (c : Channel) → Invariant x2 c → Invariant x2 (step x1 x2 c clear)
@@ -327,7 +327,7 @@ module _ (x1 x2 : ℕ) (e : Bool) where
       (λ out. rw (hears-outside x1 x2 e s out) (omega arith))
 
 -- an E of 0 sets every C to 0
-pub zero-clears : (x1 x2 : ℕ) (s : Contender) → Sound x2 s → contenderAfterE x1 x2 false s .access .count ≡ 0
+pub zero-clears : (x1 x2 : ℕ) (s : Contender) → SoundContender x2 s → contenderAfterE x1 x2 false s .access .count ≡ 0
 zero-clears x1 x2 s h =
     by-test (s .active) (λ act. rw (count-after x1 x2 false s act) (count-zero x2 (s .access .count)))
     (λ out. rw (hears-outside x1 x2 false s out) (ap (λ (a : Access). a .count) (h .outside out)))
@@ -338,7 +338,7 @@ pub data Sender (x1 x2 : ℕ) (e : Bool) (s s′ : Contender) (d : Bool) (done :
   starting : Started x1 x2 e s s′ d done → Sender x1 x2 e s s′ d done
 
 module _ {x1 x2 : ℕ} {e : Bool} {s s′ : Contender} {d : Bool} {done : ℕ} where
-  sender-of : Sound x2 s → 1 ≤ s′ .access .sent → Outcome x1 x2 e s s′ d done
+  sender-of : SoundContender x2 s → 1 ≤ s′ .access .sent → Outcome x1 x2 e s s′ d done
       → Sender x1 x2 e s s′ d done
   sender-of snd h (completed r) = absurd (omega arith)
   sender-of snd h (went-on r) = going r
@@ -351,7 +351,7 @@ module _ {x1 x2 : ℕ} {e : Bool} {s s′ : Contender} {d : Bool} {done : ℕ} w
 abbrev pub SenderAt : ℕ → ℕ → Bool → Contender → Type 0
 SenderAt x1 x2 e s = Sender x1 x2 e s (contenderAfterE x1 x2 e s) (sendsD x1 x2 e s) (accessStepAt x1 x2 e s .done)
 
-pub sender : (x1 x2 : ℕ) (e : Bool) (s : Contender) → Sound x2 s → 1 ≤ contenderAfterE x1 x2 e s .access .sent → SenderAt x1 x2 e s
+pub sender : (x1 x2 : ℕ) (e : Bool) (s : Contender) → SoundContender x2 s → 1 ≤ contenderAfterE x1 x2 e s .access .sent → SenderAt x1 x2 e s
 sender x1 x2 e s snd h = sender-of snd h (outcome x1 x2 e s)
 
 module _ (x1 x2 : ℕ) (c : Channel) (inv : Invariant x2 c) where

@@ -14,7 +14,7 @@ use Rattle.contention.specs.Channel.{Contender, Channel, Action, freshCo
 use Rattle.contention.specs.Channel.Action.{hand, enter, leave, clear, opportunity}
 use Rattle.contention.specs.Stretch.{Calm, Stretch, onward, opportunities, contender, howMany, activeCount}
 use Rattle.contention.specs.Claims.{at, opps}
-use Rattle.contention.specs.Invariant.{Sound, Invariant}
+use Rattle.contention.specs.Invariant.{SoundContender, Invariant}
 use Rattle.hdlc.proofs.ImageLaws.{image-starts}
 use Rattle.contention.proofs.Terminal.{Outcome, outcome, completed, went-on, stopped, started, idled, outside, active-after}
 use Rattle.contention.proofs.InvariantKept.{Sender, sender, going, starting, sending-holds, Quiet, quiet-same, quiet-then, quiet-hand, quiet-enter, contender-hears, length-hears, invariant-step}
@@ -130,7 +130,7 @@ module _ {c : Channel} (e : Echo c) where
   echo-idle z = by-test (c .heardD) (λ q. q) (λ q. let p = e .zero-sent q in absurd (omega (arith, p .1, z (p .0))))
 
   -- the E after a start is 0
-  pub echo-first : {x2 : ℕ} (i : ℕ) → Sound x2 (contender i c) → contender i c .access .sent ≡ 1 → c .heardD ≡ false
+  pub echo-first : {x2 : ℕ} (i : ℕ) → SoundContender x2 (contender i c) → contender i c .access .sent ≡ 1 → c .heardD ≡ false
   echo-first i snd q = e .zero-heard i (omega arith) (snd .last-bit 0 q ∙ image-starts (contender i c .body))
 
 module _ {x1 x2 : ℕ} {e : Bool} {s s′ : Contender} {d : Bool} {done : ℕ} where

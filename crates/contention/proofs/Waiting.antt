@@ -11,14 +11,14 @@ use Rattle.hdlc.proofs.ImageLaws.{image-ends, image-endingOnes}
 use Rattle.dchannel.specs.Access.{lowOf}
 use Rattle.contention.specs.Channel.{Contender, Channel, accessStepAt, contenderAfterE}
 use Rattle.contention.specs.Stretch.{onward, contender, Waits, Completes}
-use Rattle.contention.specs.Invariant.{Sound, Invariant}
+use Rattle.contention.specs.Invariant.{SoundContender, Invariant}
 use Rattle.dchannel.proofs.AccessLaws.{count-mono}
 use Rattle.contention.proofs.Terminal.{Outcome, outcome, OutcomeAt, CompletedAt, Completed, completed, went-on, stopped, started, idled, outside, active-after, count-after, hears-outside, level, threshold-normal, threshold-of, normal-stays}
 use Rattle.contention.proofs.InvariantKept.{SenderAt, going, starting, nobody-starts, sending-holds, Quietly, Quiet, hears-count-up, zero-clears}
 use Rattle.contention.proofs.Trace.{onward-contender, Echo, echo-agrees}
 
 -- the last bit of an image is a 0
-pub whole-zero : (x2 : ℕ) (s : Contender) → Sound x2 s → 1 ≤ s .access .sent → s .access .length ≤ s .access .sent → s .access .last ≡ false
+pub whole-zero : (x2 : ℕ) (s : Contender) → SoundContender x2 s → 1 ≤ s .access .sent → s .access .length ≤ s .access .sent → s .access .last ≡ false
 whole-zero x2 s h k w =
     let f = h .frame-held (sending-holds x2 s h k) in
     let n : s .access .sent ≡ suc (length (image (s .body)) - 1) = omega (arith, f .1, h .sent-part) in

@@ -12,7 +12,7 @@ use Rattle.contention.specs.Channel.{Contender, Channel}
 use Rattle.contention.specs.Stretch.{contender}
 
 -- one terminal's record is in order
-pub record Sound (x2 : ℕ) (s : Contender) : Type 0 where
+pub record SoundContender (x2 : ℕ) (s : Contender) : Type 0 where
   -- C is at most the low value of class 2
   pub counted : s .access .count ≤ x2 + 1
   -- outside F7 no frame is held and both levels are normal
@@ -25,7 +25,7 @@ pub record Sound (x2 : ℕ) (s : Contender) : Type 0 where
   pub last-bit : (n : ℕ) → s .access .sent ≡ suc n → s .access .last ≡ getD (image (s .body)) n true
 
 pub record Invariant (x2 : ℕ) (c : Channel) : Type 0 where
-  pub sound : (i : ℕ) → Sound x2 (contender i c)
+  pub sound : (i : ℕ) → SoundContender x2 (contender i c)
   -- all that are sending have sent equally many bits, and all but the last of these are equal
   pub in-phase : (i j : ℕ) → 1 ≤ contender i c .access .sent → 1 ≤ contender j c .access .sent →
       (contender i c .access .sent ≡ contender j c .access .sent) ×

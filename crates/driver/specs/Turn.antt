@@ -12,7 +12,7 @@ use Rattle.bus_event.specs.Event.{imagesRoom, areLetters}
 use Rattle.book_line.specs.Line.{longestLine}
 use Rattle.book_reader.specs.Parts.{joined}
 use Rattle.period_text.specs.PeriodText.{periodRoom}
-use Rattle.report.specs.Ahead.{BookState, Sound, Stopped, TEXT, OVER}
+use Rattle.report.specs.Ahead.{BookState, ReadyState, Stopped, TEXT, OVER}
 use Rattle.report.specs.Report.{report}
 use Rattle.book_go_on.specs.Progress.{bookStateOf, freshProgress}
 use Rattle.driver.specs.declared.turn.Held.{Held}
@@ -49,7 +49,7 @@ pub record Turned (most : ℕ) (h : Held) (text room images octets letters : Lis
 -- What holds before every turn: no call will be refused, what is in hand is there, and where text
 -- is needed less than a line is in hand, so that a read is offered room.
 pub record Going (h : Held) (text images octets letters : List ℕ) : Type 0 where
-  pub sound : Sound (heldState h images octets letters)
+  pub sound : ReadyState (heldState h images octets letters)
   pub within : h .have ≤ length text
   pub few : h .why ≡ TEXT → h .have < longestLine
 

@@ -17,7 +17,7 @@ use Rattle.bus_octets.specs.Layout.{flag, busOctets, busLength, isBus}
 use Rattle.bus_octets.proofs.Exact.{exact}
 use Rattle.bus_octets.proofs.RoundTrip.{flag-back, round-trip}
 use Rattle.host_steps.proofs.Laws.{zeros-long, zeros-are-letters}
-use Rattle.report.specs.Ahead.{BookState, fresh, Sound}
+use Rattle.report.specs.Ahead.{BookState, fresh, ReadyState}
 use Rattle.report.proofs.Driving.{written-right, fresh-sound}
 use Rattle.host_book.specs.Octets.{bookLength, bookOctets, bookStateIn, isBook}
 use Rattle.host_book.specs.Laws.{BookStored, Settled, BookRoundTrip, BookExact}
@@ -75,7 +75,7 @@ flag-small false = omega arith
 behind : (a b : List ℕ) (m i n : ℕ) → length a ≡ m → i ≡ m + n → getD (a ++ b) i 0 ≡ getD b n 0
 behind a b m i n e p = let q : i ≡ length a + n = omega arith in rw q (getD-append-add a b n 0)
 
-module _ (s : BookState) (sound : Sound s) (settled : Settled s) (long : length (s .kept .octets) ≡ longestBody) where
+module _ (s : BookState) (sound : ReadyState s) (settled : Settled s) (long : length (s .kept .octets) ≡ longestBody) where
   abbrev bus : List ℕ
   bus = busOctets (s .kept)
 

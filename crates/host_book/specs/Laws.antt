@@ -9,7 +9,7 @@ use Prim.Native.Nat.{ℕ}
 use lib.ListN.{length}
 use Rattle.hdlc.specs.Image.{longestBody}
 use Rattle.bus_call_specs.specs.Kept.{found}
-use Rattle.report.specs.Ahead.{BookState, Sound}
+use Rattle.report.specs.Ahead.{BookState, ReadyState}
 use Rattle.host_book.specs.Octets.{bookOctets, bookStateIn, isBook}
 
 pub record BookStored (s : BookState) : Type 0 where
@@ -21,11 +21,11 @@ abbrev pub Settled : BookState → Type 0
 Settled s = s .kept ≡ found (s .kept .bus) (s .kept .terminals) (s .kept .images) (s .kept .octets) (s .kept .letters)
 
 abbrev pub BookRoundTrip : Type 0
-BookRoundTrip = (s : BookState) → Sound s → Settled s → length (s .kept .octets) ≡ longestBody → BookStored s
+BookRoundTrip = (s : BookState) → ReadyState s → Settled s → length (s .kept .octets) ≡ longestBody → BookStored s
 
 pub record BookShown (b : List ℕ) : Type 0 where
   pub stored-is : bookOctets (bookStateIn b) ≡ b
-  pub sound : Sound (bookStateIn b)
+  pub sound : ReadyState (bookStateIn b)
   pub octets-fit : length (bookStateIn b .kept .octets) ≡ longestBody
 
 abbrev pub BookExact : Type 0

@@ -15,7 +15,7 @@ use Rattle.book_reader.specs.declared.step.Step.{Step}
 use Rattle.book_reader.proofs.Cut.{call-law}
 use Rattle.period_text.specs.PeriodText.{periodRoom}
 use Rattle.report.specs.Report.{callsOfAnswers, report, bookCalls}
-use Rattle.report.specs.Ahead.{BookState, answersAhead, callsAhead, textAhead, TEXT, ROOM, OVER, Advanced, Stopped, TextFew, Driven, WrittenRight, Ending, NoneGoesOn, Sound, FreshSound, StaysSound, OneCall, EveryCall, Ends, DriverEnds}
+use Rattle.report.specs.Ahead.{BookState, answersAhead, callsAhead, textAhead, TEXT, ROOM, OVER, Advanced, Stopped, TextFew, Driven, WrittenRight, Ending, NoneGoesOn, ReadyState, FreshSound, StaysSound, OneCall, EveryCall, Ends, DriverEnds}
 use Rattle.report.specs.Ahead.Ending.{ending}
 use Rattle.report.specs.Ahead.Driven.{over, emptied, filled, told}
 use Rattle.report.proofs.Books.{books-octets}
@@ -136,7 +136,7 @@ by-why (suc (suc (suc n))) go h t r o = o (omega arith)
 
 module _ (every : EveryCall) (room : List ℕ) (big : periodRoom ≤ length room) where
   -- a call, where what comes after it is known to end
-  module _ (s : BookState) (held : List ℕ) (o : Sound s) where
+  module _ (s : BookState) (held : List ℕ) (o : ReadyState s) where
     abbrev ThenEmptied : Bool → List (List ℕ) → Type 0
     ThenEmptied whole parts =
         (room′ : List ℕ) (s′ : BookState) (taken wrote : ℕ) → Stopped s held room whole s′ taken wrote ROOM room′ → Ends s′ (drop taken held) whole parts
@@ -185,7 +185,7 @@ module _ (every : EveryCall) (room : List ℕ) (big : periodRoom ≤ length room
         by-why (c .why) (c .stopped .goes-not-on) (c .stopped .listed)
         (on-filled part parts f c) (on-emptied false (part ∷ parts) e c) (on-over false (part ∷ parts) c)
 
-  comes : {s : BookState} {held : List ℕ} {whole : Bool} {parts : List (List ℕ)} → Ending s held whole parts → Sound s → Ends s held whole parts
+  comes : {s : BookState} {held : List ℕ} {whole : Bool} {parts : List (List ℕ)} → Ending s held whole parts → ReadyState s → Ends s held whole parts
   comes {s = s} {held = held} {whole = whole} {parts = parts} (ending e f t) o =
       on-call s held o whole parts
       (λ room′ s′ taken wrote g. comes (e room room′ s′ taken wrote big g) (stays-sound s s′ held room room′ whole taken wrote ROOM g o))

@@ -1,7 +1,7 @@
 -- Calls: a book that comes in parts, with lent room for its report: how far it has come, what is
 -- still ahead, and what one call may do.
 -- Interface: `BookState`, `fresh`, `callsAhead`, `textAhead`, `TEXT`, `ROOM`, `OVER`, `Stopped`,
--- `Driven`, `DrivenRight`, `Sound`. Assumes nothing.
+-- `Driven`, `DrivenRight`, `ReadyState`. Assumes nothing.
 use mathlib.Core.Bool.{Bool, true, false, cond}
 use mathlib.Core.List.{List, [], _∷_, _++_}
 use mathlib.Core.Path.{_≡_}
@@ -152,18 +152,18 @@ NoneGoesOn = (s : BookState) (held : List ℕ) (parts : List (List ℕ)) → End
 
 -- ---- No call of a driver is refused: at first everything is in order, and so it is after each
 -- call (proofs/Driving.antt).
-abbrev pub Sound : BookState → Type 0
-Sound s = Ready (s .kept)
+abbrev pub ReadyState : BookState → Type 0
+ReadyState s = Ready (s .kept)
 
 abbrev pub FreshSound : Type 0
 FreshSound =
     (images octets letters : List ℕ) → length images ≡ imagesRoom → longestBody ≤ length octets → areLetters letters ≡ true
-    → Sound (fresh images octets letters)
+    → ReadyState (fresh images octets letters)
 
 abbrev pub StaysSound : Type 0
 StaysSound =
     (s s′ : BookState) (text room room′ : List ℕ) (whole : Bool) (taken wrote why : ℕ)
-    → Stopped s text room whole s′ taken wrote why room′ → Sound s → Sound s′
+    → Stopped s text room whole s′ taken wrote why room′ → ReadyState s → ReadyState s′
 
 -- A call for every argument that is not refused.
 pub record OneCall (s : BookState) (text room : List ℕ) (whole : Bool) : Type 0 where
@@ -175,7 +175,7 @@ pub record OneCall (s : BookState) (text room : List ℕ) (whole : Bool) : Type 
   pub stopped : Stopped s text room whole after taken wrote why room-after
 
 abbrev pub EveryCall : Type 0
-EveryCall = (s : BookState) (text room : List ℕ) (whole : Bool) → Sound s → OneCall s text room whole
+EveryCall = (s : BookState) (text room : List ℕ) (whole : Bool) → ReadyState s → OneCall s text room whole
 
 pub record Ends (s : BookState) (held : List ℕ) (whole : Bool) (parts : List (List ℕ)) : Type 0 where
   pub written : List ℕ
@@ -187,4 +187,4 @@ pub record Ends (s : BookState) (held : List ℕ) (whole : Bool) (parts : List (
 abbrev pub DriverEnds : Type 0
 DriverEnds =
     EveryCall → (room : List ℕ) → periodRoom ≤ length room
-    → (s : BookState) (held : List ℕ) (parts : List (List ℕ)) → Sound s → Ends s held false parts
+    → (s : BookState) (held : List ℕ) (parts : List (List ℕ)) → ReadyState s → Ends s held false parts
