@@ -27,9 +27,9 @@ use Rattle.book_go_on.specs.declared.progress.GoneOn.{GoneOn}
 use Rattle.book_go_on.proofs.Moving.{moves-none, moves-then}
 
 -- ---- Where nothing is refused.
-pub accepted-sound : (s : BookState) → reason s ≡ 0 → ReadyState s
+pub accepted-ready : (s : BookState) → reason s ≡ 0 → ReadyState s
 unfolding reason
-accepted-sound s e = e
+accepted-ready s e = e
 
 pub never-refused : NeverRefused
 unfolding reason

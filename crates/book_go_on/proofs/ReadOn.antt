@@ -17,7 +17,7 @@ use Rattle.book_go_on.specs.Progress.{bookStateOf, reason, untaken, ende
 use Rattle.book_go_on.specs.Steps.{Steps, Reads, IsRead, StepsBy}
 use Rattle.book_go_on.specs.declared.progress.Progress.{Progress}
 use Rattle.book_go_on.specs.declared.progress.GoneOn.{GoneOn}
-use Rattle.book_go_on.proofs.Going.{Going, going-first, turnsLeft, going-ready, going-within, going-fits, going-on, going-less, going-stops, accepted-sound}
+use Rattle.book_go_on.proofs.Going.{Going, going-first, turnsLeft, going-ready, going-within, going-fits, going-on, going-less, going-stops, accepted-ready}
 
 module _ (p : Progress) (images octets letters text room : List ℕ) (whole : Bool) where
   abbrev start : BookState
@@ -28,7 +28,7 @@ module _ (p : Progress) (images octets letters text room : List ℕ) (whole : Bo
   GoesFrom w at images′ octets′ letters′ room′ = Going text whole start room (bookStateOf (w .progress) images′ octets′ letters′) at room′ (w .wrote) (w .why)
 
   pub goes-first : reason start ≡ 0 → (w : GoneOn) → w ≡ untaken p → (at : ℕ) → at ≡ 0 → GoesFrom w at images octets letters room
-  goes-first z w e at is = rw (e, is) (going-first text whole start room (accepted-sound start z))
+  goes-first z w e at is = rw (e, is) (going-first text whole start room (accepted-ready start z))
 
   module _ (w : GoneOn) (at : ℕ) (images₁ octets₁ letters₁ room₁ : List ℕ) (g : GoesFrom w at images₁ octets₁ letters₁ room₁) where
     abbrev stand : BookState

@@ -12,7 +12,7 @@ use Rattle.bus_event.specs.Event.{imagesRoom, areLetters}
 use Rattle.book_line.specs.Line.{longestLine}
 use Rattle.book_reader.specs.Rest.{restOf, kept}
 use Rattle.report.specs.Ahead.{Stopped, TEXT}
-use Rattle.report.proofs.Driving.{text-few, fresh-sound, stays-sound}
+use Rattle.report.proofs.Driving.{text-few, fresh-state-ready, state-stays-ready}
 use Rattle.book_go_on.specs.Progress.{bookStateOf, freshProgress}
 use Rattle.book_go_on.specs.GoOn.{GoesOn}
 use Rattle.book_go_on.proofs.Going.{never-refused}
@@ -63,7 +63,7 @@ pub goes-on : (most : ℕ) (h : Held) (text room images octets letters : List �
     → Going r text′ images′ octets′ letters′
 goes-on most h text room images octets letters r text′ room′ images′ octets′ letters′ g t =
     record {
-      sound = stays-sound _ _ _ _ _ _ _ _ _ (t .stopped) (g .sound);
+      sound = state-stays-ready _ _ _ _ _ _ _ _ _ (t .stopped) (g .sound);
       within = t .within;
       few = λ y.
           subst (λ (n : ℕ). n < longestLine)
@@ -79,7 +79,7 @@ any-letters = refl
 begins : (text images octets letters : List ℕ) → length images ≡ imagesRoom → longestBody ≤ length octets → areLetters letters ≡ true
     → Going first text images octets letters
 unfolding freshProgress
-begins text images octets letters i o l = record { sound = fresh-sound images octets letters i o l; within = omega arith; few = λ _. omega arith }
+begins text images octets letters i o l = record { sound = fresh-state-ready images octets letters i o l; within = omega arith; few = λ _. omega arith }
 
 pub starts : (text images octets letters : List ℕ) (p : Progress) → p ≡ freshProgress
     → length images ≡ imagesRoom → longestBody ≤ length octets → areLetters letters ≡ true

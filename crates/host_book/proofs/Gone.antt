@@ -20,7 +20,7 @@ use Rattle.note_text.specs.Room.{laid}
 use Rattle.report.specs.Told.{done, doneAll}
 use Rattle.report.specs.Ahead.{BookState, ReadyState, Stopped}
 use Rattle.report.proofs.Order.{order-done}
-use Rattle.report.proofs.Driving.{stays-sound}
+use Rattle.report.proofs.Driving.{state-stays-ready}
 use Rattle.book_go_on.specs.Progress.{bookStateOf, reason}
 use Rattle.book_go_on.specs.GoOn.{GoesOn}
 use Rattle.book_go_on.specs.declared.progress.Progress.{Progress}
@@ -144,7 +144,7 @@ module _ (b : List ℕ) (h : isBook b ≡ true) where
       let z : w .reply ≡ 0 = g .replies ∙ (ap reason e ∙ ready) in
       let left : BookState = bookStateOf (w .progress) images′ octets′ letters′ in
       let stop : Stopped (bookStateIn b) text report whole left (w .taken) (w .wrote) (w .why) report′ = rw e at (g .stops z) in
-      let sound : ReadyState left = stays-sound (bookStateIn b) left text report report′ whole (w .taken) (w .wrote) (w .why) stop ready in
+      let sound : ReadyState left = state-stays-ready (bookStateIn b) left text report report′ whole (w .taken) (w .wrote) (w .why) stop ready in
       let octets-long : length octets′ ≡ longestBody =
       ap (λ (x : Kept). length (x .octets)) (stop .went .left) ∙ (octets-done k (stop .went .made) order ∙ exact s (tested b h .bus) .octets-fit) in
       let b-is : b′ ≡ bookOctets left = bi ∙ laid-is (w .progress) images′ letters′ octets′ (in-order 0 (left .kept) sound) octets-long in

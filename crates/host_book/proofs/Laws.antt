@@ -18,7 +18,7 @@ use Rattle.bus_octets.proofs.Exact.{exact}
 use Rattle.bus_octets.proofs.RoundTrip.{flag-back, round-trip}
 use Rattle.host_steps.proofs.Laws.{zeros-long, zeros-are-letters}
 use Rattle.report.specs.Ahead.{BookState, fresh, ReadyState}
-use Rattle.report.proofs.Driving.{written-right, fresh-sound}
+use Rattle.report.proofs.Driving.{written-right, fresh-state-ready}
 use Rattle.host_book.specs.Octets.{bookLength, bookOctets, bookStateIn, isBook}
 use Rattle.host_book.specs.Laws.{BookStored, Settled, BookRoundTrip, BookExact}
 use Rattle.host_book.specs.Going.{freshBookState, freshBook, HostWritesRight, FreshIsBook}
@@ -124,14 +124,14 @@ book-round-trip s sound settled long = record { is-book = is-stored s sound sett
 fresh-stored : BookStored freshBookState
 fresh-stored =
     book-round-trip freshBookState
-    (fresh-sound (replicate imagesRoom 0) (replicate longestBody 0) (replicate lineLength 0) (zeros-long imagesRoom)
+    (fresh-state-ready (replicate imagesRoom 0) (replicate longestBody 0) (replicate lineLength 0) (zeros-long imagesRoom)
     (let e = zeros-long longestBody in omega arith) zeros-are-letters)
     refl (zeros-long longestBody)
 
 pub fresh-bus-long : length (busOctets (freshBookState .kept)) ≡ busLength
 fresh-bus-long =
     bus-long freshBookState
-    (fresh-sound (replicate imagesRoom 0) (replicate longestBody 0) (replicate lineLength 0) (zeros-long imagesRoom)
+    (fresh-state-ready (replicate imagesRoom 0) (replicate longestBody 0) (replicate lineLength 0) (zeros-long imagesRoom)
     (let e = zeros-long longestBody in omega arith) zeros-are-letters)
     refl (zeros-long longestBody)
 

@@ -15,7 +15,7 @@ use Rattle.book_reader.specs.declared.step.Step.{Step}
 use Rattle.book_reader.proofs.Cut.{call-law}
 use Rattle.period_text.specs.PeriodText.{periodRoom}
 use Rattle.report.specs.Report.{callsOfAnswers, report, bookCalls}
-use Rattle.report.specs.Ahead.{BookState, answersAhead, callsAhead, textAhead, TEXT, ROOM, OVER, Advanced, Stopped, TextFew, Driven, WrittenRight, Ending, NoneGoesOn, ReadyState, FreshSound, StaysSound, OneCall, EveryCall, Ends, DriverEnds}
+use Rattle.report.specs.Ahead.{BookState, answersAhead, callsAhead, textAhead, TEXT, ROOM, OVER, Advanced, Stopped, TextFew, Driven, WrittenRight, Ending, NoneGoesOn, ReadyState, FreshStateReady, StateStaysReady, OneCall, EveryCall, Ends, DriverEnds}
 use Rattle.report.specs.Ahead.Ending.{ending}
 use Rattle.report.specs.Ahead.Driven.{over, emptied, filled, told}
 use Rattle.report.proofs.Books.{books-octets}
@@ -119,11 +119,11 @@ pub none-goes-on : NoneGoesOn
 none-goes-on s held parts = falls (suc (toGo s held false parts)) s held false parts never (omega arith)
 
 -- ---- No call of a driver is refused.
-pub fresh-sound : FreshSound
-fresh-sound images octets letters i o l = fresh-ready images octets letters i o l
+pub fresh-state-ready : FreshStateReady
+fresh-state-ready images octets letters i o l = fresh-ready images octets letters i o l
 
-pub stays-sound : StaysSound
-stays-sound s s′ text room room′ whole taken wrote why g o = rw (g .went .left) (stays-ready (s .kept) (g .went .made) o)
+pub state-stays-ready : StateStaysReady
+state-stays-ready s s′ text room room′ whole taken wrote why g o = rw (g .went .left) (stays-ready (s .kept) (g .went .made) o)
 
 -- ---- Where there is a call for every argument, a driver comes to its end.
 
@@ -188,9 +188,9 @@ module _ (every : EveryCall) (room : List ℕ) (big : periodRoom ≤ length room
   comes : {s : BookState} {held : List ℕ} {whole : Bool} {parts : List (List ℕ)} → Ending s held whole parts → ReadyState s → Ends s held whole parts
   comes {s = s} {held = held} {whole = whole} {parts = parts} (ending e f t) o =
       on-call s held o whole parts
-      (λ room′ s′ taken wrote g. comes (e room room′ s′ taken wrote big g) (stays-sound s s′ held room room′ whole taken wrote ROOM g o))
+      (λ room′ s′ taken wrote g. comes (e room room′ s′ taken wrote big g) (state-stays-ready s s′ held room room′ whole taken wrote ROOM g o))
       (λ room′ s′ taken wrote part rest p g.
-      comes (f room room′ s′ taken wrote part rest p g) (stays-sound s s′ held room room′ whole taken wrote TEXT g o))
+      comes (f room room′ s′ taken wrote part rest p g) (state-stays-ready s s′ held room room′ whole taken wrote TEXT g o))
       (λ cut none. comes (t cut none) o)
 
 pub driver-ends : DriverEnds

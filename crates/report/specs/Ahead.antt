@@ -155,13 +155,13 @@ NoneGoesOn = (s : BookState) (held : List ℕ) (parts : List (List ℕ)) → End
 abbrev pub ReadyState : BookState → Type 0
 ReadyState s = Ready (s .kept)
 
-abbrev pub FreshSound : Type 0
-FreshSound =
+abbrev pub FreshStateReady : Type 0
+FreshStateReady =
     (images octets letters : List ℕ) → length images ≡ imagesRoom → longestBody ≤ length octets → areLetters letters ≡ true
     → ReadyState (fresh images octets letters)
 
-abbrev pub StaysSound : Type 0
-StaysSound =
+abbrev pub StateStaysReady : Type 0
+StateStaysReady =
     (s s′ : BookState) (text room room′ : List ℕ) (whole : Bool) (taken wrote why : ℕ)
     → Stopped s text room whole s′ taken wrote why room′ → ReadyState s → ReadyState s′
 
