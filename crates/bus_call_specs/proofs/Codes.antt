@@ -167,7 +167,7 @@ module _ (now : Periods) (t : Terminal) where
   of-step step h = by-test (terminalCalls.ready now t) (λ e. rw e (of-tables _ (h (now .0)))) (λ e. rw e no-codes)
 
   of-frame : (class : Class) (images : List ℕ) (i : ℕ) (body : List ℕ) → Codes (noted (parts.frameGiven class images i body t .notes))
-  unfolding parts.frameGiven parts.turnedDown terminalCalls.handOverCall
+  unfolding parts.frameGiven terminalCalls.handOverCall
   of-frame class images i body =
       by-test (eqb (parts.frameReason (length images) i (length body) t) 0)
       (λ e. rw e
@@ -178,7 +178,7 @@ module _ (now : Periods) (t : Terminal) where
 
   of-terminal : (number : ℕ) (images : List ℕ) (i : ℕ) (value : List ℕ)
       → Codes (noted (parts.terminalTold number images i value now t .notes))
-  unfolding parts.terminalTold parts.turnedDown
+  unfolding parts.terminalTold
   of-terminal number images i value =
       by-test (eqb number ON) (λ a. rw a (of-step terminal.switchesOn (λ p. terminal-laws.on-told p t)))
       (λ a. rw a (by-test (eqb number OFF) (λ b. rw b (of-step terminal.switchesOff (λ p. terminal-laws.off-told p t)))

@@ -11,12 +11,13 @@ use borrow.Author.Tests.{eqb-true, eqb-false, ltb-false}
 use Rattle.test_lemmas.proofs.ByCases.{by-test, clash}
 use Rattle.notes_and_cells.specs.Notes.{packedNotes, noted}
 use Rattle.hdlc.specs.Image.{image}
+use Rattle.terminal.specs.Terminal as terminal
 use Rattle.terminal.specs.Calls as terminalCalls
 use Rattle.terminal.specs.declared.Terminal.{Terminal}
 use Rattle.terminal.specs.declared.TerminalStep.{TerminalStep}
 use Rattle.terminal.proofs.Laws.{handed-over-called, hands-over-notes}
 use Rattle.bus_rules.specs.Bus.{Bus, terminals, notesOf}
-use Rattle.bus_rules.specs.Event.{stationOf, classOf, eventFor, callReasons, stateReasons, reasons, firstHolding, refusal, networkDoes, terminalDoes, eventDone, eventNotes}
+use Rattle.bus_rules.specs.Event.{stationOf, classOf, callReasons, stateReasons, reasons, firstHolding, refusal, networkDoes, terminalDoes, eventDone, eventNotes}
 use Rattle.notes_and_cells.specs.Events.{HIT}
 use Rattle.bus_rules.specs.Calls as bus
 use Rattle.bus_rules.specs.Calls.{Call}
@@ -25,7 +26,7 @@ use Rattle.bus_rules.proofs.Barred as barred
 use Rattle.bus_rules.proofs.Refusals.{first-append}
 use Rattle.bus_rules.proofs.Simulation.{Takes, accepted-frame}
 use Rattle.bus_rules.proofs.Ranges.{classGiven}
-use Rattle.bus_event.specs.Event.{areLetters, networkAsked, networkTold, imagePut, frameReason, turnedDown, frameGiven}
+use Rattle.bus_event.specs.Event.{areLetters, networkAsked, networkTold, imagePut, frameReason, frameGiven}
 use Rattle.bus_event.specs.Event as parts
 use Rattle.bus_event.specs.declared.event.Told.{Told}
 use Rattle.bus_call_specs.specs.Kept.{Kept, kept}
@@ -128,13 +129,12 @@ module _ (k : Kept) (b : Bus) (c : Carries k b) (unit number : ℕ) (value : Lis
         both-so false g h e = clash false e refl
 
     -- power and requests of a terminal
-    power-event : Fit b → bus.reply b call ≡ barred.replied b unit number value → eventFor unit number ≡ true → eqb unit 0 ≡ false → eqb (classOf number) 0 ≡ true →
-        Carried k b call
+    power-event : Fit b → bus.reply b call ≡ barred.replied b unit number value → eqb unit 0 ≡ false → eqb (classOf number) 0 ≡ true → Carried k b call
     unfolding parts.told barred.replied parts.imagesAfter eventNotes eventDone
-    power-event f r for-unit z none =
+    power-event f r z none =
         let d = no-frame number none in
         let step : TerminalStep = terminalDoes number (b .periods) (stationOf b unit .terminal) in
-        let here-is : here ≡ step = power-told k b c unit f number value none z for-unit in
+        let here-is : here ≡ step = power-told k b c unit f number value none in
         let does : bus.reply b call ≡ step .reply = r ∙ rw (z, none) in
         finish (rw (at-terminal z .0, here-is) (sym does))
         (λ t. (rw (at-terminal z .0, here-is, z, none), rw (at-terminal z .1, here-is, z, d .0, d .1) (power-carried k b c unit f number value none)))
@@ -142,7 +142,7 @@ module _ (k : Kept) (b : Bus) (c : Carries k b) (unit number : ℕ) (value : Lis
     -- a frame
     frame-event : Fit b → bus.reply b call ≡ barred.replied b unit number value → ((i : ℕ) → getD value i 0 < 256) → ltb terminals unit ≡ false →
         eqb unit 0 ≡ false → eqb (classOf number) 0 ≡ false → Carried k b call
-    unfolding parts.told barred.replied eventNotes eventDone frameGiven parts.imagesWith turnedDown noted notesOf
+    unfolding parts.told barred.replied eventNotes eventDone frameGiven parts.imagesWith noted notesOf
     frame-event f r octets known z some =
         let i : ℕ = unit - 1 in
         let l : i < terminals = omega (arith, ltb-false terminals unit known, eqb-false unit 0 z) in
@@ -160,7 +160,7 @@ module _ (k : Kept) (b : Bus) (c : Carries k b) (unit number : ℕ) (value : Lis
         finish (ap (λ (x : Told). x .reply) (at-terminal z .0) ∙ (rw now (handed-reply takes) ∙ sym (eqb-true (bus.reply b call) 0 q)))
         (λ p. (rw (at-terminal z .0, now, handed-notes, z, some), rw (at-terminal z .1, now, images-now, z) (frame-carried k b c f unit number value some l takes))))
         (λ q.
-        let now : here ≡ turnedDown (bus.reply b call) there = given .0 ∙ rw (there-is, why-not, q) in
+        let now : here ≡ terminal.unchanged (bus.reply b call) there = given .0 ∙ rw (there-is, why-not, q) in
         finish (rw (at-terminal z .0, now)) (λ p. clash (eqb (bus.reply b call) 0) p q))
       where
         handed-reply : Takes (stationOf b unit) value → terminalCalls.handOverCall (classGiven number) (length (image value)) (stationOf b unit .terminal) .reply ≡ 0
@@ -190,7 +190,7 @@ module _ (k : Kept) (b : Bus) (c : Carries k b) (f : Fit b) (unit number : ℕ) 
       (λ z. network-event k b c unit number value why-0 f r (barred.right-letters unit number value e) z)
       (λ z.
       by-test (eqb (classOf number) 0)
-      (λ n. power-event k b c unit number value why-0 f r (barred.for-its-unit unit number value e) z n)
+      (λ n. power-event k b c unit number value why-0 f r z n)
       (λ n. frame-event k b c unit number value why-0 f r octets (barred.unit-known unit number value e) z n)))
       (λ some.
       turned-away k b c unit number value by-call why-is some

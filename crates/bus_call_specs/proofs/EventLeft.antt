@@ -31,12 +31,12 @@ use Rattle.network.specs.Calls as networkCalls
 use Rattle.terminal.specs.Terminal as terminal
 use Rattle.terminal.specs.Calls as terminalCalls
 use Rattle.terminal.specs.declared.Terminal.{Terminal}
-use Rattle.terminal.proofs.Laws.{AccessByState, switches-on-access, switches-off-access, requests-access}
 use Rattle.bus_rules.specs.Bus.{Station, Hit, Bus, terminals, freshStation, stationAt, withNetwork, withHit}
 use Rattle.bus_rules.specs.Period.{readingAfter, stepped}
-use Rattle.bus_rules.specs.Event.{stationOf, classOf, eventFor, firstHolding, networkDoes, networkDone, hitGiven, terminalDoes, withFrame, stationAfter, stationDone}
-use Rattle.notes_and_cells.specs.Events.{ON, OFF, AR, D1, D2}
+use Rattle.bus_rules.specs.Event.{stationOf, classOf, firstHolding, networkDoes, networkDone, hitGiven, terminalDoes, withFrame, stationAfter, stationDone}
+use Rattle.notes_and_cells.specs.Events.{AR, D1, D2}
 use Rattle.bus_rules.proofs.Barred as barred
+use Rattle.bus_rules.proofs.TerminalDoes.{does-by-state}
 use Rattle.bus_rules.proofs.Simulation.{Takes}
 use Rattle.bus_rules.proofs.Ranges.{network-does-called, terminal-does-called, hand-over-called, classGiven, class-given}
 use Rattle.exchange.specs.Part.{imageOf}
@@ -60,12 +60,6 @@ no-refusal (To next action notes) now t = refl
 no-refusal (Stay notes) now t = refl
 no-refusal Impossible now t = refl
 no-refusal Absent now t = refl
-
-does-by-state : (number now : ℕ) (t : Terminal) → AccessByState (terminalDoes number now) t
-unfolding terminalDoes
-does-by-state number now t =
-    by-test (eqb number ON) (λ u. rw u (switches-on-access now t))
-    (λ u. rw u (by-test (eqb number OFF) (λ v. rw v (switches-off-access now t)) (λ v. rw v (requests-access now t))))
 
 -- ---- the reader, where G3 is left or not
 stands-once : (r : Reader) (buf : List ℕ) (s : Reading) → StandsFor r buf s → (from to : ℕ) → StandsFor (readerAfter (leavesG3 from to) r) buf (readingAfter from to s)
@@ -154,25 +148,14 @@ module _ (k : Kept) (b : Bus) (c : Carries k b) (unit : ℕ) where
 
   -- power and requests
   module _ (f : Fit b) (number : ℕ) (value : List ℕ) (none : eqb (classOf number) 0 ≡ true) where
-    pub power-told : eqb unit 0 ≡ false → eventFor unit number ≡ true →
-        terminalTold number (k .images) (unit - 1) value (k .bus .periods) (getD (k .terminals) (unit - 1) terminal.fresh)
+    pub power-told : terminalTold number (k .images) (unit - 1) value (k .bus .periods) (getD (k .terminals) (unit - 1) terminal.fresh)
         ≡ terminalDoes number (b .periods) (stationOf b unit .terminal)
-    unfolding terminalTold eventFor
-    power-told z for-unit =
+    unfolding terminalTold
+    power-told =
         let d = no-frame number none in
-        let t = stationOf b unit .terminal in
-        let now = atPeriod (b .periods) in
-        let period : k .bus .periods ≡ now = ap atPeriod (periods-of (c .record-is)) in
-        rw (terminal-there, period)
-        (by-test (eqb number ON)
-        (λ u. rw u (rw u at (terminal-does-called (b .periods) (f .in-range .periods-fit) number t (f .in-range .terminals-fit (unit - 1)))))
-        (λ u.
-        by-test (eqb number OFF)
-        (λ v. rw (u, v) (rw (u, v) at (terminal-does-called (b .periods) (f .in-range .periods-fit) number t (f .in-range .terminals-fit (unit - 1)))))
-        (λ v.
-        by-test (eqb number AR)
-        (λ w. rw (u, v, w) (rw (u, v) at (terminal-does-called (b .periods) (f .in-range .periods-fit) number t (f .in-range .terminals-fit (unit - 1)))))
-        (λ w. clash false (rw (z, u, v, w, d .0, d .1) at for-unit) refl))))
+        let period : k .bus .periods ≡ atPeriod (b .periods) = ap atPeriod (periods-of (c .record-is)) in
+        rw (terminal-there, period, d .0, d .1)
+        (terminal-does-called (b .periods) (f .in-range .periods-fit) number (stationOf b unit .terminal) (f .in-range .terminals-fit (unit - 1)))
 
     station-power : (s : Station) → stationAfter number value (b .periods) s ≡ stepped (terminalDoes number (b .periods)) s
     unfolding stationAfter

@@ -41,7 +41,7 @@ use Rattle.bus_record.specs.Record.{recordInRange}
 use Rattle.bus_record.specs.NetworkSide.{refusedRun}
 use Rattle.bus_record.specs.declared.record.BusRecord.{BusRecord}
 use Rattle.bus_record.specs.declared.side.RunAnswer.{RunAnswer}
-use Rattle.bus_event.specs.Event.{firstReason, asked, networkAsked, networkTold, frameReason, turnedDown, frameGiven, terminalTold}
+use Rattle.bus_event.specs.Event.{firstReason, asked, networkAsked, networkTold, frameReason, frameGiven, terminalTold}
 use Rattle.bus_event.specs.Event as parts
 use Rattle.bus_call_specs.specs.Kept.{Kept}
 use Rattle.bus_call_specs.specs.Period.{periodAnswer, keptRun}
@@ -171,7 +171,7 @@ module _ (class : Class) (images : List ℕ) (i : ℕ) (body : List ℕ) (t : Te
   why-listed = listed-first _ refl
 
   frame-given : TerminalAnswer t (frameGiven class images i body t)
-  unfolding frameGiven turnedDown
+  unfolding frameGiven
   frame-given = by-test (eqb why-not 0) (λ z. rw z (accepted t _ (taken z))) (λ z. rw z (terminal-down why-not why-listed t))
 
   frame-images : (frameGiven class images i body t .reply ≡ 0 → ⊥) → parts.imagesWith t i body images ≡ images
@@ -181,14 +181,14 @@ module _ (class : Class) (images : List ℕ) (i : ℕ) (body : List ℕ) (t : Te
 -- ---- An event of a terminal.
 module _ (number : ℕ) (images : List ℕ) (i : ℕ) (value : List ℕ) (now : Periods) (t : Terminal) where
   no-frame-given : (eqb number D1 ≡ false) × (eqb number D2 ≡ false) → TerminalAnswer t (terminalTold number images i value now t)
-  unfolding terminalTold turnedDown
+  unfolding terminalTold
   no-frame-given d =
       by-test (eqb number ON) (λ u. rw u (when-ready terminal.switchesOn now t (switches-on (now .0) t)))
       (λ u.
       by-test (eqb number OFF) (λ v. rw (u, v) (when-ready terminal.switchesOff now t (switches-off (now .0) t)))
       (λ v.
       by-test (eqb number AR) (λ w. rw (u, v, w) (when-ready terminal.requests now t (requests (now .0) t)))
-      (λ w. rw (u, v, w, d .0, d .1) (terminal-down 4 refl t))))
+      (λ w. rw (u, v, w, d .0, d .1) (terminal-down 0 refl t))))
 
   terminal-answers : TerminalAnswer t (terminalTold number images i value now t)
   terminal-answers =

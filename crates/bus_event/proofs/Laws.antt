@@ -28,7 +28,7 @@ use Rattle.exchange.specs.Part.{imageBits, bitsFrom, imageOf}
 use Rattle.bus_record.specs.Record.{recordInRange}
 use Rattle.bus_record.specs.NetworkSide.{readerAfter}
 use Rattle.bus_record.specs.declared.record.BusRecord.{BusRecord}
-use Rattle.bus_event.specs.Event.{told, asked, networkAsked, networkTold, imagePut, frameReason, turnedDown, frameGiven, terminalTold}
+use Rattle.bus_event.specs.Event.{told, asked, networkAsked, networkTold, imagePut, frameReason, frameGiven, terminalTold}
 use Rattle.bus_event.specs.Laws.{ImagePut, EventRecordKept, EventTerminalKept}
 use Rattle.bus_event.proofs.ImagePlaces.{put-length, put-there, put-elsewhere}
 
@@ -85,14 +85,14 @@ event-record-kept event r h =
     (reader-kept _ r (and-right others (readerInRange (r .reader)) h)))
 
 frame-kept : (class : Class) (images : List ℕ) (i : ℕ) (body : List ℕ) (t : Terminal) → terminalInRange t ≡ true → terminalInRange (frameGiven class images i body t .terminal) ≡ true
-unfolding frameGiven turnedDown
+unfolding frameGiven
 frame-kept class images i body t h =
     by-test (eqb (frameReason (length images) i (length body) t) 0)
     (λ e. rw e (terminal.handed-over-in-range class (length (image body)) t h))
     (λ e. rw e h)
 
 pub event-terminal-kept : EventTerminalKept
-unfolding terminalTold turnedDown
+unfolding terminalTold
 event-terminal-kept event images i value period t h =
     by-test (eqb event ON) (λ a. rw a (terminal.switched-on-in-range period t h))
     (λ a. by-test (eqb event OFF) (λ b. rw (a, b) (terminal.switched-off-in-range period t h))

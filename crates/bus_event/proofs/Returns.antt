@@ -14,6 +14,7 @@ use Rattle.packing.specs.declared.image.Imaged.{Imaged}
 use Rattle.packing.specs.declared.image.Imaged.the-variants.{Bits, Refused}
 use Rattle.dchannel.specs.declared.access.Class.{Class}
 use Rattle.table_6_2.specs.Table62.{F7}
+use Rattle.terminal.specs.Terminal as terminal
 use Rattle.terminal.specs.Calls as terminalCalls
 use Rattle.terminal.specs.declared.Terminal.{Terminal}
 use Rattle.bus_rules.specs.Bus.{terminals}
@@ -22,7 +23,7 @@ use Rattle.bus_rules.proofs.Refusals.{none-holds}
 use Rattle.notes_and_cells.specs.Events.{HIT}
 use Rattle.bus_record.specs.Record.{recordInRange}
 use Rattle.bus_record.specs.declared.record.BusRecord.{BusRecord}
-use Rattle.bus_event.specs.Event.{imagesRoom, areLetters, firstReason, imagePut, frameReason, turnedDown, frameGiven, imagesWith}
+use Rattle.bus_event.specs.Event.{imagesRoom, areLetters, firstReason, imagePut, frameReason, frameGiven, imagesWith}
 use Rattle.bus_event.proofs.ImagePlaces.{room-length}
 
 -- a body of a good length, as the code tests it
@@ -157,7 +158,7 @@ module _ (images : List ℕ) (i : ℕ) (value : List ℕ) (t : Terminal) where
       above n d = by-test (ltb 0 n) (λ t. ltb-true 0 n t) (λ t. absurd (d (omega (arith, ltb-false 0 n t))))
 
   module _ (class : Class) (reason : ℕ) (e : reason ≡ frameReason (length images) i (length value) t) where
-    pub not-given : (reason ≡ 0 → ⊥) → (turnedDown reason t ≡ frameGiven class images i value t) × (images ≡ imagesWith t i value images)
+    pub not-given : (reason ≡ 0 → ⊥) → (terminal.unchanged reason t ≡ frameGiven class images i value t) × (images ≡ imagesWith t i value images)
     unfolding frameGiven imagesWith
     not-given d = let z : eqb reason 0 ≡ false = ne-eqb reason 0 d in (rw (← e, z), rw (← e, z))
 

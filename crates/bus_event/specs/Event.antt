@@ -1,7 +1,7 @@
 -- Calls: an event of the book on the bus record, on the network end and on one terminal with the
 -- images lent (document 01, "Bench book and report" and "Reasons a call is turned down").
 -- Interface: `imagesRoom`, `told`, `areLetters`, `firstReason`, `takenOver`, `networkAsked`,
--- `networkTold`, `lettersAfter`, `imagePut`, `frameReason`, `turnedDown`, `frameGiven`,
+-- `networkTold`, `lettersAfter`, `imagePut`, `frameReason`, `frameGiven`,
 -- `imagesWith`, `terminalTold`, `imagesAfter`, `eventSettled`. Assumes nothing.
 use mathlib.Core.Bool.{Bool, true, cond, not, _&&_, _||_}
 use mathlib.Core.List.{List, [], _∷_, _++_}
@@ -21,6 +21,7 @@ use Rattle.table_6_3.specs.Table63 as Table63
 use Rattle.timing.specs.declared.counts.Periods.{Periods}
 use Rattle.network.specs.Calls as networkCalls
 use Rattle.network.specs.declared.NetworkStep.{NetworkStep}
+use Rattle.terminal.specs.Terminal as terminal
 use Rattle.terminal.specs.Calls as terminalCalls
 use Rattle.terminal.specs.declared.Terminal.{Terminal}
 use Rattle.terminal.specs.declared.TerminalStep.{TerminalStep}
@@ -95,25 +96,24 @@ frameReason images i octets t =
     ∷ (8, not (eqb (t .access .held) 0))
     ∷ [])
 
-unfoldable pub turnedDown : ℕ → Terminal → TerminalStep
-turnedDown k t = record { terminal = t; notes = packedNotes []; reply = k }
-
 -- `d1` or `d2`
 unfoldable pub frameGiven : Class → List ℕ → ℕ → List ℕ → Terminal → TerminalStep
 frameGiven class images i body t =
     let reason = frameReason (length images) i (length body) t in
-    cond (eqb reason 0) (terminalCalls.handOverCall class (length (image body)) t) (turnedDown reason t)
+    cond (eqb reason 0) (terminalCalls.handOverCall class (length (image body)) t) (terminal.unchanged reason t)
 
 unfoldable pub imagesWith : Terminal → ℕ → List ℕ → List ℕ → List ℕ
 imagesWith t i body images = cond (eqb (frameReason (length images) i (length body) t) 0) (imagePut i body images) images
 
+-- An event: no other number moves the terminal. Whether it is an event of a terminal has been looked
+-- at before.
 unfoldable pub terminalTold : ℕ → List ℕ → ℕ → List ℕ → Periods → Terminal → TerminalStep
 terminalTold event images i value period t =
     cond (eqb event ON) (terminalCalls.switchOnCall period t)
     (cond (eqb event OFF) (terminalCalls.switchOffCall period t)
     (cond (eqb event AR) (terminalCalls.requestCall period t)
     (cond (eqb event D1) (frameGiven One images i value t)
-    (cond (eqb event D2) (frameGiven Two images i value t) (turnedDown 4 t)))))
+    (cond (eqb event D2) (frameGiven Two images i value t) (terminal.unchanged 0 t)))))
 
 unfoldable pub imagesAfter : ℕ → Terminal → ℕ → List ℕ → List ℕ → List ℕ
 imagesAfter event t i value images = cond (eqb event D1 || eqb event D2) (imagesWith t i value images) images

@@ -7,6 +7,7 @@ ghost use Rattle.packing.specs.Packing.{imageRoom};
 ghost use Rattle.hdlc.specs.Image.{image, longestBody};
 ghost use Rattle.bus_rules.specs.Bus.{terminals};
 ghost use Rattle.bus_rules.specs.Event.{eventFor};
+ghost use Rattle.terminal.specs.Terminal.{unchanged};
 ghost use Rattle.bus_event.specs.Event as spec;
 use bus_record::record::BusRecord;
 use combining::combine::TERMINALS;
@@ -126,8 +127,8 @@ fn frame_reason(terminal: Terminal, images: usize, i: usize, octets: usize) -> u
 }
 
 // Gives the terminal as it is, with a reply.
-fn turned_down(terminal: Terminal, reply: u8) -> TerminalStep
-    ensures { λ r. ⌜ r ≡ spec.turnedDown reply terminal ⌝ }
+fn unchanged(terminal: Terminal, reply: u8) -> TerminalStep
+    ensures { λ r. ⌜ r ≡ unchanged reply terminal ⌝ }
 {
     TerminalStep {
         terminal,
@@ -149,13 +150,14 @@ fn give_frame(
 {
     let reason = frame_reason(terminal, images.len(), i, value.len());
     if reason != 0 {
-        return turned_down(terminal, reason);
+        return unchanged(terminal, reason);
     }
     let length = put_image(images, i, value);
     terminal.hand_over(class, length)
 }
 
-// Gives terminal i an event.
+// Gives terminal i an event. No other number moves it: whether it is an event of a terminal has been
+// looked at before.
 pub fn terminal_event(
     terminal: Terminal,
     images: &mut [u8],
@@ -173,7 +175,7 @@ pub fn terminal_event(
         AR => terminal.request(period),
         D1 => give_frame(terminal, images, i, Class::One, value),
         D2 => give_frame(terminal, images, i, Class::Two, value),
-        _ => turned_down(terminal, 4),
+        _ => unchanged(terminal, 0),
     }
 }
 

@@ -38,6 +38,7 @@ use Rattle.bus_rules.specs.Ranges.{InRange}
 use Rattle.bus_rules.specs.Apart as apart
 use Rattle.bus_rules.proofs.Stations.{Each, station-heard, station-timed, each-event, each-exchanged}
 use Rattle.bus_rules.proofs.Ranges.{exchanged-in, heard-in, call-in, fresh-in}
+use Rattle.bus_rules.proofs.TerminalDoes.{does-each}
 
 -- ---- the line as heard by one that has always been on, and a terminal against it
 
@@ -178,9 +179,7 @@ module _ (now : ℕ) (a : Alignment) (t : Terminal) (low : F1 ≤ t .state) (hig
       (λ o. rw o (off (happens-state now _ OFF-ROW ∙ eqb-true (nextState OFF-ROW (t .state)) F1 (in-F1-after OFF-ROW (t .state) low high))))
 
   with-does : (number : ℕ) → With a (terminalDoes number now t .terminal)
-  unfolding terminalDoes
-  with-does number =
-      by-test (eqb number events.ON) (λ u. rw u with-on) (λ u. rw u (by-test (eqb number events.OFF) (λ v. rw v with-off) (λ v. rw v with-request)))
+  with-does number = does-each (λ s. With a (s .terminal)) number now t with-on with-off with-request w
 
 -- ---- all terminals of a bus
 abbrev Hears : Alignment → Station → Type 0

@@ -29,8 +29,8 @@ use Rattle.terminal.specs.Calls as terminalCalls
 use Rattle.terminal.specs.declared.Terminal.{Terminal}
 use Rattle.terminal.proofs.Laws.{handed-over-called}
 use Rattle.bus_rules.specs.Bus.{Bus, terminals}
-use Rattle.notes_and_cells.specs.Events.{ON, OFF, AR, DR, HIT}
-use Rattle.bus_rules.specs.Event.{among, networkEvents, terminalEvents, stationOf, classOf, eventFor, barsNetwork, barsTerminal, bars, callReasons, stateReasons, reasons, firstHolding, refusal, networkDoes, terminalDoes}
+use Rattle.notes_and_cells.specs.Events.{ON, OFF, AR, DR, D1, D2, HIT}
+use Rattle.bus_rules.specs.Event.{among, networkEvents, stationOf, classOf, eventFor, barsNetwork, barsTerminal, bars, callReasons, stateReasons, reasons, firstHolding, refusal, networkDoes, terminalDoes}
 use Rattle.bus_rules.proofs.Refusals.{numbersOf, holds, none-holds, first-append}
 
 -- ---- power and requests: the reply is 5 where the rules bar the event, and 0 at every cell
@@ -65,18 +65,25 @@ network-bars number now n k =
     let d : eqb number DR ≡ true = rw t at k in
     rw (t, d) (by-test (network.bars Table63.DR-ROW (n .state)) (λ u. rw u) (λ u. rw u (network-happens Table63.DR-ROW now n))))
 
-pub terminal-bars : (number now : ℕ) (t : Terminal) → (eqb number ON || eqb number OFF || eqb number AR) ≡ true →
-    terminalDoes number now t .reply ≡ cond (barsTerminal number (t .state)) 5 0
+pub terminal-bars : (number now : ℕ) (t : Terminal) → terminalDoes number now t .reply ≡ cond (barsTerminal number (t .state)) 5 0
 unfolding terminalDoes terminal.switchesOn terminal.switchesOff terminal.requests barsTerminal
-terminal-bars number now t k =
+terminal-bars number now t =
     by-test (eqb number ON)
     (λ u. rw u (by-test (terminal.bars Table62.ON-ROW (t .state)) (λ s. rw s) (λ s. rw s (terminal-happens Table62.ON-ROW now _))))
     (λ u.
     by-test (eqb number OFF)
     (λ v. rw (u, v) (by-test (terminal.bars Table62.OFF-ROW (t .state)) (λ s. rw s) (λ s. rw s (terminal-happens Table62.OFF-ROW now _))))
     (λ v.
-    let a : eqb number AR ≡ true = rw (u, v) at k in
-    rw (u, v, a) (by-test (terminal.bars Table62.AR-ROW (t .state)) (λ s. rw s) (λ s. rw s (terminal-happens Table62.AR-ROW now t)))))
+    by-test (eqb number AR)
+    (λ w. rw (u, v, w) (by-test (terminal.bars Table62.AR-ROW (t .state)) (λ s. rw s) (λ s. rw s (terminal-happens Table62.AR-ROW now t))))
+    (λ w. rw (u, v, w))))
+
+-- events that give frames are barred by no table
+gives-no-bar : (number state : ℕ) → eqb (classOf number) 0 ≡ false → barsTerminal number state ≡ false
+unfolding classOf barsTerminal
+gives-no-bar number state some =
+    by-test (eqb number D1) (λ t. rw (eqb-true number D1 t))
+    (λ t. by-test (eqb number D2) (λ u. rw (eqb-true number D2 u)) (λ u. clash true refl (rw (t, u) at some)))
 
 -- ---- a frame with a body: 6 outside F7, 8 where one is held
 pub frame-reply : (class : Class) (body : List ℕ) (t : Terminal) → terminalCalls.terminalInRange t ≡ true → isBody body ≡ true →
@@ -148,16 +155,13 @@ module _ (b : Bus) (unit : ℕ) (value : List ℕ) where
         (rw t (sym (network-bars DR (b .periods) (b .network) refl)), (rw t, tt)),
       )
 
-  does-replies : (number : ℕ) → (eqb number ON || eqb number OFF || eqb number AR) ≡ true →
-      cond (barsTerminal number (stationOf b unit .terminal .state)) 5 0 ≡ terminalDoes number (b .periods) (stationOf b unit .terminal) .reply
-  does-replies number k = sym (terminal-bars number (b .periods) (stationOf b unit .terminal) k)
-
-  terminal-replies : eqb unit 0 ≡ false → (number : ℕ) → among number terminalEvents ≡ true → byState number ≡ replied b unit number value
-  unfolding firstHolding stateReasons bars replied classOf barsTerminal
-  terminal-replies t number k =
-      let frame = frame-reasons value (stationOf b unit .terminal) in
-      at-among (λ number. byState number ≡ replied b unit number value) number terminalEvents k
-      (rw t (does-replies ON refl), (rw t (does-replies OFF refl), (rw t (does-replies AR refl), (rw t frame, (rw t frame, tt)))))
+  terminal-replies : eqb unit 0 ≡ false → (number : ℕ) → byState number ≡ replied b unit number value
+  unfolding firstHolding stateReasons bars replied
+  terminal-replies z number =
+      let t = stationOf b unit .terminal in
+      by-test (eqb (classOf number) 0)
+      (λ none. rw (z, none) (sym (terminal-bars number (b .periods) t)))
+      (λ some. rw (z, some, gives-no-bar number (t .state) some) (frame-reasons value t))
 
   -- Where the call itself gives no reason, the refusal is what the calls reply.
   pub refusal-replied : (number : ℕ) → firstHolding (callReasons unit number value) ≡ 0 → refusal b unit number value ≡ replied b unit number value
@@ -168,4 +172,4 @@ module _ (b : Bus) (unit : ℕ) (value : List ℕ) where
       ∙ rw none
       (by-test (eqb unit 0)
       (λ t. network-replies t number (unfold eventFor in (rw t at for-unit)))
-      (λ t. terminal-replies t number (unfold eventFor in (rw t at for-unit))))
+      (λ t. terminal-replies t number))

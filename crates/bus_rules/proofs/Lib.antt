@@ -10,6 +10,7 @@ pub mod Mapping
 pub mod Simulation
 pub mod Stretches
 pub mod Telling
+pub mod TerminalDoes
 pub mod Refusals
 pub mod OneDone
 pub mod Later

@@ -23,6 +23,7 @@ use Rattle.dchannel.proofs.RangesKept.{access-fits, access-step-in-range}
 use Rattle.table_6_3.specs.Table63.{G3}
 use Rattle.table_6_3.specs.Table63 as Table63
 use Rattle.timing.specs.Counts.{mostPeriods}
+use Rattle.timing.specs.declared.counts.Periods.{Periods}
 use Rattle.timing.specs.Calls.{atPeriod}
 use Rattle.contention.proofs.Change.{length-change}
 use Rattle.heard_line.specs.Sensing.{shownUp, shownDown}
@@ -34,6 +35,7 @@ use Rattle.network.proofs.RangesKept as network-kept
 use Rattle.terminal.specs.Terminal as terminal
 use Rattle.terminal.specs.Calls as terminalCalls
 use Rattle.terminal.specs.declared.Terminal.{Terminal}
+use Rattle.terminal.specs.declared.TerminalStep.{TerminalStep}
 use Rattle.terminal.proofs.Laws as terminal-laws
 use Rattle.terminal.proofs.RangesKept as terminal-kept
 use Rattle.bus_rules.specs.Bus.{Station, Bus, terminals, freshStation, freshBus, stationAt}
@@ -50,6 +52,12 @@ use Rattle.bus_rules.proofs.Simulation.{Takes, accepted, accepted-frame
 use Rattle.bus_rules.proofs.OneDone.{exchangedAt, done-bits}
 
 -- ---- the calls of `network` and `terminal`
+-- what the calls of a terminal give for power and requests
+abbrev pub doesCalled : ℕ → Periods → Terminal → TerminalStep
+doesCalled number now t =
+    cond (eqb number ON) (terminalCalls.switchOnCall now t)
+    (cond (eqb number OFF) (terminalCalls.switchOffCall now t) (cond (eqb number AR) (terminalCalls.requestCall now t) (terminal.unchanged 0 t)))
+
 module _ (now : ℕ) (l : now ≤ mostPeriods) where
   pub network-hears-called : (up : List ℕ) (n : Network) → networkCalls.networkInRange n ≡ true → networkCalls.hearCall (shownUp up) (atPeriod now) n ≡ networkHears up now n
   unfolding networkHears
@@ -72,8 +80,7 @@ module _ (now : ℕ) (l : now ≤ mostPeriods) where
 
   -- power and requests
   pub terminal-does-called : (number : ℕ) (t : Terminal) → terminalCalls.terminalInRange t ≡ true →
-      cond (eqb number ON) (terminalCalls.switchOnCall (atPeriod now) t) (cond (eqb number OFF) (terminalCalls.switchOffCall (atPeriod now) t) (terminalCalls.requestCall (atPeriod now) t))
-      ≡ terminalDoes number now t
+      doesCalled number (atPeriod now) t ≡ terminalDoes number now t
   unfolding terminalDoes
   terminal-does-called number t h =
       rw (terminal-laws.switched-on-called now t l h, terminal-laws.switched-off-called now t l h, terminal-laws.requested-called now t l h)
@@ -116,11 +123,9 @@ module _ (now : ℕ) (l : now ≤ mostPeriods) (s : Station) (h : Fit s) where
       let p = atPeriod now in
       let t = s .terminal in
       rw (← terminal-does-called now l number t h)
-      (by-test (eqb number ON)
-      (λ u. rw u (terminal-kept.switched-on-in-range p t h))
-      (λ u.
-      rw u
-      (by-test (eqb number OFF) (λ v. rw v (terminal-kept.switched-off-in-range p t h)) (λ v. rw v (terminal-kept.requested-in-range p t h)))))
+      (by-test (eqb number ON) (λ u. rw u (terminal-kept.switched-on-in-range p t h))
+      (λ u. rw u (by-test (eqb number OFF) (λ v. rw v (terminal-kept.switched-off-in-range p t h))
+      (λ v. rw v (by-test (eqb number AR) (λ w. rw w (terminal-kept.requested-in-range p t h)) (λ w. rw w h))))))
 
 -- the class of the frame that an event gives
 abbrev pub classGiven : ℕ → Class
@@ -320,10 +325,7 @@ period-called b l r =
 -- An event that is not refused: a request of the network end, power or a request of a terminal, a frame.
 pub record EventCalled (b : Bus) (unit number : ℕ) (value : List ℕ) : Type 0 where
   pub network-does : networkCalls.requestCall (cond (eqb number AR) Table63.AR-ROW Table63.DR-ROW) (atPeriod (b .periods)) (b .network) ≡ networkDoes number (b .periods) (b .network)
-  pub terminal-does :
-      cond (eqb number ON) (terminalCalls.switchOnCall (atPeriod (b .periods)) (stationOf b unit .terminal))
-      (cond (eqb number OFF) (terminalCalls.switchOffCall (atPeriod (b .periods)) (stationOf b unit .terminal)) (terminalCalls.requestCall (atPeriod (b .periods)) (stationOf b unit .terminal)))
-      ≡ terminalDoes number (b .periods) (stationOf b unit .terminal)
+  pub terminal-does : doesCalled number (atPeriod (b .periods)) (stationOf b unit .terminal) ≡ terminalDoes number (b .periods) (stationOf b unit .terminal)
   pub takes-frame : eqb (classOf number) 0 ≡ false →
       terminalCalls.handOverCall (classGiven number) (length (image value)) (stationOf b unit .terminal) .terminal ≡ withFrame (classOf number) value (stationOf b unit) .terminal
 

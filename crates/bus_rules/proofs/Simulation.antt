@@ -25,18 +25,19 @@ use Rattle.network.proofs.Laws.{timers-keep-G3}
 use Rattle.terminal.specs.Terminal as terminal
 use Rattle.terminal.specs.declared.Terminal.{Terminal}
 use Rattle.terminal.specs.declared.TerminalStep.{TerminalStep}
-use Rattle.terminal.proofs.Laws.{AccessByState, switches-on-access, switches-off-access, requests-access, hears-access, timer-keeps-F7, timer-keeps-access}
+use Rattle.terminal.proofs.Laws.{AccessByState, hears-access, timer-keeps-F7, timer-keeps-access}
 use Rattle.bus_rules.specs.Bus.{Station, Bus, terminals, freshStation}
 use Rattle.bus_rules.specs.Exchange.{Opportunity, inF7, stationsOf, onward, begins, opportunitiesOf, exchanged, wholeDown, wholeUp}
 use Rattle.bus_rules.specs.BusChannel.{contenderOf, contendersOf, channelOf, Imaged, AllImaged}
 use Rattle.bus_rules.specs.Period.{readingAfter, networkHears, terminalHears, stepped, heardBy, timed, periodRun}
 use Rattle.bus_rules.specs.Event.{stationOf, classOf, eventFor, bars, givesFrame, callReasons, stateReasons, reasons, refusal, networkDoes, networkDone, hitGiven, terminalDoes, withFrame, stationAfter, stationDone, eventDone}
-use Rattle.notes_and_cells.specs.Events.{ON, OFF, D1, D2, HIT}
+use Rattle.notes_and_cells.specs.Events.{D1, D2, HIT}
 use Rattle.bus_rules.specs.Calls.{Call, reply, does, after, afterAll}
 use Rattle.bus_rules.specs.Calls.Call.{event, period}
 use Rattle.bus_rules.proofs.Refusals.{accepted-holds}
 use Rattle.bus_rules.proofs.Stations.{Each, stations-stationed, each-onward, each-begins, each-period, each-event}
 use Rattle.bus_rules.proofs.Mapping.{channelAt, imaged-turned, actionAt, channel-onward}
+use Rattle.bus_rules.proofs.TerminalDoes.{does-by-state}
 
 -- ---- a step of a terminal is an entry into F7, a leave of it, or nothing to the channel
 module _ (f : Terminal → TerminalStep) (by-state : (t : Terminal) → AccessByState f t) where
@@ -50,12 +51,6 @@ module _ (f : Terminal → TerminalStep) (by-state : (t : Terminal) → AccessBy
 hears-by-state : (down : List ℕ) (now : ℕ) (t : Terminal) → AccessByState (terminalHears down now) t
 unfolding terminalHears
 hears-by-state down now t = hears-access now t _
-
-does-by-state : (number now : ℕ) (t : Terminal) → AccessByState (terminalDoes number now) t
-unfolding terminalDoes
-does-by-state number now t =
-    by-test (eqb number ON) (λ u. rw u (switches-on-access now t))
-    (λ u. rw u (by-test (eqb number OFF) (λ v. rw v (switches-off-access now t)) (λ v. rw v (requests-access now t))))
 
 -- ---- timers neither enter nor leave F7 or G3: they are nothing to the channel
 timer-contender : (now : ℕ) (s : Station) → contenderOf (stepped (terminal.timer now) s) ≡ contenderOf s

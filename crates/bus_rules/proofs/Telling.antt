@@ -27,11 +27,12 @@ use Rattle.bus_rules.specs.Order.{unitByUnit}
 use Rattle.bus_rules.specs.Period.{networkHears, terminalHears, saidNotes, doneCodes, hearingCodes, timerCodes, heardBy, periodNotes}
 use Rattle.bus_rules.specs.TwoParts.{notesHeard, notesTimed, TwoParts}
 use Rattle.bus_rules.specs.Event.{stationOf, classOf, networkDoes, terminalDoes, eventNotes}
-use Rattle.notes_and_cells.specs.Events.{ON, OFF, AR, HIT}
+use Rattle.notes_and_cells.specs.Events.{AR, HIT}
 use Rattle.bus_rules.specs.Calls.{Call, reply, tells, after, notes}
 use Rattle.bus_rules.specs.Calls.Call.{event, period}
 use Rattle.bus_rules.specs.Stretch.{stationThen, opportunitiesOfCall}
 use Rattle.bus_rules.specs.Telling.{heardIn, doneNotesOf, spoken, saidIn, completedIn, Tells, AllTell}
+use Rattle.bus_rules.proofs.TerminalDoes.{does-each}
 
 -- ---- notes of the tables and of dropped frames are none of HEARD, TORN, DONE1 and DONE2
 abbrev plain : List ℕ → Type 0
@@ -60,10 +61,10 @@ unfolding terminalHears
 terminal-hears-plain down now t = terminal-laws.hears-told now t (shownDown down)
 
 terminal-does-plain : (number now : ℕ) (t : Terminal) → plain (noted (terminalDoes number now t .notes))
-unfolding terminalDoes
+unfolding noted everyNote
 terminal-does-plain number now t =
-    by-test (eqb number ON) (λ u. rw u (terminal-laws.on-told now t))
-    (λ u. rw u (by-test (eqb number OFF) (λ v. rw v (terminal-laws.off-told now t)) (λ v. rw v (terminal-laws.requests-told now t))))
+    does-each (λ s. plain (noted (s .notes))) number now t
+    (terminal-laws.on-told now t) (terminal-laws.off-told now t) (terminal-laws.requests-told now t) refl
 
 -- ---- picking among notes
 heard-append : (xs ys : List Note) → heardIn (xs ++ ys) ≡ heardIn xs ++ heardIn ys

@@ -117,10 +117,11 @@ networkDone event b = networkNow (networkDoes event (b .periods) (b .network) .n
 unfoldable pub hitGiven : List ℕ → Bus → Bus
 hitGiven letters b = withHit (Hit.given letters) b
 
--- power and requests of a terminal
+-- power and requests of a terminal; no other event moves it
 unfoldable pub terminalDoes : ℕ → ℕ → Terminal → TerminalStep
 terminalDoes event now t =
-    cond (eqb event ON) (terminal.switchesOn now t) (cond (eqb event OFF) (terminal.switchesOff now t) (terminal.requests now t))
+    cond (eqb event ON) (terminal.switchesOn now t)
+    (cond (eqb event OFF) (terminal.switchesOff now t) (cond (eqb event AR) (terminal.requests now t) (terminal.unchanged 0 t)))
 
 -- a frame is taken up
 unfoldable pub withFrame : ℕ → List ℕ → Station → Station

@@ -26,7 +26,7 @@ use Rattle.alignment.specs.Alignment.{framedToGain, unframedToLose, followed}
 use Rattle.heard_line.specs.Heard.{downwardEvent}
 use Rattle.alignment.specs.declared.Followed.{Followed}
 use Rattle.heard_line.specs.declared.heard.Downward.{Downward}
-use Rattle.terminal.specs.Terminal.{accessAfter, droppedNote, moved, acts, happens, aligned, noTimer, bars, switchesOn, switchesOff, requests, timer, heardAs, hears}
+use Rattle.terminal.specs.Terminal.{unchanged, accessAfter, droppedNote, moved, acts, happens, aligned, noTimer, bars, switchesOn, switchesOff, requests, timer, heardAs, hears}
 use Rattle.terminal.specs.Calls.{terminalInRange, ready, checked, switchOnCall, switchOffCall, requestCall, timerCall, hearCall, handOverCall, handsOver, holding}
 use Rattle.terminal.specs.declared.Terminal.{Terminal}
 use Rattle.terminal.specs.declared.TerminalStep.{TerminalStep}
@@ -95,6 +95,9 @@ acts-access (To next action notes) now t = refl
 acts-access (Stay notes) now t = rw (stays (t .state) (t .access))
 acts-access Impossible now t = rw (stays (t .state) (t .access))
 acts-access Absent now t = rw (stays (t .state) (t .access))
+
+pub unchanged-access : (k : ℕ) (t : Terminal) → AccessByState (unchanged k) t
+unchanged-access k t = rw (stays (t .state) (t .access))
 
 module _ (now : ℕ) (t : Terminal) where
   pub happens-access : (e : ℕ) → AccessByState (happens e now) t

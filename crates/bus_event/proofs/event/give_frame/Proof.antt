@@ -8,15 +8,15 @@ use Rattle.bus_event.proofs.event.give_frame.Tie as tie
 frame-reason-requires : tie.Need-frame-reason-requires
 frame-reason-requires c κs = search needs
 
-turned-down-requires : tie.Need-turned-down-requires
-turned-down-requires c κs = search needs
+unchanged-requires : tie.Need-unchanged-requires
+unchanged-requires c κs = search needs
 
 returns : tie.Need-returns
 returns c =
     let asked = c .before .before in
     let a = asked .before .before .before .args in
     let g = not-given (a .images .now) (a .i) (a .value .now) (a .terminal) (a .class) (asked .frame-reason .result) (asked .frame-reason .ensures) (c .before .if1 .taken) in
-    (c .turned-down .ensures ∙ g .0, g .1)
+    (c .unchanged .ensures ∙ g .0, g .1)
 
 put-image-requires : tie.Need-put-image-requires
 put-image-requires c κs =
@@ -45,7 +45,7 @@ give-frame-spec =
     tie.close
     (tie.spec
     frame-reason-requires
-    turned-down-requires
+    unchanged-requires
     returns
     put-image-requires
     hand-over-requires

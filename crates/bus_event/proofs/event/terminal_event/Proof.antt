@@ -20,8 +20,8 @@ give-frame-requires c κs = search needs
 give-frame-requires-2 : tie.Need-give-frame-requires-2
 give-frame-requires-2 c κs = search needs
 
-turned-down-requires : tie.Need-turned-down-requires
-turned-down-requires c κs = search needs
+unchanged-requires : tie.Need-unchanged-requires
+unchanged-requires c κs = search needs
 
 returns : tie.Need-returns
 unfolding terminalTold imagesAfter
@@ -64,7 +64,7 @@ returns-6 c =
     let ar = ne-eqb _ _ (none .0 .0 .1) in
     let off = ne-eqb _ _ (none .0 .0 .0 .1) in
     let on = ne-eqb _ _ (none .0 .0 .0 .0 .1) in
-    (simp (on, off, ar, d1, d2) (c .turned-down .ensures), simp (d1, d2))
+    (simp (on, off, ar, d1, d2) (c .unchanged .ensures), simp (d1, d2))
 
 pub terminal-event-spec : {M : Type 1} → statement M
 terminal-event-spec =
@@ -75,7 +75,7 @@ terminal-event-spec =
     request-requires
     give-frame-requires
     give-frame-requires-2
-    turned-down-requires
+    unchanged-requires
     returns
     returns-2
     returns-3
