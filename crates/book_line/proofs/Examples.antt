@@ -9,7 +9,9 @@ use Rattle.notes_and_cells.specs.Names.{ascii}
 use Rattle.text.specs.Text.{split, onto, upto, all, onward}
 use Rattle.text.specs.Fields.{fieldStart}
 use Rattle.text.specs.declared.field.Ends.{Ends}
-use Rattle.book_line.specs.Line.{eventNamed, isNumber, isAbsent, isBodyText, isHitText, valueFits, formed}
+use Rattle.book_line.specs.EventNames.{eventNames, eventNamed}
+use Rattle.book_line.specs.ValueForms.{formOf}
+use Rattle.book_line.specs.Line.{isNumber, isAbsent, isBodyText, isHitText, valueFits, formed}
 use Rattle.notes_and_cells.specs.Events.{ON, AR, DR, D1, D2, HIT, END}
 use Rattle.book_line.specs.Judging.{judged}
 use Rattle.book_line.specs.Value.{hexDigit, pairs, bodyOf, letterCode, valueOctets}
@@ -59,6 +61,7 @@ examples =
     -- an event name that is none
     ∷ says "0 1 onn -" (Refused 12)
     ∷ says "0 1 ON -" (Refused 12)
+    ∷ says "0 0  -" (Refused 12)
     -- hexadecimal digits: an odd number of them, upper case, none
     ∷ says "0 1 d1 000" (Refused 12)
     ∷ says "0 1 d1 0A" (Refused 12)
@@ -73,7 +76,7 @@ examples =
     ∷ []
 
 pub judgements : map (λ (x : Example). judged (x .line)) examples ≡ map (λ (x : Example). x .says) examples
-unfolding sameSymbols split onto upto all onward fieldStart eventNamed isNumber isAbsent isBodyText isHitText valueFits formed judged
+unfolding sameSymbols split onto upto all onward fieldStart eventNames eventNamed isNumber isAbsent isBodyText isHitText formOf valueFits formed judged
 judgements = refl
 
 -- The sixteen digits.
@@ -85,5 +88,5 @@ hex-digits = refl
 pub octets-of-values :
     (valueOctets D1 (ascii "00ff7e") ∷ valueOctets D2 (ascii "-") ∷ valueOctets HIT (ascii "kpmn") ∷ valueOctets ON (ascii "-") ∷ [])
     ≡ ((0 ∷ 255 ∷ 126 ∷ []) ∷ [] ∷ (0 ∷ 1 ∷ 2 ∷ 3 ∷ []) ∷ [] ∷ [])
-unfolding sameSymbols isAbsent hexDigit pairs bodyOf letterCode valueOctets
+unfolding sameSymbols isAbsent hexDigit pairs bodyOf letterCode formOf valueOctets
 octets-of-values = refl

@@ -11,7 +11,8 @@ use Rattle.test_lemmas.proofs.ByCases.{by-test, and-left, and-right, and-right-
 use Rattle.text.specs.Text.{fields, field, number}
 use Rattle.text.specs.Fields.{endsOf}
 use Rattle.text.specs.declared.field.Ends.{Ends}
-use Rattle.book_line.specs.Line.{longestLine, isNumber, eventNamed, periodOf, unitOf, eventOf, valueFits, valueOf, formed}
+use Rattle.book_line.specs.EventNames.{eventNamed}
+use Rattle.book_line.specs.Line.{longestLine, isNumber, periodOf, unitOf, eventOf, valueFits, valueOf, formed}
 use Rattle.book_line.specs.Judging.{numberOf, judged, judgedFields}
 use Rattle.book_line.specs.declared.number.Number.{Number}
 use Rattle.book_line.specs.declared.line.Judged.{Judged}

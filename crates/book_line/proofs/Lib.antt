@@ -1,5 +1,6 @@
--- Numbers of a line, the judging of a line, octets laid into room, what a value's octets are; and lines of each kind, computed.
+-- Numbers of a line, the table of events, the judging of a line, octets laid into room, what a value's octets are; and lines of each kind, computed.
 pub mod Numbers
+pub mod EventTable
 pub mod Judging
 pub mod Laying
 pub mod Values

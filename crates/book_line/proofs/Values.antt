@@ -1,6 +1,6 @@
 -- What the octets of a value are, one by one: they are octets, as many as there are pairs of digits or letters.
 use mathlib.Core.Path.{_≡_, refl, _∙_}
-use mathlib.Core.Bool.{true, _&&_, _||_}
+use mathlib.Core.Bool.{true}
 use mathlib.Core.List.{List, [], _∷_, map}
 use Prim.Native.Nat.{ℕ, zero, suc, _+_, _*_, _/_, _%_, _<_}
 use native.Mathlib.Nat.{mod-lt}
@@ -13,10 +13,13 @@ use Rattle.symbols.specs.Symbols.{lineLength, within, fits}
 use Rattle.notes_and_cells.specs.Names.{ascii}
 use Rattle.text.specs.Text.{space, all, isLetter}
 use Rattle.text.proofs.Pieces.{piece-le, same-length}
-use Rattle.book_line.specs.Line.{longestLine, isAbsent, isHitText, valueFits, eventOf, valueOf, formed}
-use Rattle.notes_and_cells.specs.Events.{D1, D2, HIT}
-use Rattle.book_line.specs.Value.{hexDigit, pairs, bodyOf, letterCode, valueOctets}
+use Rattle.notes_and_cells.specs.Events.{HIT}
+use Rattle.book_line.specs.ValueForms.{formOf}
+use Rattle.book_line.specs.Line.{longestLine, isAbsent, isHitText, fitsForm, valueFits, eventOf, valueOf, formed}
+use Rattle.book_line.specs.Value.{hexDigit, pairs, bodyOf, letterCode, octetsIn, valueOctets}
 use Rattle.book_line.specs.Laying.{valueRoom}
+use Rattle.book_line.specs.declared.form.ValueForm.{ValueForm}
+use Rattle.book_line.specs.declared.form.ValueForm.the-variants.{Absent, Body, Letters}
 use Rattle.book_line.proofs.Judging.{formed-parts}
 
 pub hex-digit-small : (c : ℕ) → hexDigit c < 16
@@ -70,11 +73,14 @@ letters-small [] i = omega arith
 letters-small (c ∷ v) zero = letter-small c
 letters-small (c ∷ v) (suc i) = letters-small v i
 
+octets-small : (form : ValueForm) (v : List ℕ) (i : ℕ) → getD (octetsIn form v) i 0 < 256
+octets-small Absent v i = omega arith
+octets-small Body v i = rw (body-pairs v) (pairs-small v i)
+octets-small Letters v i = omega (arith, letters-small v i)
+
 pub value-octets : (event : ℕ) (v : List ℕ) (i : ℕ) → getD (valueOctets event v) i 0 < 256
 unfolding valueOctets
-value-octets event v i =
-    by-test (eqb event D1 || eqb event D2) (λ d. rw (d, body-pairs v) (pairs-small v i))
-    (λ d. by-test (eqb event HIT) (λ h. rw (d, h) (omega (arith, letters-small v i))) (λ h. rw (d, h) (omega arith)))
+value-octets event v i = octets-small (formOf event) v i
 
 -- ---- The values of lines of right form.
 
@@ -84,24 +90,22 @@ unfolding within
 codes-within [] = refl
 codes-within (c ∷ v) = rw (le-leb (letterCode c) 3 (omega (arith, letter-small c)), codes-within v)
 
+letters-long : (v : List ℕ) → isHitText v ≡ true → length (map letterCode v) ≡ lineLength
+unfolding isHitText
+letters-long v e = length-map v letterCode ∙ eqb-true (length v) lineLength (and-left (eqb (length v) lineLength) (all isLetter v) e)
+
 pub hit-fits : (v : List ℕ) → valueFits HIT v ≡ true → fits lineLength 3 (valueOctets HIT v) ≡ true
-unfolding valueFits isHitText valueOctets fits
-hit-fits v e =
-    let long : length (map letterCode v) ≡ lineLength =
-    length-map v letterCode ∙ eqb-true (length v) lineLength (and-left (eqb (length v) lineLength) (all isLetter v) e) in
-    rw (eq-eqb (length (map letterCode v)) lineLength long, codes-within v)
+unfolding formOf valueFits valueOctets fits
+hit-fits v e = rw (eq-eqb (length (map letterCode v)) lineLength (letters-long v e), codes-within v)
 
 -- every value has room
-value-short : (event : ℕ) (v : List ℕ) → length v < longestLine → valueFits event v ≡ true → length (valueOctets event v) < valueRoom
-unfolding valueFits isHitText valueOctets
-value-short event v h e =
-    by-test (eqb event D1 || eqb event D2) (λ d. rw (d, body-pairs v) (omega (arith, length-pairs v)))
-    (λ d. by-test (eqb event HIT)
-    (λ i. let f : eqb (length v) lineLength && all isLetter v ≡ true = rw (d, i) at e in
-    rw (d, i) (omega (arith, length-map v letterCode, eqb-true (length v) lineLength (and-left (eqb (length v) lineLength) (all isLetter v) f))))
-    (λ i. rw (d, i) (omega arith)))
+value-short : (form : ValueForm) (v : List ℕ) → length v < longestLine → fitsForm form v ≡ true → length (octetsIn form v) < valueRoom
+value-short Absent v h e = omega arith
+value-short Body v h e = rw (body-pairs v) (omega (arith, length-pairs v))
+value-short Letters v h e = omega (arith, letters-long v e)
 
 pub value-length : (line : List ℕ) → formed line ≡ true → length (valueOctets (eventOf line) (valueOf line)) < valueRoom
+unfolding valueFits valueOctets
 value-length line e =
     let f = formed-parts line e in
-    value-short (eventOf line) (valueOf line) (omega (arith, piece-le space line 3, f .short)) (f .value)
+    value-short (formOf (eventOf line)) (valueOf line) (omega (arith, piece-le space line 3, f .short)) (f .value)

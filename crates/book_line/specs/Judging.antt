@@ -7,7 +7,8 @@ use lib.Dec.{eqb}
 use Rattle.text.specs.Text.{number}
 use Rattle.text.specs.Fields.{endsOf}
 use Rattle.text.specs.declared.field.Ends.{Ends}
-use Rattle.book_line.specs.Line.{isNumber, eventNamed, valueFits, periodOf, unitOf, eventOf, formed}
+use Rattle.book_line.specs.EventNames.{eventNamed}
+use Rattle.book_line.specs.Line.{isNumber, valueFits, periodOf, unitOf, eventOf, formed}
 use Rattle.book_line.specs.declared.number.Number.{Number}
 use Rattle.book_line.specs.declared.line.Judged.{Judged}
 

@@ -1,32 +1,25 @@
 -- Rules: when a line of a book is of right form, and what it then says (document 01, "Bench book
 -- and report" and "Reasons a call is turned down", 12 to 14). A line stands here with its LF left
 -- off.
--- Interface: `eventNamed`, `isEnd`, `isNumber`, `isAbsent`, `isBodyText`, `isHitText`, `valueFits`,
--- `periodOf`, `unitOf`, `eventOf`, `valueOf`, `longestLine`, `formed`, `inOrder`. Assumes nothing.
-use mathlib.Core.Bool.{Bool, cond, not, _&&_, _||_}
+-- Interface: `isEnd`, `isNumber`, `isAbsent`, `isBodyText`, `isHitText`, `valueFits`, `periodOf`,
+-- `unitOf`, `eventOf`, `valueOf`, `longestLine`, `formed`, `inOrder`. Assumes nothing.
+use mathlib.Core.Bool.{Bool, false, not, _&&_, _||_}
 use mathlib.Core.List.{List}
+use mathlib.Core.Path.{_≡_, refl}
 use Prim.Native.Nat.{ℕ, _%_}
 use lib.Dec.{eqb, ltb, leb}
 use lib.ListN.{length}
-use Rattle.symbols.specs.Symbols.{lineLength}
-use Rattle.notes_and_cells.specs.Events.{ON, OFF, AR, DR, D1, D2, HIT, END}
+use Rattle.symbols.specs.Symbols.{lineLength, sameSymbols}
+use Rattle.notes_and_cells.specs.Events.{END}
 use Rattle.notes_and_cells.specs.Names.{ascii}
 use Rattle.timing.specs.Counts.{mostPeriods}
-use Rattle.text.specs.Text.{fields, field, same, all, isDigit, isHex, isLetter, number}
+use Rattle.text.specs.Text.{split, onto, fields, field, same, all, isDigit, isHex, isLetter, number}
+use Rattle.book_line.specs.EventNames.{eventNames, eventNamed}
+use Rattle.book_line.specs.ValueForms.{formOf}
+use Rattle.book_line.specs.declared.form.ValueForm.{ValueForm}
+use Rattle.book_line.specs.declared.form.ValueForm.the-variants.{Absent, Body, Letters}
 
 -- ---- Events.
-
--- The number of the event that a name names, 0 where it names none.
-unfoldable pub eventNamed : List ℕ → ℕ
-eventNamed name =
-    cond (same name (ascii "on")) ON
-    (cond (same name (ascii "off")) OFF
-    (cond (same name (ascii "ar")) AR
-    (cond (same name (ascii "dr")) DR
-    (cond (same name (ascii "d1")) D1
-    (cond (same name (ascii "d2")) D2
-    (cond (same name (ascii "hit")) HIT
-    (cond (same name (ascii "end")) END 0)))))))
 
 -- An `end` line is accepted exactly at unit 0 ("`end` (unit 0 ..)"): no state bars it.
 unfoldable pub isEnd : ℕ → ℕ → Bool
@@ -54,9 +47,15 @@ isBodyText v = isAbsent v || (leb 1 (length v) && eqb (length v % 2) 0 && all is
 unfoldable pub isHitText : List ℕ → Bool
 isHitText v = eqb (length v) lineLength && all isLetter v
 
--- Whether a value is of the form that the event wants: "a value where none belongs" is not.
+-- Whether a value is of a form: "a value where none belongs" is not of the form `Absent`.
+abbrev pub fitsForm : ValueForm → List ℕ → Bool
+fitsForm Absent v = isAbsent v
+fitsForm Body v = isBodyText v
+fitsForm Letters v = isHitText v
+
+-- Whether it is of the form that the event wants.
 unfoldable pub valueFits : ℕ → List ℕ → Bool
-valueFits event v = cond (eqb event D1 || eqb event D2) (isBodyText v) (cond (eqb event HIT) (isHitText v) (isAbsent v))
+valueFits event v = fitsForm (formOf event) v
 
 -- ---- Lines.
 
@@ -90,3 +89,8 @@ formed line =
 -- 13: "A line's period is before the last one's, or above 4,000,000."
 unfoldable pub inOrder : ℕ → ℕ → Bool
 inOrder last period = leb last period && leb period mostPeriods
+
+-- ---- Computed: a line whose event field is empty has four fields, and names no event.
+pub empty-event : (length (fields (ascii "0 0  -")) ≡ 4) × (formed (ascii "0 0  -") ≡ false)
+unfolding split onto all sameSymbols eventNames eventNamed isNumber formed
+empty-event = (refl, refl)

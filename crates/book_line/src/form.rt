@@ -7,7 +7,16 @@ use text::octets::all_hex;
 use text::octets::all_letters;
 use text::same::same;
 ghost use mathlib.Core.Path.{_≡_};
+ghost use Rattle.book_line.specs.ValueForms.{formOf};
 ghost use Rattle.book_line.specs.Line as spec;
+
+// What an event's value is: none, so that `-` stands for it; a body in hexadecimal; the letters of
+// a hit.
+pub enum ValueForm {
+    Absent,
+    Body,
+    Letters,
+}
 
 // Tests whether a value is absent.
 pub fn is_absent(v: &[u8]) -> bool
@@ -30,15 +39,39 @@ pub fn is_hit(v: &[u8]) -> bool
     (v.len() == LINE_LENGTH) & all_letters(v)
 }
 
+// The last event that has a value.
+const LAST_VALUED: u8 = HIT;
+
+// The form of each event's value, by the event's number, from 0 on.
+const FORMS: [ValueForm; LAST_VALUED as usize + 1] = [
+    ValueForm::Absent,
+    ValueForm::Absent,
+    ValueForm::Absent,
+    ValueForm::Absent,
+    ValueForm::Absent,
+    ValueForm::Body,
+    ValueForm::Body,
+    ValueForm::Letters,
+];
+
+// Gives the form of an event's value.
+pub fn form_of(event: u8) -> ValueForm
+    ensures { λ r. ⌜ r ≡ formOf event ⌝ }
+{
+    if event <= LAST_VALUED {
+        FORMS[event as usize]
+    } else {
+        ValueForm::Absent
+    }
+}
+
 // Tests whether a value is of the form that the event wants.
 pub fn value_fits(event: u8, v: &[u8]) -> bool
     ensures { λ r. ⌜ r ≡ spec.valueFits event (now (v .entry)) ⌝ }
 {
-    if (event == D1) | (event == D2) {
-        return is_body(v);
+    match form_of(event) {
+        ValueForm::Absent => is_absent(v),
+        ValueForm::Body => is_body(v),
+        ValueForm::Letters => is_hit(v),
     }
-    if event == HIT {
-        return is_hit(v);
-    }
-    is_absent(v)
 }

@@ -1,8 +1,7 @@
 // What a value says in octets: those of a body, the codes of a hit's letters.
+use crate::form::ValueForm;
+use crate::form::form_of;
 use crate::line::LONGEST_LINE;
-use notes_and_cells::events::D1;
-use notes_and_cells::events::D2;
-use notes_and_cells::events::HIT;
 use text::length::least;
 ghost use mathlib.Core.Path.{_≡_};
 ghost use mathlib.Core.List.{map};
@@ -71,11 +70,9 @@ fn letters(value: &[u8], out: &mut [u8]) -> usize
 pub fn octets(event: u8, value: &[u8], out: &mut [u8]) -> usize
     ensures { λ r. ⌜ laying.Laid (spec.valueOctets event (now (value .entry))) (now (out .entry)) r (now (out .exit)) ⌝ }
 {
-    if (event == D1) | (event == D2) {
-        return body(value, out);
+    match form_of(event) {
+        ValueForm::Absent => 0,
+        ValueForm::Body => body(value, out),
+        ValueForm::Letters => letters(value, out),
     }
-    if event == HIT {
-        return letters(value, out);
-    }
-    0
 }

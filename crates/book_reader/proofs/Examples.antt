@@ -6,7 +6,9 @@ use Prim.Native.String.{String}
 use Rattle.symbols.specs.Symbols.{sameSymbols}
 use Rattle.notes_and_cells.specs.Names.{ascii}
 use Rattle.text.specs.Text.{split, onto, all, onward}
-use Rattle.book_line.specs.Line.{eventNamed, isNumber, isAbsent, isBodyText, isHitText, valueFits, formed, inOrder, isEnd}
+use Rattle.book_line.specs.EventNames.{eventNames, eventNamed}
+use Rattle.book_line.specs.ValueForms.{formOf}
+use Rattle.book_line.specs.Line.{isNumber, isAbsent, isBodyText, isHitText, valueFits, formed, inOrder, isEnd}
 use Rattle.notes_and_cells.specs.Events.{ON, AR, D1, END}
 use Rattle.book_reader.specs.Book.{firstLine, nothing, closing, lines, answersFrom, answers}
 use Rattle.book_reader.specs.Book.Answer.{entry, fault}
@@ -73,5 +75,5 @@ pub computed : map answers (
     ∷ (entry 0 0 END none ∷ fault 14 ∷ [])
     ∷ (entry 0 0 END none ∷ fault 14 ∷ [])
     ∷ []
-unfolding sameSymbols split onto all onward eventNamed isNumber isAbsent isBodyText isHitText valueFits formed inOrder isEnd nothing closing lines answersFrom
+unfolding sameSymbols split onto all onward eventNames eventNamed isNumber isAbsent isBodyText isHitText formOf valueFits formed inOrder isEnd nothing closing lines answersFrom
 computed = refl

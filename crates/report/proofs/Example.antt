@@ -6,7 +6,9 @@ use Prim.Native.String.{String}
 use Rattle.notes_and_cells.specs.Names.{printed, printedAs}
 use Rattle.notes_and_cells.specs.Names.{ascii}
 use Rattle.text.specs.Text.{LF, onto, split, all, onward}
-use Rattle.book_line.specs.Line.{eventNamed, isEnd, isNumber, isAbsent, isBodyText, isHitText, valueFits, formed, inOrder}
+use Rattle.book_line.specs.EventNames.{eventNames, eventNamed}
+use Rattle.book_line.specs.ValueForms.{formOf}
+use Rattle.book_line.specs.Line.{isEnd, isNumber, isAbsent, isBodyText, isHitText, valueFits, formed, inOrder}
 use Rattle.book_line.specs.Value.{hexDigit, pairs, bodyOf, letterCode, valueOctets}
 use Rattle.book_reader.specs.Book.{nothing, closing, lines, answersFrom}
 use Rattle.bus_rules.specs.Scenes as scenes
@@ -27,7 +29,7 @@ reported told = text ("period unit note value" ∷ told)
 
 -- whatever says `unfolding computed` computes reports
 unfoldable computed : List ℕ → List ℕ
-unfolding scenes.handedBack printed printedAs note.decimalIn note.decimal note.hexCode note.hexOf note.noteLine note.notesIn note.heading note.stoppedLine onto split all onward eventNamed isEnd isNumber isAbsent isBodyText isHitText valueFits formed inOrder hexDigit pairs bodyOf letterCode valueOctets nothing closing lines answersFrom callAt callsOfAnswers bookCalls refusedNotes bookNotes allBookNotes stopOf report
+unfolding scenes.handedBack printed printedAs note.decimalIn note.decimal note.hexCode note.hexOf note.noteLine note.notesIn note.heading note.stoppedLine onto split all onward eventNames eventNamed isEnd isNumber isAbsent isBodyText isHitText formOf valueFits formed inOrder hexDigit pairs bodyOf letterCode valueOctets nothing closing lines answersFrom callAt callsOfAnswers bookCalls refusedNotes bookNotes allBookNotes stopOf report
 computed octets = report octets
 
 pub the-example :

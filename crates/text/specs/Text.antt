@@ -1,6 +1,6 @@
 -- Rules: text as octets: pieces between separators, fields, digits and letters (document 01, "Bench
 -- book and report": "ASCII, single spaces, LF").
--- Interface: `LF`, `space`, `split`, `upto`, `fields`, `field`, `same`, `all`, `isOther`,
+-- Interface: `LF`, `space`, `onto`, `split`, `upto`, `fields`, `field`, `same`, `all`, `isOther`,
 -- `isDigit`, `isHex`, `isLetter`, `number`. Assumes nothing.
 use mathlib.Core.Bool.{Bool, true, cond, not, _&&_, _||_}
 use mathlib.Core.List.{List, [] as []ᴸ, _∷_ as _∷ᴸ_}
