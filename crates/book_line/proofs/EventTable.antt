@@ -1,14 +1,15 @@
 -- The code's tables of events: the names in the order of the list, each with its number, and the loop that goes through them; the forms by number.
-use mathlib.Core.Path.{_≡_, refl, sym, ap, _∙_}
+use mathlib.Core.Path.{_≡_, refl, sym, _∙_}
 use mathlib.Core.Bool.{true, false, cond}
 use mathlib.Core.List.{List, [], _∷_, map}
-use Prim.Native.Nat.{ℕ, zero, suc, _+_, _≤_, _<_, max}
+use Prim.Native.Nat.{ℕ, suc, _+_, _≤_, _<_, max}
 use native.Mathlib.Numerals.{add-one}
 use native.Mathlib.Omega.{arith}
 use borrow.Author.Tests.{ne-eqb}
 use lib.ListN.{length, getD, drop, drop-of-length-le, List·getD-map}
 use lib.Seq.{drop-cons}
 use Rattle.text.specs.Text.{same}
+use Rattle.text.proofs.Tabulated.{tabulated, tabulated-at}
 use Rattle.book_line.specs.EventNames.{eventNames, numberBeside, eventNamed}
 use Rattle.book_line.specs.ValueForms.{valueForms, formBeside, formOf}
 use Rattle.book_line.specs.declared.form.ValueForm.{ValueForm}
@@ -59,22 +60,11 @@ past-all : (valued : List (ℕ × ValueForm)) (event : ℕ) → above valued ≤
 past-all [] event h = refl
 past-all (v ∷ more) event h = rw (ne-eqb event (v .0) (λ e. omega arith)) (past-all more event (omega arith))
 
--- what f gives for n numbers from k on
-abbrev from : (ℕ → ValueForm) → ℕ → ℕ → List ValueForm
-from f k zero = []
-from f k (suc n) = f k ∷ from f (suc k) n
-
-from-at : (f : ℕ → ValueForm) (k n i : ℕ) (other : ValueForm) → i < n → getD (from f k n) i other ≡ f (k + i)
-from-at f k zero i other h = absurd (omega arith)
-from-at f k (suc n) zero other h = let e : k + 0 ≡ k = omega arith in rw e
-from-at f k (suc n) (suc i) other h =
-    let e : k + suc i ≡ suc k + i = omega arith in rw e (from-at f (suc k) n i other (omega arith))
-
 abbrev pub forms : List ValueForm
-forms = from formOf 0 (above valueForms)
+forms = tabulated formOf (above valueForms)
 
 pub form-listed : (event : ℕ) (other : ValueForm) → event < above valueForms → getD forms event other ≡ formOf event
-form-listed event other h = let e : 0 + event ≡ event = omega arith in rw e at (from-at formOf 0 (above valueForms) event other h)
+form-listed event other h = tabulated-at formOf (above valueForms) event other h
 
 pub form-past : (event : ℕ) → above valueForms ≤ event → Absent ≡ formOf event
 unfolding formOf

@@ -6,9 +6,9 @@ use Prim.Native.Nat.{ℕ, _+_, _≤_}
 use native.Mathlib.Omega.{arith}
 use borrow.Author.Tests.{ltb-true, ltb-false, leb-true}
 use lib.Dec.{ltb, leb}
-use lib.ListN.{length, length-append, List·getD-eq-default}
+use lib.ListN.{length, length-append}
 use Rattle.test_lemmas.proofs.ByCases.{by-test, at-each-below}
-use Rattle.notes_and_cells.specs.Names.{plain, printed, printedAs}
+use Rattle.notes_and_cells.specs.Names.{printed, printedAs}
 use Rattle.notes_and_cells.specs.Notes.{HEARD, REFUSED}
 use Rattle.bus_rules.specs.Bus.{Note}
 use Rattle.text.specs.Text.{LF}
@@ -18,7 +18,7 @@ use Rattle.note_text.specs.NoteOctets.{noteOctets}
 use Rattle.note_text.specs.Lengths.{DecimalFits, LineFits, RefusedFits, HeardFits, OctetsLength}
 use Rattle.note_text.proofs.DecimalLaws.{decimal-length}
 use Rattle.note_text.proofs.HexLaws.{length-hex}
-use Rattle.note_text.proofs.NameTable.{noCode}
+use Rattle.note_text.proofs.NameTable.{noCode, no-code}
 use Rattle.note_text.proofs.NoteLaws.{line-parts}
 
 pub decimal-fits : DecimalFits
@@ -38,11 +38,6 @@ line-length n =
       length-append (openValue (printedAs (n .code) .value) (n .value)) (LF ∷ []),
     )
     (omega arith)
-
--- every number that is no code is printed alike
-no-code : (code : ℕ) → noCode ≤ code → printedAs code ≡ printedAs noCode
-unfolding printedAs printed
-no-code code h = List·getD-eq-default (plain "" ∷ printed) (plain "") h
 
 abbrev short : ℕ → Bool
 short code = leb (length (named code) + length (openValue (printedAs code .value) [])) 20

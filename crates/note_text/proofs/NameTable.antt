@@ -1,64 +1,43 @@
 -- The table of names: the part of each code is the code's name, and its value where the code decides it.
 use mathlib.Core.Bool.{Bool, true, false, cond}
-use mathlib.Core.List.{List, [], _∷_, _++_}
-use mathlib.Core.Path.{_≡_, refl}
-use Prim.Native.Nat.{ℕ, zero, suc, _+_, _-_, _≤_, _<_, min}
+use mathlib.Core.List.{List, [], _∷_}
+use mathlib.Core.Path.{_≡_, refl, _∙_}
+use Prim.Native.Nat.{ℕ, suc, _≤_, _<_, min}
 use native.Mathlib.Omega.{arith}
-use borrow.Author.Tests.{leb-true}
+use borrow.Author.Tests.{leb-true, leb-false}
 use lib.Dec.{leb, eqb}
-use lib.ListN.{length, getD, take, drop}
-use Rattle.test_lemmas.proofs.ByCases.{both, at-each-below}
-use Rattle.notes_and_cells.specs.Names.{Value, printed, printedAs}
+use lib.ListN.{getD, List·getD-eq-default}
+use Rattle.test_lemmas.proofs.ByCases.{by-test, at-each-below}
+use Rattle.notes_and_cells.specs.Names.{Value, plain, printed, printedAs}
 use Rattle.notes_and_cells.specs.Names.Value.{no-value, body, number, word}
 use Rattle.notes_and_cells.specs.Notes.{HEARD, REFUSED}
-use Rattle.notes_and_cells.proofs.Rows.{sameNumbers, same-numbers}
+use Rattle.text.proofs.Joined.{Lies, lies}
+use Rattle.text.proofs.Tabulated.{tabulated, tabulated-at, length-tabulated}
 use Rattle.note_text.specs.LineParts.{named, openValue}
-
--- The texts of the codes from one on; how they lie one behind the other, and where each begins.
-abbrev pub texts : ℕ → ℕ → List (List ℕ)
-texts zero code = []
-texts (suc more) code = named code ∷ texts more (suc code)
-
-abbrev pub joined : List (List ℕ) → List ℕ
-joined [] = []
-joined (t ∷ ts) = t ++ joined ts
-
-abbrev pub begins : ℕ → List (List ℕ) → List ℕ
-begins at [] = at ∷ []
-begins at (t ∷ ts) = at ∷ begins (at + length t) ts
 
 -- one more than the last code: it stands for every number that is no code
 abbrev pub noCode : ℕ
 noCode = suc REFUSED
 
-abbrev pub table : List ℕ
-table = joined (texts (suc noCode) 0)
+pub no-code : (code : ℕ) → noCode ≤ code → printedAs code ≡ printedAs noCode
+unfolding printedAs printed
+no-code code h = List·getD-eq-default (plain "" ∷ printed) (plain "") h
 
-abbrev pub places : List ℕ
-places = begins 0 (texts (suc noCode) 0)
+-- The texts of the codes, from 0 on.
+abbrev pub names : List (List ℕ)
+names = tabulated named (suc noCode)
 
-abbrev pub partAt : ℕ → List ℕ
-partAt k = take (getD places (k + 1) 0 - getD places k 0) (drop (getD places k 0) table)
+pub name-lies : (k : ℕ) → k ≤ noCode → Lies names k
+name-lies k h = lies names k (omega (arith, length-tabulated named (suc noCode)))
 
--- a part lies in the table
-abbrev inside : ℕ → Bool
-inside k = cond (leb (getD places k 0) (getD places (k + 1) 0)) (leb (getD places (k + 1) 0) (length table)) false
-
-pub record Inside (k : ℕ) : Type 0 where
-  pub order : getD places k 0 ≤ getD places (k + 1) 0
-  pub end : getD places (k + 1) 0 ≤ length table
-
-pub part-inside : (k : ℕ) → k ≤ noCode → Inside k
-unfolding named printedAs printed
-part-inside k h =
-    let t = both _ _ (at-each-below inside (suc noCode) k refl (omega arith)) in
-    record { order = leb-true _ _ (t .0); end = leb-true _ _ (t .1) }
-
--- every code's part, 256 of them
-pub part-right : (code k : ℕ) → code < 256 → k ≡ min code noCode → partAt k ≡ named code
-unfolding named printedAs printed
-part-right code k h e =
-    rw e (same-numbers (partAt (min code noCode)) (named code) (at-each-below (λ c. sameNumbers (partAt (min c noCode)) (named c)) 256 code refl h))
+-- every code's part
+pub name-right : (code k : ℕ) → k ≡ min code noCode → getD names k [] ≡ named code
+unfolding named
+name-right code k e =
+    tabulated-at named (suc noCode) k [] (omega arith)
+    ∙ by-test (leb noCode code)
+    (λ t. let l = leb-true noCode code t in let z : k ≡ noCode = omega arith in rw (z, no-code code l))
+    (λ t. let l = leb-false noCode code t in let z : k ≡ code = omega arith in rw z)
 
 -- ---- Only `heard` and `refused` leave their value open.
 abbrev closed : Value → Bool

@@ -2,7 +2,7 @@
 use native.Mathlib.Omega.{arith}
 use Rattle.notes_and_cells.specs.Names.{printed, printedAs}
 use Rattle.note_text.specs.LineParts.{named}
-use Rattle.note_text.proofs.NameTable.{part-inside, part-right}
+use Rattle.note_text.proofs.NameTable.{name-lies, name-right}
 use borrow.Author.Needs.{needs}
 use Rattle.note_text.proofs.note.put_name.Statement.{statement}
 use Rattle.note_text.proofs.note.put_name.Tie as tie
@@ -15,7 +15,7 @@ array-read-start c = search needs
 
 cast-start : tie.Need-cast-start
 unfolding named printedAs printed
-cast-start c = let k = part-inside (c .least .result) (omega (arith, c .least .ensures)) in omega (arith, k .order, k .end)
+cast-start c = let k = name-lies (c .least .result) (omega (arith, c .least .ensures)) in omega (arith, k .order, k .end)
 
 add-end : tie.Need-add-end
 add-end c = search needs
@@ -25,19 +25,19 @@ array-read-end c = search needs
 
 cast-end : tie.Need-cast-end
 unfolding named printedAs printed
-cast-end c = let k = part-inside (c .least .result) (omega (arith, c .least .ensures)) in omega (arith, k .end)
+cast-end c = let k = name-lies (c .least .result) (omega (arith, c .least .ensures)) in omega (arith, k .end)
 
 sub-put : tie.Need-sub-put
 unfolding named printedAs printed
-sub-put c = part-inside (c .before .least .result) (omega (arith, c .before .least .ensures)) .order
+sub-put c = name-lies (c .before .least .result) (omega (arith, c .before .least .ensures)) .order
 
 part-put-start : tie.Need-part-put-start
 unfolding named printedAs printed
-part-put-start c = part-inside (c .before .before .least .result) (omega (arith, c .before .before .least .ensures)) .order
+part-put-start c = name-lies (c .before .before .least .result) (omega (arith, c .before .before .least .ensures)) .order
 
 part-put-end : tie.Need-part-put-end
 unfolding named printedAs printed
-part-put-end c = part-inside (c .before .before .least .result) (omega (arith, c .before .before .least .ensures)) .end
+part-put-end c = name-lies (c .before .before .least .result) (omega (arith, c .before .before .least .ensures)) .end
 
 put-requires : tie.Need-put-requires
 put-requires c κs = search needs
@@ -51,7 +51,9 @@ returns c =
     let after-put = c .before .before in
     let after-least = after-put .before .before .before .before in
     let start = after-least .before .before in
-    rw (← part-right (start .args .code) (after-least .least .result) (omega arith) (after-least .least .ensures)) (after-put .put .ensures)
+    let least = after-least .least in
+    rw (← name-right (start .args .code) (least .result) (least .ensures), ← name-lies (least .result) (omega (arith, least .ensures)) .octets)
+    (after-put .put .ensures)
 
 pub put-name-spec : {M : Type 1} → statement M
 put-name-spec =
