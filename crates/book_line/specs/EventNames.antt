@@ -26,7 +26,7 @@ eventNames =
 -- The number beside a name in a list, 0 where the name does not stand in it.
 abbrev pub numberBeside : List ℕ → List (ℕ × List ℕ) → ℕ
 numberBeside name [] = 0
-numberBeside name (event ∷ events) = cond (same name (event .1)) (event .0) (numberBeside name events)
+numberBeside name (event ∷ events) = cond (same (event .1) name) (event .0) (numberBeside name events)
 
 -- The number of the event that a name names, 0 where it names none.
 unfoldable pub eventNamed : List ℕ → ℕ

@@ -8,18 +8,14 @@ use notes_and_cells::events::HIT;
 use notes_and_cells::events::OFF;
 use notes_and_cells::events::ON;
 use text::same::same;
-ghost use mathlib.Core.List.{[], map};
 ghost use mathlib.Core.Path.{_≡_};
-ghost use Prim.Native.Nat.{_<_};
-ghost use lib.ListN.{length, getD};
-ghost use Rattle.text.specs.Text as text;
 ghost use Rattle.book_line.specs.EventNames as spec;
 ghost use Rattle.book_line.specs.Line as line;
 
-// How many events there are.
+// How many events have a name.
 const EVENTS: usize = 8;
 
-// Their names, one behind the other.
+// The names, one behind the other.
 const NAMES: [u8; PLACES[EVENTS] as usize] = *b"onoffardrd1d2hitend";
 
 // Where each name begins; the last one's end.
@@ -28,24 +24,20 @@ const PLACES: [u8; EVENTS + 1] = [0, 2, 5, 7, 9, 11, 13, 16, 19];
 // The number beside each name.
 const NUMBERS: [u8; EVENTS] = [ON, OFF, AR, DR, D1, D2, HIT, END];
 
-// Tests whether a name is that of event k of the table.
-fn is_name(name: &[u8], k: usize) -> bool
-    requires { ⌜ k < length spec.eventNames ⌝ }
-    ensures { λ r. ⌜ r ≡ text.same (now (name .entry)) (getD (map (λ event. event .1) spec.eventNames) k []) ⌝ }
-{
-    let start = PLACES[k] as usize;
-    let end = PLACES[k + 1] as usize;
-    same(name, &NAMES[start..end])
-}
-
-// Gives the number of the event that a name names, or 0.
+// Gives the number of the event that a name names, or 0. The tables are held in locals, so that the
+// compiler writes the turns of the loop out and compares with each name as it stands.
 pub fn event_named(name: &[u8]) -> u8
     ensures { λ r. ⌜ r ≡ spec.eventNamed (now (name .entry)) ⌝ }
 {
+    let names = NAMES;
+    let places = PLACES;
+    let numbers = NUMBERS;
     let mut k: usize = 0;
     while k < EVENTS {
-        if is_name(name, k) {
-            return NUMBERS[k];
+        let start = places[k] as usize;
+        let end = places[k + 1] as usize;
+        if same(&names[start..end], name) {
+            return numbers[k];
         }
         k += 1;
     }

@@ -39,30 +39,29 @@ pub fn is_hit(v: &[u8]) -> bool
     (v.len() == LINE_LENGTH) & all_letters(v)
 }
 
-// The last event that has a value.
-const LAST_VALUED: u8 = HIT;
+// How many events have a value.
+const VALUED: usize = 3;
 
-// The form of each event's value, by the event's number, from 0 on.
-const FORMS: [ValueForm; LAST_VALUED as usize + 1] = [
-    ValueForm::Absent,
-    ValueForm::Absent,
-    ValueForm::Absent,
-    ValueForm::Absent,
-    ValueForm::Absent,
-    ValueForm::Body,
-    ValueForm::Body,
-    ValueForm::Letters,
-];
+// Their numbers.
+const NUMBERS: [u8; VALUED] = [D1, D2, HIT];
+
+// The form of the value of each.
+const FORMS: [ValueForm; VALUED] = [ValueForm::Body, ValueForm::Body, ValueForm::Letters];
 
 // Gives the form of an event's value.
 pub fn form_of(event: u8) -> ValueForm
     ensures { λ r. ⌜ r ≡ formOf event ⌝ }
 {
-    if event <= LAST_VALUED {
-        FORMS[event as usize]
-    } else {
-        ValueForm::Absent
+    let numbers = NUMBERS;
+    let forms = FORMS;
+    let mut k: usize = 0;
+    while k < VALUED {
+        if numbers[k] == event {
+            return forms[k];
+        }
+        k += 1;
     }
+    ValueForm::Absent
 }
 
 // Tests whether a value is of the form that the event wants.

@@ -2,17 +2,16 @@
 use mathlib.Core.Bool.{Bool, true, false, cond}
 use mathlib.Core.List.{List, [], _∷_}
 use mathlib.Core.Path.{_≡_, refl, _∙_}
-use Prim.Native.Nat.{ℕ, suc, _≤_, _<_, min}
+use Prim.Native.Nat.{ℕ, zero, suc, _+_, _≤_, _<_, min}
 use native.Mathlib.Omega.{arith}
 use borrow.Author.Tests.{leb-true, leb-false}
 use lib.Dec.{leb, eqb}
-use lib.ListN.{getD, List·getD-eq-default}
+use lib.ListN.{length, getD, List·getD-eq-default}
 use Rattle.test_lemmas.proofs.ByCases.{by-test, at-each-below}
 use Rattle.notes_and_cells.specs.Names.{Value, plain, printed, printedAs}
 use Rattle.notes_and_cells.specs.Names.Value.{no-value, body, number, word}
 use Rattle.notes_and_cells.specs.Notes.{HEARD, REFUSED}
 use Rattle.text.proofs.Joined.{Lies, lies}
-use Rattle.text.proofs.Tabulated.{tabulated, tabulated-at, length-tabulated}
 use Rattle.note_text.specs.LineParts.{named, openValue}
 
 -- one more than the last code: it stands for every number that is no code
@@ -23,21 +22,35 @@ pub no-code : (code : ℕ) → noCode ≤ code → printedAs code ≡ printedAs 
 unfolding printedAs printed
 no-code code h = List·getD-eq-default (plain "" ∷ printed) (plain "") h
 
--- The texts of the codes, from 0 on.
+-- The texts of n codes, from one on.
+abbrev texts : ℕ → ℕ → List (List ℕ)
+texts zero code = []
+texts (suc n) code = named code ∷ texts n (suc code)
+
+text-at : (n code k : ℕ) → k < n → getD (texts n code) k [] ≡ named (code + k)
+text-at zero code k h = absurd (omega arith)
+text-at (suc n) code zero h = let e : code + 0 ≡ code = omega arith in rw e
+text-at (suc n) code (suc k) h = let e : code + suc k ≡ suc code + k = omega arith in rw e (text-at n (suc code) k (omega arith))
+
+length-texts : (n code : ℕ) → length (texts n code) ≡ n
+length-texts zero code = refl
+length-texts (suc n) code = rw (length-texts n (suc code))
+
+-- the table
 abbrev pub names : List (List ℕ)
-names = tabulated named (suc noCode)
+names = texts (suc noCode) 0
 
 pub name-lies : (k : ℕ) → k ≤ noCode → Lies names k
-name-lies k h = lies names k (omega (arith, length-tabulated named (suc noCode)))
+name-lies k h = lies names k (omega (arith, length-texts (suc noCode) 0))
 
 -- every code's part
 pub name-right : (code k : ℕ) → k ≡ min code noCode → getD names k [] ≡ named code
 unfolding named
 name-right code k e =
-    tabulated-at named (suc noCode) k [] (omega arith)
+    text-at (suc noCode) 0 k (omega arith)
     ∙ by-test (leb noCode code)
-    (λ t. let l = leb-true noCode code t in let z : k ≡ noCode = omega arith in rw (z, no-code code l))
-    (λ t. let l = leb-false noCode code t in let z : k ≡ code = omega arith in rw z)
+    (λ t. let l = leb-true noCode code t in let z : 0 + k ≡ noCode = omega arith in rw (z, no-code code l))
+    (λ t. let l = leb-false noCode code t in let z : 0 + k ≡ code = omega arith in rw z)
 
 -- ---- Only `heard` and `refused` leave their value open.
 abbrev closed : Value → Bool

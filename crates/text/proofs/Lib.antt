@@ -1,7 +1,7 @@
 -- Laws of pieces and of tests of every octet; parts of a text; where fields lie; tables of the code: texts laid one behind the other (Joined), and
--- what a function gives number by number (Tabulated).
+-- what stands beside a number (Lookup).
 pub mod Pieces
 pub mod Parts
 pub mod Fields
 pub mod Joined
-pub mod Tabulated
+pub mod Lookup
