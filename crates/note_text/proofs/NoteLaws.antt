@@ -14,11 +14,11 @@ use Rattle.notes_and_cells.specs.Names.Value.{no-value, body, number, word}
 use Rattle.bus_rules.specs.Bus.{Note, notesOf}
 use Rattle.text.specs.Text.{LF, space}
 use Rattle.note_text.specs.NoteText.{decimal, valueText, note, noteLine, noteIn, notesIn}
-use Rattle.note_text.specs.LineParts.{fixedValue, named, openValue}
+use Rattle.note_text.specs.LineParts.{fixedValue, named, openIn, openAs, openValue}
 use Rattle.note_text.specs.declared.form.Form.{Form}
 
 -- a value in the part that the code decides and the other
-values-are : (v : Value) (value : List ℕ) → fixedValue v ++ openValue v value ≡ valueText v value
+values-are : (v : Value) (value : List ℕ) → fixedValue v ++ openValue (openIn v) value ≡ valueText v value
 values-are no-value value = refl
 values-are body value = refl
 values-are number value = refl
@@ -26,14 +26,14 @@ values-are (word w) value = append-nil w
 
 pub line-parts : (n : Note)
     → decimal (n .period)
-    ++ ((space ∷ []) ++ (decimal (n .unit) ++ (named (n .code) ++ (openValue (printedAs (n .code) .value) (n .value) ++ (LF ∷ [])))))
+    ++ ((space ∷ []) ++ (decimal (n .unit) ++ (named (n .code) ++ (openValue (openAs (n .code)) (n .value) ++ (LF ∷ [])))))
     ≡ noteLine n
-unfolding noteLine named
+unfolding noteLine named openAs
 line-parts n =
     let p = printedAs (n .code) in
     rw (
-      append-assoc (p .name) (space ∷ fixedValue (p .value)) (openValue (p .value) (n .value) ++ (LF ∷ [])),
-      ← append-assoc (fixedValue (p .value)) (openValue (p .value) (n .value)) (LF ∷ []),
+      append-assoc (p .name) (space ∷ fixedValue (p .value)) (openValue (openIn (p .value)) (n .value) ++ (LF ∷ [])),
+      ← append-assoc (fixedValue (p .value)) (openValue (openIn (p .value)) (n .value)) (LF ∷ []),
       values-are (p .value) (n .value),
     )
 

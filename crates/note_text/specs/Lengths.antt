@@ -1,10 +1,12 @@
 -- Laws: how long notes are, as lines and as octets, so that room can be lent that is large enough.
 -- Interface: `numbers`, `lineRoom`, `heardRoom`, `octetsRoom`. Assumes nothing.
-use mathlib.Core.List.{List, [], _∷_}
+use mathlib.Core.List.{List, []}
 use mathlib.Core.Path.{_≡_}
 use Prim.Native.Nat.{ℕ, _+_, _*_, _^_, _≤_, _<_}
-use lib.ListN.{length}
-use Rattle.notes_and_cells.specs.Notes.{HEARD, REFUSED}
+use lib.ListN.{length, getD}
+use Rattle.notes_and_cells.specs.Names.{printedAs}
+use Rattle.notes_and_cells.specs.Names.Value.{number}
+use Rattle.notes_and_cells.specs.Notes.{HEARD}
 use Rattle.hdlc.specs.Image.{longestBody}
 use Rattle.bus_rules.specs.Bus.{Note}
 use Rattle.note_text.specs.NoteOctets.{noteOctets}
@@ -30,10 +32,12 @@ LineFits =
     (period unit code : ℕ) → period < numbers → unit < numbers
     → length (noteLine (note period unit code [])) ≤ lineRoom
 
-abbrev pub RefusedFits : Type 0
-RefusedFits =
-    (period unit number : ℕ) → period < numbers → unit < numbers → number < numbers
-    → length (noteLine (note period unit REFUSED (number ∷ []))) ≤ lineRoom
+-- The line of a note whose value is a number fits, too, whatever octets the value has.
+abbrev pub NumberFits : Type 0
+NumberFits =
+    (period unit code : ℕ) (value : List ℕ)
+    → period < numbers → unit < numbers → printedAs code .value ≡ number → ((i : ℕ) → getD value i 0 < 256)
+    → length (noteLine (note period unit code value)) ≤ lineRoom
 
 -- The line of the longest body, of a unit of one digit: the period, the unit and `heard`, a space
 -- behind each, two digits for each octet, and LF.

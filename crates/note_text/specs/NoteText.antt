@@ -1,15 +1,16 @@
 -- Rules: the text of notes (document 01, "Bench book and report"), in ASCII codes, and notes in
 -- either form.
--- Interface: `decimalIn`, `decimal`, `hexCode`, `hexOf`, `note`, `noteLine`, `heading`,
--- `stoppedLine`, `noteIn`, `notesIn`, `notesText`. Assumes nothing.
+-- Interface: `decimalIn`, `decimal`, `hexCode`, `hexOf`, `noteNumber`, `note`, `noteLine`,
+-- `heading`, `stoppedLine`, `noteIn`, `notesIn`, `notesText`. Assumes nothing.
 use mathlib.Core.Bool.{cond}
 use mathlib.Core.List.{List, [], _∷_, _++_, map}
 use mathlib.Core.Path.{_≡_, refl}
 use Prim.Native.Nat.{ℕ, zero, suc, _+_, _/_, _%_}
 use lib.Dec.{ltb}
-use lib.ListN.{getD}
+use lib.ListN.{take}
 use Rattle.notes_and_cells.specs.Names.{Value, ascii, printed, printedAs}
 use Rattle.notes_and_cells.specs.Names.Value.{no-value, body, number, word}
+use Rattle.notes_and_cells.specs.NumberOfOctets.{lowFirst}
 use Rattle.notes_and_cells.specs.Notes.{PH-ACT, MPH-ACT, MPH-EI2, MPH-II-CONNECTED, HEARD, DONE1, REFUSED}
 use Rattle.text.specs.Text.{LF, space}
 use Rattle.bus_rules.specs.Bus.{Note}
@@ -51,11 +52,18 @@ line [] = LF ∷ []
 line (field ∷ []) = field ++ (LF ∷ [])
 line (field ∷ next ∷ fields) = field ++ (space ∷ line (next ∷ fields))
 
+-- A note's number has up to three octets; what follows them is not looked at.
+abbrev pub numberOctets : ℕ
+numberOctets = 3
+
+abbrev pub noteNumber : List ℕ → ℕ
+noteNumber value = lowFirst (take numberOctets value)
+
 -- "an absent value is `-`"
 abbrev pub valueText : Value → List ℕ → List ℕ
 valueText no-value value = ascii "-"
 valueText body value = hexOf value
-valueText number value = decimal (getD value 0 0)
+valueText number value = decimal (noteNumber value)
 valueText (word w) value = w
 
 abbrev pub note : ℕ → ℕ → ℕ → List ℕ → Note
@@ -122,5 +130,12 @@ unfolding hexOf hexCode
 example-octets = refl
 
 pub example-refused : noteLine (note 3 12 REFUSED (3 ∷ [])) ≡ line (ascii "3 12 refused 3" ∷ [])
-unfolding noteLine decimal decimalIn printedAs printed
+unfolding lowFirst noteLine decimal decimalIn printedAs printed
 example-refused = refl
+
+-- A number of one octet, of three, of none; of four octets the fourth is not looked at.
+pub example-values :
+    map (valueText number) ((22 ∷ []) ∷ (1 ∷ 2 ∷ 3 ∷ []) ∷ (255 ∷ 255 ∷ 255 ∷ []) ∷ [] ∷ (1 ∷ 2 ∷ 3 ∷ 4 ∷ []) ∷ [])
+    ≡ map ascii ("22" ∷ "197121" ∷ "16777215" ∷ "0" ∷ "197121" ∷ [])
+unfolding lowFirst decimal decimalIn
+example-values = refl

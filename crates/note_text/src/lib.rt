@@ -7,3 +7,5 @@ pub mod low;
 pub mod note;
 pub mod number;
 pub mod room;
+pub mod table;
+pub mod value;

@@ -2,24 +2,20 @@
 // as octets for a host.
 ghost use mathlib.Core.Path.{_≡_};
 ghost use Rattle.bus_rules.specs.Bus.{notesOf};
-ghost use lib.ListN.{getD};
 ghost use mathlib.Core.List.{[]};
-ghost use Rattle.notes_and_cells.specs.Names.{printedAs};
 ghost use Rattle.notes_and_cells.specs.Notes.{noted};
 ghost use Rattle.note_text.specs.Room.{Put};
 ghost use Rattle.note_text.specs.NoteOctets.{noteOctets};
 ghost use Rattle.note_text.specs.NoteText.{note, noteLine, noteIn, notesIn, heading, stoppedLine};
-ghost use Rattle.note_text.specs.LineParts.{named, openValue};
 use super::form::Form;
-use super::hex::put_hex;
 use super::low::put_half;
 use super::low::put_word;
 use super::number::put_decimal;
 use super::room::put;
+use super::table::put_name;
+use super::value::put_value;
 use hdlc::LONGEST_BODY;
-use notes_and_cells::notes::HEARD;
 use notes_and_cells::notes::Notes;
-use notes_and_cells::notes::REFUSED;
 use text::length::least;
 
 // The most digits of a number below 2^32.
@@ -32,68 +28,6 @@ pub const LINE_ROOM: usize = 2 * (MOST_DIGITS + 1) + 19 + 1;
 pub const HEARD_ROOM: usize = (MOST_DIGITS + 1) + (1 + 1) + (5 + 1) + 2 * LONGEST_BODY + 1;
 // A note as octets takes these, and the octets of its value.
 pub const OCTETS_ROOM: usize = 8;
-
-// One more than the last code: where numbers that are no code stand in the table.
-const NO_CODE: usize = REFUSED as usize + 1;
-
-// For each code, from 0 on: a space, the note's name, a space, and the value where the code decides
-// it.
-const NAMES: [u8; PLACES[NO_CODE + 1] as usize] =
-    *b"  - PH-ACT - PH-DEACT - MPH-ACT - MPH-DEACT - MPH-EI - MPH-EI1 - MPH-EI2 - \
-    MPH-II connected MPH-II disconnected heard  torn - done1 - done2 - dropped1 - dropped2 - refused   -";
-
-// Where each code's part begins; the last one's end.
-const PLACES: [u8; NO_CODE + 2] = [
-    0,
-    3,
-    12,
-    23,
-    33,
-    45,
-    54,
-    64,
-    74,
-    91,
-    111,
-    118,
-    125,
-    133,
-    141,
-    152,
-    163,
-    172,
-    175,
-];
-
-// Puts the note's name between spaces, and the value where the code decides it.
-fn put_name(room: &mut [u8], wrote: usize, code: u8) -> usize
-    ensures { λ r. ⌜ Put (now (room .entry)) wrote (named code) r (now (room .exit)) ⌝ }
-{
-    let k = least(code as usize, NO_CODE);
-    let start = PLACES[k] as usize;
-    let end = PLACES[k + 1] as usize;
-    put(room, wrote, &NAMES[start..end])
-}
-
-// Gives the first octet, 0 where there is none.
-fn first(value: &[u8]) -> u8
-    ensures { λ r. ⌜ r ≡ getD (now (value .entry)) 0 0 ⌝ }
-{
-    if 0 < value.len() { value[0] } else { 0 }
-}
-
-// Puts the value, where the code does not decide it.
-fn put_value(room: &mut [u8], wrote: usize, code: u8, value: &[u8]) -> usize
-    ensures { λ r. ⌜ Put (now (room .entry)) wrote (openValue (printedAs code .value) (now (value .entry))) r (now (room .exit)) ⌝ }
-{
-    if code == HEARD {
-        return put_hex(room, wrote, value);
-    }
-    if code == REFUSED {
-        return put_decimal(room, wrote, first(value) as u64);
-    }
-    least(wrote, room.len())
-}
 
 // Puts the line of a note.
 fn put_line(room: &mut [u8], wrote: usize, period: u64, unit: u32, code: u8, value: &[u8]) -> usize

@@ -1,11 +1,11 @@
--- `put_name` meets its contract: each code's part of the table is its name (proofs/NameTable).
+-- `put_name` meets its contract: each code's part of the table is its name (proofs/NoteTable).
 use native.Mathlib.Omega.{arith}
 use Rattle.notes_and_cells.specs.Names.{printed, printedAs}
 use Rattle.note_text.specs.LineParts.{named}
-use Rattle.note_text.proofs.NameTable.{name-lies, name-right}
+use Rattle.note_text.proofs.NoteTable.{name-lies, name-right}
 use borrow.Author.Needs.{needs}
-use Rattle.note_text.proofs.note.put_name.Statement.{statement}
-use Rattle.note_text.proofs.note.put_name.Tie as tie
+use Rattle.note_text.proofs.table.put_name.Statement.{statement}
+use Rattle.note_text.proofs.table.put_name.Tie as tie
 
 least-requires : tie.Need-least-requires
 least-requires c κs = search needs

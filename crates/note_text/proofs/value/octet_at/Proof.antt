@@ -1,9 +1,9 @@
--- `first` meets its contract: past the end of a list, `getD` gives 0.
+-- `octet_at` meets its contract: past the end of a list, `getD` gives 0.
 use mathlib.Core.Path.{sym}
 use lib.ListN.{List·getD-eq-default}
 use borrow.Author.Needs.{needs}
-use Rattle.note_text.proofs.note.first.Statement.{statement}
-use Rattle.note_text.proofs.note.first.Tie as tie
+use Rattle.note_text.proofs.value.octet_at.Statement.{statement}
+use Rattle.note_text.proofs.value.octet_at.Tie as tie
 
 shared-slice-read-result : tie.Need-shared-slice-read-result
 shared-slice-read-result c = search needs
@@ -14,5 +14,5 @@ returns c = search needs
 returns-2 : tie.Need-returns-2
 returns-2 c = sym (List·getD-eq-default (c .before .args .value .now) 0 (c .if1 .left))
 
-pub first-spec : {M : Type 1} → statement M
-first-spec = tie.close (tie.spec shared-slice-read-result returns returns-2)
+pub octet-at-spec : {M : Type 1} → statement M
+octet-at-spec = tie.close (tie.spec shared-slice-read-result returns returns-2)
