@@ -1,9 +1,9 @@
 -- Laws: lists of calls on the record and what is lent with it. Each list hands back the replies and
 -- the notes that crate `bus_rules` has for the same calls (specs/Calls.antt there), so that demand
 -- 3 (specs/Claims.antt there) speaks of these calls: Demand3.antt.
--- Interface: `told`, `called`, `replied`, `readerTold`, `doneNotes`, `periodTold`, `terminalsTold`,
--- `timersTold`, `notesTold`, `Carries`, `LentCall`, `OctetValue`, `freshFound`, `made`, `lend`,
--- `OctetValues`, `callsIn`, `runTold`. Assumes nothing.
+-- Interface: `told`, `called`, `replied`, `readerTold`, `doneNotes`, `heardTold`, `timedTold`,
+-- `periodTold`, `terminalsTold`, `timersTold`, `notesTold`, `Carries`, `LentCall`, `OctetValue`,
+-- `freshFound`, `made`, `lend`, `OctetValues`, `callsIn`, `runTold`. Assumes nothing.
 use mathlib.Core.Bool.{Bool, true, false, cond, _&&_}
 use mathlib.Core.List.{List, [], _∷_, _++_, map}
 use mathlib.Core.Path.{_≡_, refl}
@@ -80,7 +80,7 @@ terminalsHeard r i (n ∷ ns) =
 abbrev pub terminalsTimed : List UnitNotes → List (List ℕ)
 terminalsTimed ns = map (λ (n : UnitNotes). noted (n .timers)) ns
 
--- the notes of what is heard, and those of the timers
+-- the two parts of a period's notes, by who notes them: what is heard, and what comes of the timers
 abbrev pub heardTold : ℕ → RunAnswer → List UnitNotes → List ℕ → ByUnit
 heardTold now r ns octets =
     record { reader = readerTold now r octets; network = noted (r .network .hearing); terminals = terminalsHeard r 0 ns }

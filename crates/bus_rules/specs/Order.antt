@@ -2,7 +2,7 @@
 -- stand as they arise; within one unit's hearing or line, D notes .. come before the table's, which
 -- keep its order." Nothing else says so: `periodNotes` (Period.antt) is this order of what the
 -- rules give, and `periodTold` of crate `bus_call_specs` the same order of what a call hands back.
--- Interface: `ByUnit`, `dFirst`, `unitByUnit`, `periodInOrder`. Assumes nothing.
+-- Interface: `ByUnit`, `dFirst`, `unitByUnit`, `partInOrder`, `periodInOrder`. Assumes nothing.
 use mathlib.Core.List.{List, [], _∷_, _++_}
 use Prim.Native.Nat.{ℕ, suc, _+_}
 use Rattle.bus_rules.specs.Bus.{Note, notesOf}

@@ -12,10 +12,10 @@ use lib.Seq.{take-suc, take-all, length-take-le}
 use Rattle.hdlc.specs.Bits.{bitOf}
 use Rattle.notes_and_cells.specs.Notes.{noted}
 use Rattle.bus_rules.specs.Bus.{Note, terminals, notesOf}
-use Rattle.bus_rules.specs.Order.{unitByUnit}
+use Rattle.bus_rules.specs.Order.{unitByUnit, partInOrder}
 use Rattle.period_hearing.specs.declared.hears.UnitNotes.{UnitNotes}
 use Rattle.bus_record.specs.declared.side.RunAnswer.{RunAnswer}
-use Rattle.bus_call_specs.specs.Lists.{readerTold, doneNotes, terminalsHeard, terminalsTold, timersTold, periodTold}
+use Rattle.bus_call_specs.specs.Lists.{readerTold, doneNotes, terminalsHeard, terminalsTold, timersTold, heardTold, timedTold, periodTold}
 use Rattle.note_text.specs.Room.{Put}
 use Rattle.note_text.specs.NoteText.{notesIn}
 use Rattle.note_text.specs.declared.form.Form.{Form}
@@ -72,7 +72,7 @@ pub done-first : {room : List ℕ} {wrote r₁ : ℕ} {room₁ : List ℕ} {r₂
     → Put room wrote (notesIn form (notesOf now unit (doneNotes one two ++ others))) r₂ room₂
 done-first form now unit one two done others e p q = rw (← e, codes-append form now unit done others) (put-put p q)
 
--- ---- Where the loop of `put_hearing` stands: the notes of i terminals are put, and so many bits are gone from the octets of completed frames.
+-- ---- Where the loop of `put_terminals` stands: the notes of i terminals are put, and so many bits are gone from the octets of completed frames.
 pub record Hearing (form : Form) (room₀ : List ℕ) (wrote now : ℕ) (ns : List UnitNotes) (done1 done2 : ℕ) (room : List ℕ) (first second at i : ℕ) : Type 0 where
   pub long : length ns ≡ terminals
   pub within : i ≤ terminals
@@ -142,18 +142,22 @@ module _ {form : Form} {room₀ : List ℕ} {wrote now : ℕ} {ns : List UnitNot
   pub timing-ends : terminals ≤ i → Put room₀ wrote (notesIn form (timersTold now 0 ns)) at room
   timing-ends h = let long = l .long in rw (take-all i ns (omega arith)) at (l .put-are)
 
--- ---- The parts of a period's notes, one behind the other.
-five-parts : (form : Form) (a b c d e : List Note)
-    → notesIn form a ++ (notesIn form b ++ (notesIn form c ++ (notesIn form d ++ notesIn form e))) ≡ notesIn form ((a ++ (b ++ c)) ++ (d ++ e))
-five-parts form a b c d e = simp (← form-append, ← append-assoc)
+-- ---- The parts of a period's notes, one behind the other: of what is heard, of the timers, and of both.
+pub heard-parts : (form : Form) (now : ℕ) (r : RunAnswer) (ns : List UnitNotes) (octets : List ℕ)
+    → notesIn form (readerTold now r octets)
+    ++ (notesIn form (notesOf now 0 (noted (r .network .hearing))) ++ notesIn form (terminalsTold now r 0 ns))
+    ≡ notesIn form (partInOrder now (heardTold now r ns octets))
+heard-parts form now r ns octets =
+    let network = notesOf now 0 (noted (r .network .hearing)) in
+    rw (form-append form (readerTold now r octets) (network ++ terminalsTold now r 0 ns), form-append form network (terminalsTold now r 0 ns))
+
+pub timed-parts : (form : Form) (now : ℕ) (r : RunAnswer) (ns : List UnitNotes)
+    → notesIn form (notesOf now 0 (noted (r .network .timers))) ++ notesIn form (timersTold now 0 ns)
+    ≡ notesIn form (partInOrder now (timedTold r ns))
+timed-parts form now r ns = sym (form-append form (notesOf now 0 (noted (r .network .timers))) (timersTold now 0 ns))
 
 pub period-parts : (form : Form) (now : ℕ) (r : RunAnswer) (ns : List UnitNotes) (octets : List ℕ)
-    → notesIn form (readerTold now r octets)
-    ++ (notesIn form (notesOf now 0 (noted (r .network .hearing)))
-    ++ (notesIn form (terminalsTold now r 0 ns)
-    ++ (notesIn form (notesOf (now + 1) 0 (noted (r .network .timers))) ++ notesIn form (timersTold (now + 1) 0 ns))))
+    → notesIn form (partInOrder now (heardTold now r ns octets)) ++ notesIn form (partInOrder (now + 1) (timedTold r ns))
     ≡ notesIn form (periodTold now r ns octets)
 unfolding periodTold
-period-parts form now r ns octets =
-    five-parts form (readerTold now r octets) (notesOf now 0 (noted (r .network .hearing))) (terminalsTold now r 0 ns)
-    (notesOf (now + 1) 0 (noted (r .network .timers))) (timersTold (now + 1) 0 ns)
+period-parts form now r ns octets = sym (form-append form (partInOrder now (heardTold now r ns octets)) (partInOrder (now + 1) (timedTold r ns)))

@@ -1,31 +1,32 @@
 -- The notes of a period and of an event fit into the room that specs/PeriodText.antt gives them, as text and as octets.
 use mathlib.Core.Bool.{Bool, true, false}
 use mathlib.Core.List.{List, [], _∷_, _++_}
-use mathlib.Core.Path.{_≡_}
-use Prim.Native.Nat.{ℕ, suc, _+_, _*_, _≤_, _<_}
+use mathlib.Core.Path.{_≡_, refl}
+use Prim.Native.Nat.{ℕ, zero, suc, _+_, _*_, _≤_, _<_}
 use native.Mathlib.Omega.{arith}
 use native.Mathlib.Nat.{mul-le-mul-right, le-trans}
 use borrow.Author.Tests.{eqb-true}
 use lib.Dec.{eqb}
-use lib.ListN.{length, take, length-append, length-take}
+use lib.ListN.{length, getD, take, length-append, length-take}
 use Rattle.test_lemmas.proofs.ByCases.{by-test}
-use Rattle.notes_and_cells.specs.Notes.{HEARD, noted}
+use Rattle.notes_and_cells.specs.Names.{printed, printedAs}
+use Rattle.notes_and_cells.specs.Notes.{HEARD, REFUSED, noted}
 use Rattle.notes_and_cells.specs.declared.notes.Notes.{Notes}
 use Rattle.hdlc.specs.Bits.{bitOf}
 use Rattle.hdlc.specs.Image.{longestBody}
 use Rattle.bus_rules.specs.Bus.{terminals, notesOf}
-use Rattle.bus_rules.specs.Order.{unitByUnit}
+use Rattle.bus_rules.specs.Order.{unitByUnit, partInOrder}
 use Rattle.period_hearing.specs.declared.hears.UnitNotes.{UnitNotes}
 use Rattle.bus_record.specs.declared.side.RunAnswer.{RunAnswer}
-use Rattle.bus_call_specs.specs.Lists.{readerTold, doneNotes, terminalsHeard, terminalsTold, timersTold, periodTold}
+use Rattle.bus_call_specs.specs.Lists.{readerTold, doneNotes, terminalsHeard, terminalsTold, timersTold, heardTold, timedTold, periodTold}
 use Rattle.note_text.specs.NoteText.{note, noteIn, notesIn}
 use Rattle.note_text.specs.Lengths.{numbers, lineRoom, heardRoom, octetsRoom}
 use Rattle.note_text.specs.declared.form.Form.{Form}
 use Rattle.note_text.specs.declared.form.Form.the-variants.{Line, Octets}
 use Rattle.note_text.proofs.NoteLaws.{one-note, form-append}
-use Rattle.note_text.proofs.Lengths.{line-fits, refused-fits, heard-fits, octets-length}
-use Rattle.period_text.specs.PeriodText.{eventNoted, mostNotes, PeriodFits, EventFits, PeriodOctetsFit, EventOctetsFit}
-use Rattle.period_text.proofs.PeriodLaws.{heardOf, timedOf, period-parts}
+use Rattle.note_text.proofs.Lengths.{line-fits, number-fits, heard-fits, octets-length}
+use Rattle.period_text.specs.PeriodText.{eventNoted, mostHeard, mostTimed, mostNotes, PeriodFits, EventFits, PeriodOctetsFit, EventOctetsFit}
+use Rattle.period_text.proofs.PeriodLaws.{heardOf, timedOf, heard-parts, timed-parts, period-parts}
 
 at-most-four : (n : Notes) → length (noted n) ≤ 4
 unfolding noted
@@ -101,20 +102,35 @@ module _ (form : Form) (most heard now : ℕ) (r : RunAnswer) (ns : List UnitNot
       (λ t. by-test (eqb (r .said) HEARD) (λ u. rw (eqb-true (r .said) HEARD u, one-note) h)
       (λ u. rw (t, u, one-note) (omega (arith, p (r .said)))))
 
-  period-room : UnitsFit form most now → UnitsFit form most (now + 1)
-      → length (noteIn form (note now 0 HEARD (take (r .body) octets))) ≤ heard → most ≤ heard → length ns ≡ terminals
-      → length (notesIn form (periodTold now r ns octets)) ≤ heard + mostNotes * most
-  period-room p q h k long =
-      rw (← period-parts form now r ns octets)
+  heard-room : UnitsFit form most now → length (noteIn form (note now 0 HEARD (take (r .body) octets))) ≤ heard → most ≤ heard → length ns ≡ terminals
+      → length (notesIn form (partInOrder now (heardTold now r ns octets))) ≤ heard + mostHeard * most
+  heard-room p h k long =
+      rw (← heard-parts form now r ns octets)
       (simp length-append
       (omega (
         arith,
         reader-fits (p 0 (omega arith)) h k,
         notes-fit form most now 0 (r .network .hearing) (p 0 (omega arith)),
         rw long at (terminals-fit form most now r 0 ns p (omega arith)),
-        notes-fit form most (now + 1) 0 (r .network .timers) (q 0 (omega arith)),
-        rw long at (timers-fit form most (now + 1) 0 ns q (omega arith)),
       )))
+
+  timed-room : (next : ℕ) → UnitsFit form most next → length ns ≡ terminals
+      → length (notesIn form (partInOrder next (timedTold r ns))) ≤ mostTimed * most
+  timed-room next q long =
+      rw (← timed-parts form next r ns)
+      (simp length-append
+      (omega (
+        arith,
+        notes-fit form most next 0 (r .network .timers) (q 0 (omega arith)),
+        rw long at (timers-fit form most next 0 ns q (omega arith)),
+      )))
+
+  period-room : UnitsFit form most now → UnitsFit form most (now + 1)
+      → length (noteIn form (note now 0 HEARD (take (r .body) octets))) ≤ heard → most ≤ heard → length ns ≡ terminals
+      → length (notesIn form (periodTold now r ns octets)) ≤ heard + mostNotes * most
+  period-room p q h k long =
+      rw (← period-parts form now r ns octets)
+      (simp length-append (omega (arith, heard-room p h k long, timed-room (now + 1) q long)))
 
 -- ---- As text.
 lines-fit : (now : ℕ) → now < numbers → UnitsFit Line lineRoom now
@@ -125,11 +141,15 @@ period-fits now r ns octets h long k =
     period-room Line lineRoom heardRoom now r ns octets (lines-fit now (omega arith)) (lines-fit (now + 1) h)
     (heard-fits now 0 (take (r .body) octets) (omega arith) (omega arith) (rw length-take (omega arith))) (omega arith) long
 
+one-octet : (o : ℕ) → o < 256 → (i : ℕ) → getD (o ∷ []) i 0 < 256
+one-octet o h zero = h
+one-octet o h (suc i) = omega arith
+
 pub event-fits : EventFits
-unfolding eventNoted
+unfolding eventNoted printedAs printed
 event-fits period unit notes reply h k l =
     by-test (eqb reply 0) (λ t. rw t (omega (arith, notes-fit Line lineRoom period unit notes (λ code. line-fits period unit code h k))))
-    (λ t. rw (t, one-note) (omega (arith, refused-fits period unit reply h k l)))
+    (λ t. rw (t, one-note) (omega (arith, number-fits period unit REFUSED (reply ∷ []) h k refl (one-octet reply l))))
 
 -- ---- As octets.
 plain-octets : (now unit : ℕ) → PlainFits Octets octetsRoom now unit

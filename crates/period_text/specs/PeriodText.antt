@@ -25,10 +25,17 @@ eventNoted period unit notes reply =
     cond (eqb reply 0) (notesOf period unit (noted notes))
     (note period unit REFUSED (reply ∷ []) ∷ [])
 
--- The most notes of a period beside the reader's: four of unit 0's hearing and four of its timers;
--- six of each terminal's hearing, two of them of its frames, and four of its timer.
+-- The most notes of what is heard in a period, beside the reader's: four of unit 0's hearing and
+-- six of each terminal's, two of them of its frames.
+abbrev pub mostHeard : ℕ
+mostHeard = 4 + terminals * 6
+
+-- Those of the timers: four of unit 0's and four of each terminal's.
+abbrev pub mostTimed : ℕ
+mostTimed = 4 + terminals * 4
+
 abbrev pub mostNotes : ℕ
-mostNotes = (4 + 4) + terminals * (6 + 4)
+mostNotes = mostHeard + mostTimed
 
 -- The most octets that the notes of a period take, the reader's with a body among them.
 abbrev pub periodRoom : ℕ
@@ -40,11 +47,11 @@ PeriodFits =
     (now : ℕ) (r : RunAnswer) (ns : List UnitNotes) (octets : List ℕ)
     → now + 1 < numbers → length ns ≡ terminals → length octets ≤ longestBody → length (notesText (periodTold now r ns octets)) ≤ periodRoom
 
--- And that of an event's.
+-- And that of an event's, whose reply is an octet.
 abbrev pub EventFits : Type 0
 EventFits =
     (period unit : ℕ) (notes : Notes) (reply : ℕ)
-    → period < numbers → unit < numbers → reply < numbers → length (notesText (eventNoted period unit notes reply)) ≤ periodRoom
+    → period < numbers → unit < numbers → reply < 256 → length (notesText (eventNoted period unit notes reply)) ≤ periodRoom
 
 -- ---- The same as octets, where a refusal is the call's reply and no note.
 abbrev pub periodOctetsRoom : ℕ

@@ -2,7 +2,8 @@
 ghost use mathlib.Core.Path.{_≡_};
 ghost use mathlib.Core.List.{_++_};
 ghost use Rattle.bus_rules.specs.Bus.{notesOf};
-ghost use Rattle.bus_call_specs.specs.Lists.{readerTold, doneNotes, terminalsTold, timersTold, periodTold};
+ghost use Rattle.bus_rules.specs.Order.{partInOrder};
+ghost use Rattle.bus_call_specs.specs.Lists.{readerTold, doneNotes, terminalsTold, timersTold, heardTold, timedTold, periodTold};
 ghost use Rattle.bus_record.specs.declared.side.RunAnswer.{RunAnswer};
 ghost use Rattle.notes_and_cells.specs.Notes.{noted};
 ghost use Rattle.note_text.specs.Room.{Put};
@@ -26,9 +27,13 @@ use notes_and_cells::notes::Notes;
 use period_hearing::hears::UnitNotes;
 use text::length::least;
 
-// The most notes of a period beside the reader's: four of unit 0's hearing and four of its timers;
-// six of each terminal's hearing, two of them of its frames, and four of its timer.
-const MOST_NOTES: usize = (4 + 4) + TERMINALS * (6 + 4);
+// The most notes of what is heard in a period, beside the reader's: four of unit 0's hearing and six
+// of each terminal's, two of them of its frames.
+const MOST_HEARD: usize = 4 + TERMINALS * 6;
+// Those of the timers: four of unit 0's and four of each terminal's.
+const MOST_TIMED: usize = 4 + TERMINALS * 4;
+
+const MOST_NOTES: usize = MOST_HEARD + MOST_TIMED;
 // The most octets that the notes of a period take, the reader's with a body among them: as text,
 pub const PERIOD_ROOM: usize = HEARD_ROOM + MOST_NOTES * LINE_ROOM;
 // and as octets.
@@ -73,8 +78,8 @@ fn done_notes(done1: bool, done2: bool) -> Notes
     NO_NOTES
 }
 
-// Puts the notes of a terminal's hearing: those of completed frames come first.
-fn put_heard(
+// Puts the notes of one terminal's hearing: those of completed frames come first.
+fn put_terminal(
     form: Form,
     room: &mut [u8],
     wrote: usize,
@@ -93,7 +98,7 @@ fn put_heard(
 }
 
 // Puts the notes of the terminals' hearing.
-fn put_hearing(
+fn put_terminals(
     form: Form,
     room: &mut [u8],
     wrote: usize,
@@ -111,7 +116,7 @@ fn put_hearing(
     let mut i: usize = 0;
     while i < 8 {
         let n = notes[i];
-        at = put_heard(
+        at = put_terminal(
             form,
             room,
             at,
@@ -148,8 +153,43 @@ fn put_timers(
     at
 }
 
-// Puts the notes of a period: the reader's, unit 0's, the terminals', and then those of timers due
-// at the next one's start.
+// Puts the notes of what is heard in a period: the reader's, unit 0's, then the terminals'.
+fn put_heard(
+    form: Form,
+    room: &mut [u8],
+    wrote: usize,
+    period: u64,
+    answer: RunAnswer,
+    notes: [UnitNotes; 8],
+    octets: &[u8],
+) -> usize
+    ensures { λ r. ⌜ Put (now (room .entry)) wrote
+        (notesIn form (partInOrder period (heardTold period answer notes (now (octets .entry))))) r (now (room .exit)) ⌝ }
+{
+    let network = answer.network;
+    let a = put_reader(form, room, wrote, period, answer.said, answer.body, octets);
+    let b = put_notes(form, room, a, period, 0, network.hearing);
+    put_terminals(form, room, b, period, answer.done1, answer.done2, notes)
+}
+
+// Puts the notes of the timers due at the start of a period: unit 0's, then the terminals'.
+fn put_timed(
+    form: Form,
+    room: &mut [u8],
+    wrote: usize,
+    period: u64,
+    answer: RunAnswer,
+    notes: [UnitNotes; 8],
+) -> usize
+    ensures { λ r. ⌜ Put (now (room .entry)) wrote (notesIn form (partInOrder period (timedTold answer notes))) r (now (room .exit)) ⌝ }
+{
+    let network = answer.network;
+    let a = put_notes(form, room, wrote, period, 0, network.timers);
+    put_timers(form, room, a, period, notes)
+}
+
+// Puts the notes of a period: those of what is heard in it, then those of the timers due at the
+// next one's start.
 pub fn put_period(
     form: Form,
     room: &mut [u8],
@@ -163,11 +203,6 @@ pub fn put_period(
         (now (room .exit)) ⌝ }
 {
     let this = period as u64;
-    let next = this + 1;
-    let network = answer.network;
-    let a = put_reader(form, room, wrote, this, answer.said, answer.body, octets);
-    let b = put_notes(form, room, a, this, 0, network.hearing);
-    let c = put_hearing(form, room, b, this, answer.done1, answer.done2, notes);
-    let d = put_notes(form, room, c, next, 0, network.timers);
-    put_timers(form, room, d, next, notes)
+    let a = put_heard(form, room, wrote, this, answer, notes, octets);
+    put_timed(form, room, a, this + 1, answer, notes)
 }

@@ -1,9 +1,9 @@
--- `put_hearing` meets its contract: after i turns the notes of the first i terminals are put.
+-- `put_terminals` meets its contract: after i turns the notes of the first i terminals are put.
 use Prim.Native.Nat.{_-_}
 use Rattle.period_text.proofs.PeriodLaws.{Hearing, hearing-starts, hearing-next, hearing-ends}
 use borrow.Author.Needs.{needs}
-use Rattle.period_text.proofs.period.put_hearing.Statement.{statement}
-use Rattle.period_text.proofs.period.put_hearing.Tie as tie
+use Rattle.period_text.proofs.period.put_terminals.Statement.{statement}
+use Rattle.period_text.proofs.period.put_terminals.Tie as tie
 
 abbrev Inv-loop : tie.InvT-loop
 Inv-loop form room₀ wrote period done1 done2 notes first₀ second₀ at₀ i₀ room first second at i = Hearing form room₀ wrote period notes done1 done2 room first second at i
@@ -23,14 +23,14 @@ mul-n c = search needs
 array-copy-out-n : tie.Need-array-copy-out-n Inv-loop μ-loop
 array-copy-out-n c = search needs
 
-cast-put-heard : tie.Need-cast-put-heard Inv-loop μ-loop
-cast-put-heard c = search needs
+cast-put-terminal : tie.Need-cast-put-terminal Inv-loop μ-loop
+cast-put-terminal c = search needs
 
-add-put-heard : tie.Need-add-put-heard Inv-loop μ-loop
-add-put-heard c = search needs
+add-put-terminal : tie.Need-add-put-terminal Inv-loop μ-loop
+add-put-terminal c = search needs
 
-put-heard-requires : tie.Need-put-heard-requires Inv-loop μ-loop
-put-heard-requires c κs = search needs
+put-terminal-requires : tie.Need-put-terminal-requires Inv-loop μ-loop
+put-terminal-requires c κs = search needs
 
 add-i : tie.Need-add-i Inv-loop μ-loop
 add-i c = search needs
@@ -40,11 +40,11 @@ loop-less c = search needs
 
 loop-again : tie.Need-loop-again Inv-loop μ-loop
 loop-again c =
-    let after-put-heard = c .before .before in
-    let in-loop = after-put-heard .before .before .before in
+    let after-put-terminal = c .before .before in
+    let in-loop = after-put-terminal .before .before .before in
     let at-loop = in-loop .before in
     let l = at-loop .loop in
-    hearing-next (l .inv) _ (in-loop .loop-test .taken) (after-put-heard .put-heard .ensures)
+    hearing-next (l .inv) _ (in-loop .loop-test .taken) (after-put-terminal .put-terminal .ensures)
 
 same-length : tie.Need-same-length Inv-loop μ-loop
 same-length c = c .before .loop .inv .kept
@@ -52,8 +52,8 @@ same-length c = c .before .loop .inv .kept
 returns : tie.Need-returns Inv-loop μ-loop
 returns c = let l = c .before .loop in λ ran e f. hearing-ends (l .inv) ran e f (c .loop-test .left)
 
-pub put-hearing-spec : {M : Type 1} → statement M
-put-hearing-spec =
+pub put-terminals-spec : {M : Type 1} → statement M
+put-terminals-spec =
     tie.close
     (tie.spec
     Inv-loop
@@ -62,9 +62,9 @@ put-hearing-spec =
     loop-holds
     mul-n
     array-copy-out-n
-    cast-put-heard
-    add-put-heard
-    put-heard-requires
+    cast-put-terminal
+    add-put-terminal
+    put-terminal-requires
     add-i
     loop-less
     loop-again
