@@ -1,12 +1,12 @@
 -- What the returns of the functions on an event have to show, over plain variables.
 use mathlib.Core.Path.{_≡_, refl, sym, _∙_}
-use mathlib.Core.Bool.{Bool, true, false, not, _&&_, _||_}
-use mathlib.Core.List.{List, _++_}
+use mathlib.Core.Bool.{Bool, true, false, not, _&&_}
+use mathlib.Core.List.{List, [], _∷_, _++_}
 use Prim.Native.Nat.{ℕ, _*_, _≤_, _<_}
 use native.Mathlib.Omega.{arith}
 use lib.Dec.{eqb, ltb, leb}
 use lib.ListN.{length, take, drop}
-use borrow.Author.Tests.{eq-eqb, ne-eqb, le-ltb, le-leb, eqb-true, eqb-false, ltb-true, ltb-false, leb-true, lt-ltb, not-false}
+use borrow.Author.Tests.{eq-eqb, ne-eqb, le-ltb, le-leb, eqb-true, eqb-false, ltb-true, ltb-false, leb-true, not-false}
 use Rattle.test_lemmas.proofs.ByCases.{by-test, and-left, and-right, neither}
 use Rattle.hdlc.specs.Image.{image, longestBody}
 use Rattle.packing.specs.Packing.{imageRoom, isBodyLength, imaged, imagedOctets}
@@ -18,12 +18,9 @@ use Rattle.terminal.specs.Terminal as terminal
 use Rattle.terminal.specs.Calls as terminalCalls
 use Rattle.terminal.specs.declared.Terminal.{Terminal}
 use Rattle.bus_rules.specs.Bus.{terminals}
-use Rattle.bus_rules.specs.Event.{eventFor, callReasons, firstHolding}
+use Rattle.bus_rules.specs.Event.{firstHolding}
 use Rattle.bus_rules.proofs.Refusals.{none-holds}
-use Rattle.notes_and_cells.specs.Events.{HIT}
-use Rattle.bus_record.specs.Record.{recordInRange}
-use Rattle.bus_record.specs.declared.record.BusRecord.{BusRecord}
-use Rattle.bus_event.specs.Event.{imagesRoom, areLetters, firstReason, imagePut, frameReason, frameGiven, imagesWith}
+use Rattle.bus_event.specs.Event.{imagesRoom, imagePut, frameReason, frameGiven, imagesWith}
 use Rattle.bus_event.proofs.ImagePlaces.{room-length}
 
 -- a body of a good length, as the code tests it
@@ -31,53 +28,19 @@ pub body-test : (n : ℕ) → isBodyLength n ≡ (not (eqb n 0) && leb n longest
 unfolding isBodyLength
 body-test n = by-test (eqb n 0) (λ t. rw t) (λ t. rw t)
 
--- the letters of a hit, as the code tests them
-hit-letters : (hit right : Bool) → not (not hit || right) ≡ (hit && not right)
-hit-letters true right = refl
-hit-letters false right = refl
+-- ---- The first of a list of reasons, as the code goes through them: it stops at one that holds, and goes on past one that does not.
+module _ (n : ℕ) (t : Bool) (rs : List (ℕ × Bool)) where
+  pub stops : t ≡ true → n ≡ firstHolding ((n, t) ∷ rs)
+  unfolding firstHolding
+  stops h = rw h
 
--- ---- The first reason that is known before a unit is asked.
-module _ (ready : Bool) (r : BusRecord) (images : ℕ) (letters : List ℕ) (unit event : ℕ) (value : List ℕ) (fit : Bool) (is : fit ≡ recordInRange r) where
-  abbrev First : ℕ → Type 0
-  First k = k ≡ firstReason ready r images letters unit event value
+  pub goes-on : (k : ℕ) → t ≡ false → k ≡ firstHolding rs → k ≡ firstHolding ((n, t) ∷ rs)
+  unfolding firstHolding
+  goes-on k h e = rw h e
 
-  pub first-1 : not (ready && fit) ≡ true → First 1
-  unfolding firstReason firstHolding
-  first-1 a = rw (← is, a)
-
-  module _ (a : not (ready && fit) ≡ false) (f g : Bool) (at-f : f ≡ areLetters letters) (at-g : g ≡ areLetters value) where
-    abbrev lentFits : Bool
-    lentFits = eqb images imagesRoom && f
-
-    -- what is lent, or the letters of a hit: the code has one test for the two
-    abbrev slices : Bool
-    slices = lentFits && (not (eqb event HIT) || g)
-
-    pub first-2 : not slices ≡ true → First 2
-    unfolding firstReason firstHolding callReasons
-    first-2 b =
-        rw (← is, a, ← at-f, ← at-g)
-        (by-test lentFits (λ t. rw (t, sym (hit-letters (eqb event HIT) g) ∙ (rw t at b))) (λ t. rw t))
-
-    module _ (b : not slices ≡ false) where
-      lent-fit : not lentFits ≡ false
-      lent-fit = rw (and-left lentFits (not (eqb event HIT) || g) (not-false slices b))
-
-      struck : (eqb event HIT && not g) ≡ false
-      struck = sym (hit-letters (eqb event HIT) g) ∙ rw (and-right lentFits (not (eqb event HIT) || g) (not-false slices b))
-
-      pub first-3 : terminals < unit → First 3
-      unfolding firstReason firstHolding callReasons
-      first-3 d = rw (← is, a, ← at-f, lent-fit, ← at-g, struck, lt-ltb terminals unit d)
-
-      module _ (d : unit ≤ terminals) (h : Bool) (at-h : h ≡ eventFor unit event) where
-        pub first-0 : h ≡ true → First 0
-        unfolding firstReason firstHolding callReasons
-        first-0 t = rw (← is, a, ← at-f, lent-fit, ← at-g, struck, le-ltb terminals unit d, ← at-h, t)
-
-        pub first-4 : h ≡ false → First 4
-        unfolding firstReason firstHolding callReasons
-        first-4 t = rw (← is, a, ← at-f, lent-fit, ← at-g, struck, le-ltb terminals unit d, ← at-h, t)
+pub at-end : 0 ≡ firstHolding []
+unfolding firstHolding
+at-end = refl
 
 -- ---- The image in the room of terminal i.
 module _ (i : ℕ) (value images : List ℕ) (l : i < terminals) (e : length images ≡ imagesRoom) (some : 1 ≤ length value) (few : length value ≤ longestBody) where

@@ -6,7 +6,7 @@ ghost use lib.ListN.{length};
 ghost use Rattle.packing.specs.Packing.{imageRoom};
 ghost use Rattle.hdlc.specs.Image.{image, longestBody};
 ghost use Rattle.bus_rules.specs.Bus.{terminals};
-ghost use Rattle.bus_rules.specs.Event.{eventFor};
+ghost use Rattle.bus_rules.specs.Event.{eventFor, callReasons, firstHolding};
 ghost use Rattle.terminal.specs.Terminal.{unchanged};
 ghost use Rattle.bus_event.specs.Event as spec;
 use bus_record::record::BusRecord;
@@ -63,8 +63,21 @@ fn event_for(unit: u32, event: u8) -> bool
     (event == ON) | (event == OFF) | (event == AR) | (event == D1) | (event == D2)
 }
 
-// Gives the first reason that is known before a unit is asked, 1 to 4, or 0: `ready` is whether the
-// slice of terminals is in order, `images` the number of octets lent for images.
+// Gives the first reason that the call itself decides, or 0.
+fn call_reason(unit: u32, event: u8, value: &[u8]) -> u8
+    ensures { λ r. ⌜ r ≡ firstHolding (callReasons unit event (now (value .entry))) ⌝ }
+{
+    if (event == HIT) & !fits(value, LINE_LENGTH, NONE_LETTER) {
+        return 2;
+    }
+    if LAST_UNIT < unit {
+        return 3;
+    }
+    if event_for(unit, event) { 0 } else { 4 }
+}
+
+// Gives the first reason that is known before a unit is asked, or 0: `ready` is whether the slice of
+// terminals is in order, `images` the number of octets lent for images.
 pub fn first_reason(
     ready: bool,
     bus: BusRecord,
@@ -79,15 +92,10 @@ pub fn first_reason(
     if !(ready & bus.in_range()) {
         return 1;
     }
-    let lent = (images == IMAGES_ROOM) & fits(letters, LINE_LENGTH, NONE_LETTER);
-    let struck = (event != HIT) | fits(value, LINE_LENGTH, NONE_LETTER);
-    if !(lent & struck) {
+    if !((images == IMAGES_ROOM) & fits(letters, LINE_LENGTH, NONE_LETTER)) {
         return 2;
     }
-    if LAST_UNIT < unit {
-        return 3;
-    }
-    if event_for(unit, event) { 0 } else { 4 }
+    call_reason(unit, event, value)
 }
 
 // Writes the image of a body into the room of terminal i, and gives its length in bits.
