@@ -73,7 +73,10 @@ fn call_reason(unit: u32, event: u8, value: &[u8]) -> u8
     if LAST_UNIT < unit {
         return 3;
     }
-    if event_for(unit, event) { 0 } else { 4 }
+    if !event_for(unit, event) {
+        return 4;
+    }
+    0
 }
 
 // Gives the first reason that is known before a unit is asked, or 0: `ready` is whether the slice of

@@ -28,7 +28,8 @@ returns-3 c =
     let e = c .before in
     let c2 = e .before in
     let c1 = c2 .before in
-    goes-on 2 _ _ 0 (rw (← c1 .before .fits2 .ensures) (c1 .if1 .left)) (goes-on 3 _ _ 0 (le-ltb _ _ (c2 .if2 .left)) (goes-on 4 _ _ 0 (rw (← e .event-for .ensures, c .if3 .taken)) at-end))
+    goes-on 2 _ _ 4 (rw (← c1 .before .fits2 .ensures) (c1 .if1 .left)) (goes-on 3 _ _ 4 (le-ltb _ _ (c2 .if2 .left))
+    (stops 4 _ _ (rw (← e .event-for .ensures) (c .if3 .taken))))
 
 returns-4 : tie.Need-returns-4
 unfolding callReasons
@@ -36,7 +37,8 @@ returns-4 c =
     let e = c .before in
     let c2 = e .before in
     let c1 = c2 .before in
-    goes-on 2 _ _ 4 (rw (← c1 .before .fits2 .ensures) (c1 .if1 .left)) (goes-on 3 _ _ 4 (le-ltb _ _ (c2 .if2 .left)) (stops 4 _ _ (rw (← e .event-for .ensures, c .if3 .left))))
+    goes-on 2 _ _ 0 (rw (← c1 .before .fits2 .ensures) (c1 .if1 .left)) (goes-on 3 _ _ 0 (le-ltb _ _ (c2 .if2 .left))
+    (goes-on 4 _ _ 0 (rw (← e .event-for .ensures) (c .if3 .left)) at-end))
 
 pub call-reason-spec : {M : Type 1} → statement M
 call-reason-spec = tie.close (tie.spec fits-requires returns returns-2 event-for-requires returns-3 returns-4)
