@@ -3,8 +3,8 @@ use mathlib.Core.Path.{_≡_, refl}
 use mathlib.Core.List.{List, [], _∷_, _++_}
 use Prim.Native.Nat.{ℕ}
 use Prim.Native.String.{String}
-use Rattle.notes_and_cells.specs.Names.{printed, printedAs}
-use Rattle.notes_and_cells.specs.Names.{ascii}
+use Rattle.notes_and_cells.specs.Names.{ascii, printed, printedAs}
+use Rattle.notes_and_cells.specs.NumberOfOctets.{lowFirst}
 use Rattle.text.specs.Text.{LF, onto, split, all, onward}
 use Rattle.book_line.specs.EventNames.{eventNames, eventNamed}
 use Rattle.book_line.specs.ValueForms.{formOf}
@@ -29,7 +29,7 @@ reported told = text ("period unit note value" ∷ told)
 
 -- whatever says `unfolding computed` computes reports
 unfoldable computed : List ℕ → List ℕ
-unfolding scenes.handedBack printed printedAs note.decimalIn note.decimal note.hexCode note.hexOf note.noteLine note.notesIn note.heading note.stoppedLine onto split all onward eventNames eventNamed isEnd isNumber isAbsent isBodyText isHitText formOf valueFits formed inOrder hexDigit pairs bodyOf letterCode valueOctets nothing closing lines answersFrom callAt callsOfAnswers bookCalls refusedNotes bookNotes allBookNotes stopOf report
+unfolding scenes.handedBack printed printedAs lowFirst note.decimalIn note.decimal note.hexCode note.hexOf note.noteLine note.notesIn note.heading note.stoppedLine onto split all onward eventNames eventNamed isEnd isNumber isAbsent isBodyText isHitText formOf valueFits formed inOrder hexDigit pairs bodyOf letterCode valueOctets nothing closing lines answersFrom callAt callsOfAnswers bookCalls refusedNotes bookNotes allBookNotes stopOf report
 computed octets = report octets
 
 pub the-example :
