@@ -85,11 +85,11 @@ abbrev pub heardTold : ℕ → RunAnswer → List UnitNotes → List ℕ → ByU
 heardTold now r ns octets =
     record { reader = readerTold now r octets; network = noted (r .network .hearing); terminals = terminalsHeard r 0 ns }
 
-abbrev pub timedTold : RunAnswer → List UnitNotes → ByUnit
-timedTold r ns = record { reader = []; network = noted (r .network .timers); terminals = terminalsTimed ns }
+abbrev pub timedTold : UnitNotes → List UnitNotes → ByUnit
+timedTold network ns = record { reader = []; network = noted (network .timers); terminals = terminalsTimed ns }
 
 unfoldable pub periodTold : ℕ → RunAnswer → List UnitNotes → List ℕ → List Note
-periodTold now r ns octets = periodInOrder now (heardTold now r ns octets) (timedTold r ns)
+periodTold now r ns octets = periodInOrder now (heardTold now r ns octets) (timedTold (r .network) ns)
 
 -- the notes of the terminals alone, from index i on: their hearing, and their timers
 abbrev pub terminalsTold : ℕ → RunAnswer → ℕ → List UnitNotes → List Note

@@ -151,13 +151,13 @@ heard-parts form now r ns octets =
     let network = notesOf now 0 (noted (r .network .hearing)) in
     rw (form-append form (readerTold now r octets) (network ++ terminalsTold now r 0 ns), form-append form network (terminalsTold now r 0 ns))
 
-pub timed-parts : (form : Form) (now : ℕ) (r : RunAnswer) (ns : List UnitNotes)
-    → notesIn form (notesOf now 0 (noted (r .network .timers))) ++ notesIn form (timersTold now 0 ns)
-    ≡ notesIn form (partInOrder now (timedTold r ns))
-timed-parts form now r ns = sym (form-append form (notesOf now 0 (noted (r .network .timers))) (timersTold now 0 ns))
+pub timed-parts : (form : Form) (now : ℕ) (network : UnitNotes) (ns : List UnitNotes)
+    → notesIn form (notesOf now 0 (noted (network .timers))) ++ notesIn form (timersTold now 0 ns)
+    ≡ notesIn form (partInOrder now (timedTold network ns))
+timed-parts form now network ns = sym (form-append form (notesOf now 0 (noted (network .timers))) (timersTold now 0 ns))
 
 pub period-parts : (form : Form) (now : ℕ) (r : RunAnswer) (ns : List UnitNotes) (octets : List ℕ)
-    → notesIn form (partInOrder now (heardTold now r ns octets)) ++ notesIn form (partInOrder (now + 1) (timedTold r ns))
+    → notesIn form (partInOrder now (heardTold now r ns octets)) ++ notesIn form (partInOrder (now + 1) (timedTold (r .network) ns))
     ≡ notesIn form (periodTold now r ns octets)
 unfolding periodTold
-period-parts form now r ns octets = sym (form-append form (partInOrder now (heardTold now r ns octets)) (partInOrder (now + 1) (timedTold r ns)))
+period-parts form now r ns octets = sym (form-append form (partInOrder now (heardTold now r ns octets)) (partInOrder (now + 1) (timedTold (r .network) ns)))

@@ -115,9 +115,9 @@ module _ (form : Form) (most heard now : ℕ) (r : RunAnswer) (ns : List UnitNot
       )))
 
   timed-room : (next : ℕ) → UnitsFit form most next → length ns ≡ terminals
-      → length (notesIn form (partInOrder next (timedTold r ns))) ≤ mostTimed * most
+      → length (notesIn form (partInOrder next (timedTold (r .network) ns))) ≤ mostTimed * most
   timed-room next q long =
-      rw (← timed-parts form next r ns)
+      rw (← timed-parts form next (r .network) ns)
       (simp length-append
       (omega (
         arith,

@@ -178,12 +178,11 @@ fn put_timed(
     room: &mut [u8],
     wrote: usize,
     period: u64,
-    answer: RunAnswer,
+    network: UnitNotes,
     notes: [UnitNotes; 8],
 ) -> usize
-    ensures { λ r. ⌜ Put (now (room .entry)) wrote (notesIn form (partInOrder period (timedTold answer notes))) r (now (room .exit)) ⌝ }
+    ensures { λ r. ⌜ Put (now (room .entry)) wrote (notesIn form (partInOrder period (timedTold network notes))) r (now (room .exit)) ⌝ }
 {
-    let network = answer.network;
     let a = put_notes(form, room, wrote, period, 0, network.timers);
     put_timers(form, room, a, period, notes)
 }
@@ -204,5 +203,5 @@ pub fn put_period(
 {
     let this = period as u64;
     let a = put_heard(form, room, wrote, this, answer, notes, octets);
-    put_timed(form, room, a, this + 1, answer, notes)
+    put_timed(form, room, a, this + 1, answer.network, notes)
 }
