@@ -1,5 +1,5 @@
 -- What an event does to a terminal: what holds of power, of a request and of a terminal as it is holds of every event.
-use mathlib.Core.Path.{_≡_, refl}
+use mathlib.Core.Path.{_≡_}
 use Prim.Native.Nat.{ℕ}
 use lib.Dec.{eqb}
 use Rattle.test_lemmas.proofs.ByCases.{by-test}

@@ -2,14 +2,15 @@
 -- is turned down"): any unit number, any event number, any value.
 -- Interface: `among`, `networkEvents`, `terminalEvents`, `eventFor`, `callReasons`, `stateReasons`,
 -- `bookRefusals`, `firstHolding`, `refusal`, `eventDone`, `eventNotes`. Assumes nothing.
-use mathlib.Core.Bool.{Bool, false, cond, not, _&&_, _||_}
-use mathlib.Core.List.{List, [], _∷_, _++_}
+use mathlib.Core.Bool.{Bool, true, false, cond, not, _&&_, _||_}
+use mathlib.Core.List.{List, [], _∷_, _++_, map}
+use mathlib.Core.Path.{_≡_, refl}
 use Prim.Native.Nat.{ℕ, _-_}
 use lib.Dec.{eqb, ltb}
 use lib.ListN.{length}
 use Rattle.symbols.specs.Symbols.{lineLength, fits}
 use Rattle.combining.specs.Hit.{noneLetter}
-use Rattle.notes_and_cells.specs.Events.{ON, OFF, AR, DR, D1, D2, HIT}
+use Rattle.notes_and_cells.specs.Events.{ON, OFF, AR, DR, D1, D2, HIT, END}
 use Rattle.notes_and_cells.specs.Notes.{noted}
 use Rattle.table_6_2.specs.Table62.{F7}
 use Rattle.table_6_2.specs.Table62 as Table62
@@ -49,6 +50,16 @@ terminalEvents = ON ∷ OFF ∷ AR ∷ D1 ∷ D2 ∷ []
 
 unfoldable pub eventFor : ℕ → ℕ → Bool
 eventFor unit event = cond (eqb unit 0) (among event networkEvents) (among event terminalEvents)
+
+-- Computed: whether none, `on`, `off`, `ar`, `dr`, `d1`, `d2`, `hit` and `end` are events for unit 0,
+-- and for terminal 1.
+pub events-for-units :
+    (map (eventFor 0) (0 ∷ ON ∷ OFF ∷ AR ∷ DR ∷ D1 ∷ D2 ∷ HIT ∷ END ∷ [])
+    ≡ false ∷ false ∷ false ∷ true ∷ true ∷ false ∷ false ∷ true ∷ false ∷ [])
+    × (map (eventFor 1) (0 ∷ ON ∷ OFF ∷ AR ∷ DR ∷ D1 ∷ D2 ∷ HIT ∷ END ∷ [])
+    ≡ false ∷ true ∷ true ∷ true ∷ false ∷ true ∷ true ∷ false ∷ false ∷ [])
+unfolding eventFor
+events-for-units = (refl, refl)
 
 -- 5: what the rules of the network end and of a terminal bar, by their tables' numbers of the
 -- events

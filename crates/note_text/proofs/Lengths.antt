@@ -20,7 +20,6 @@ use Rattle.note_text.specs.NoteOctets.{noteOctets}
 use Rattle.note_text.specs.Lengths.{DecimalFits, LineFits, NumberFits, HeardFits, OctetsLength}
 use Rattle.note_text.proofs.DecimalLaws.{decimal-length}
 use Rattle.note_text.proofs.HexLaws.{length-hex}
-use Rattle.note_text.proofs.NumberLaws.{number-small}
 use Rattle.note_text.proofs.NoteTable.{noCode, no-code}
 use Rattle.note_text.proofs.NoteLaws.{line-parts}
 
@@ -56,11 +55,11 @@ line-fits period unit code h k =
     rw (line-length (note period unit code []))
     (omega (arith, decimal-fits period h, decimal-fits unit k, behind-short code))
 
--- behind a name, a number of at most eight digits
+-- behind a name, a number of at most ten digits
 abbrev numbered : Value → ℕ → Bool
 numbered no-value long = true
 numbered body long = true
-numbered number long = leb (long + 8) 20
+numbered number long = leb (long + 10) 20
 numbered (word w) long = true
 
 all-numbered : (code : ℕ) → numbered (printedAs code .value) (length (named code)) ≡ true
@@ -72,9 +71,9 @@ all-numbered code =
 
 pub number-fits : NumberFits
 unfolding openAs
-number-fits period unit code value h k e octets =
-    let digits = decimal-length 7 (noteNumber value) (omega (arith, number-small value octets)) in
-    let name : length (named code) + 8 ≤ 20 = leb-true _ 20 (rw e at (all-numbered code)) in
+number-fits period unit code value h k e small =
+    let digits = decimal-fits (noteNumber value) small in
+    let name : length (named code) + 10 ≤ 20 = leb-true _ 20 (rw e at (all-numbered code)) in
     rw (line-length (note period unit code value), e)
     (omega (arith, decimal-fits period h, decimal-fits unit k))
 

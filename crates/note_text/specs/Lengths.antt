@@ -3,14 +3,14 @@
 use mathlib.Core.List.{List, []}
 use mathlib.Core.Path.{_≡_}
 use Prim.Native.Nat.{ℕ, _+_, _*_, _^_, _≤_, _<_}
-use lib.ListN.{length, getD}
+use lib.ListN.{length}
 use Rattle.notes_and_cells.specs.Names.{printedAs}
 use Rattle.notes_and_cells.specs.Names.Value.{number}
 use Rattle.notes_and_cells.specs.Notes.{HEARD}
 use Rattle.hdlc.specs.Image.{longestBody}
 use Rattle.bus_rules.specs.Bus.{Note}
 use Rattle.note_text.specs.NoteOctets.{noteOctets}
-use Rattle.note_text.specs.NoteText.{decimal, note, noteLine}
+use Rattle.note_text.specs.NoteText.{decimal, noteNumber, note, noteLine}
 
 -- Numbers are below this, and have at most so many digits.
 abbrev pub numbers : ℕ
@@ -32,11 +32,12 @@ LineFits =
     (period unit code : ℕ) → period < numbers → unit < numbers
     → length (noteLine (note period unit code [])) ≤ lineRoom
 
--- The line of a note whose value is a number fits, too, whatever octets the value has.
+-- The line of a note whose value is a number fits, too: that of any octets is below 2 ^ 24
+-- (proofs/NumberLaws.antt `number-small`).
 abbrev pub NumberFits : Type 0
 NumberFits =
     (period unit code : ℕ) (value : List ℕ)
-    → period < numbers → unit < numbers → printedAs code .value ≡ number → ((i : ℕ) → getD value i 0 < 256)
+    → period < numbers → unit < numbers → printedAs code .value ≡ number → noteNumber value < numbers
     → length (noteLine (note period unit code value)) ≤ lineRoom
 
 -- The line of the longest body, of a unit of one digit: the period, the unit and `heard`, a space

@@ -2,12 +2,12 @@
 use mathlib.Core.Bool.{Bool, true, false}
 use mathlib.Core.List.{List, [], _∷_, _++_}
 use mathlib.Core.Path.{_≡_, refl}
-use Prim.Native.Nat.{ℕ, zero, suc, _+_, _*_, _≤_, _<_}
+use Prim.Native.Nat.{ℕ, suc, _+_, _*_, _≤_, _<_}
 use native.Mathlib.Omega.{arith}
 use native.Mathlib.Nat.{mul-le-mul-right, le-trans}
 use borrow.Author.Tests.{eqb-true}
 use lib.Dec.{eqb}
-use lib.ListN.{length, getD, take, length-append, length-take}
+use lib.ListN.{length, take, length-append, length-take}
 use Rattle.test_lemmas.proofs.ByCases.{by-test}
 use Rattle.notes_and_cells.specs.Names.{printed, printedAs}
 use Rattle.notes_and_cells.specs.Notes.{HEARD, REFUSED, noted}
@@ -24,6 +24,7 @@ use Rattle.note_text.specs.Lengths.{numbers, lineRoom, heardRoom, octetsRoom}
 use Rattle.note_text.specs.declared.form.Form.{Form}
 use Rattle.note_text.specs.declared.form.Form.the-variants.{Line, Octets}
 use Rattle.note_text.proofs.NoteLaws.{one-note, form-append}
+use Rattle.note_text.proofs.NumberLaws.{number-octets}
 use Rattle.note_text.proofs.Lengths.{line-fits, number-fits, heard-fits, octets-length}
 use Rattle.period_text.specs.PeriodText.{eventNoted, mostHeard, mostTimed, mostNotes, PeriodFits, EventFits, PeriodOctetsFit, EventOctetsFit}
 use Rattle.period_text.proofs.PeriodLaws.{heardOf, timedOf, heard-parts, timed-parts, period-parts}
@@ -141,15 +142,11 @@ period-fits now r ns octets h long k =
     period-room Line lineRoom heardRoom now r ns octets (lines-fit now (omega arith)) (lines-fit (now + 1) h)
     (heard-fits now 0 (take (r .body) octets) (omega arith) (omega arith) (rw length-take (omega arith))) (omega arith) long
 
-one-octet : (o : ℕ) → o < 256 → (i : ℕ) → getD (o ∷ []) i 0 < 256
-one-octet o h zero = h
-one-octet o h (suc i) = omega arith
-
 pub event-fits : EventFits
 unfolding eventNoted printedAs printed
 event-fits period unit notes reply h k l =
     by-test (eqb reply 0) (λ t. rw t (omega (arith, notes-fit Line lineRoom period unit notes (λ code. line-fits period unit code h k))))
-    (λ t. rw (t, one-note) (omega (arith, number-fits period unit REFUSED (reply ∷ []) h k refl (one-octet reply l))))
+    (λ t. rw (t, one-note) (omega (arith, number-fits period unit REFUSED (reply ∷ []) h k refl (rw (number-octets (reply ∷ [])) (omega arith)))))
 
 -- ---- As octets.
 plain-octets : (now unit : ℕ) → PlainFits Octets octetsRoom now unit

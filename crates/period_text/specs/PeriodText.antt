@@ -47,11 +47,11 @@ PeriodFits =
     (now : ℕ) (r : RunAnswer) (ns : List UnitNotes) (octets : List ℕ)
     → now + 1 < numbers → length ns ≡ terminals → length octets ≤ longestBody → length (notesText (periodTold now r ns octets)) ≤ periodRoom
 
--- And that of an event's, whose reply is an octet.
+-- And that of an event's.
 abbrev pub EventFits : Type 0
 EventFits =
     (period unit : ℕ) (notes : Notes) (reply : ℕ)
-    → period < numbers → unit < numbers → reply < 256 → length (notesText (eventNoted period unit notes reply)) ≤ periodRoom
+    → period < numbers → unit < numbers → reply < numbers → length (notesText (eventNoted period unit notes reply)) ≤ periodRoom
 
 -- ---- The same as octets, where a refusal is the call's reply and no note.
 abbrev pub periodOctetsRoom : ℕ
