@@ -49,7 +49,7 @@ const NUMBERS: [u8; VALUED] = [D1, D2, HIT];
 const FORMS: [ValueForm; VALUED] = [ValueForm::Body, ValueForm::Body, ValueForm::Letters];
 
 // Gives the form of an event's value.
-pub fn form_of(event: u8) -> ValueForm
+pub(crate) fn form_of(event: u8) -> ValueForm
     ensures { λ r. ⌜ r ≡ formOf event ⌝ }
 {
     let numbers = NUMBERS;

@@ -1,6 +1,5 @@
 // Notes as lines of the report ("The fields are the period, the unit, the note and its value."), or
 // as octets for a host.
-ghost use mathlib.Core.Path.{_≡_};
 ghost use Rattle.bus_rules.specs.Bus.{notesOf};
 ghost use mathlib.Core.List.{[]};
 ghost use Rattle.notes_and_cells.specs.Notes.{noted};

@@ -47,7 +47,7 @@ const PLACES: [u8; NO_CODE + 2] = [
 ];
 
 // Puts the note's name between spaces, and the value where the code decides it.
-pub fn put_name(room: &mut [u8], wrote: usize, code: u8) -> usize
+pub(crate) fn put_name(room: &mut [u8], wrote: usize, code: u8) -> usize
     ensures { λ r. ⌜ Put (now (room .entry)) wrote (named code) r (now (room .exit)) ⌝ }
 {
     let k = least(code as usize, NO_CODE);
@@ -66,7 +66,7 @@ const CODES: [u8; OPEN] = [HEARD, REFUSED];
 const VALUES: [OpenValue; OPEN] = [OpenValue::Body, OpenValue::Number];
 
 // Gives what a code leaves open of the value.
-pub fn open_as(code: u8) -> OpenValue
+pub(crate) fn open_as(code: u8) -> OpenValue
     ensures { λ r. ⌜ r ≡ openAs code ⌝ }
 {
     let codes = CODES;

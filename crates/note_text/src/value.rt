@@ -28,7 +28,7 @@ fn number_of(value: &[u8]) -> u32
 }
 
 // Puts what the code leaves open of the value.
-pub fn put_value(room: &mut [u8], wrote: usize, code: u8, value: &[u8]) -> usize
+pub(crate) fn put_value(room: &mut [u8], wrote: usize, code: u8, value: &[u8]) -> usize
     ensures { λ r. ⌜ Put (now (room .entry)) wrote (openValue (openAs code) (now (value .entry))) r (now (room .exit)) ⌝ }
 {
     match open_as(code) {
