@@ -1,14 +1,14 @@
 -- What the loops of `combine` gather is what the lines give together.
 use mathlib.Core.Path.{_≡_, refl, sym, ap, _∙_}
-use mathlib.Core.Bool.{Bool, true, false, _||_, or-assoc, or-false}
+use mathlib.Core.Bool.{Bool, true, false, cond, _||_, or-assoc, or-false}
 use mathlib.Core.List.{List, [], _∷_}
 use Prim.Native.Nat.{ℕ, zero, suc, _+_, _-_, _*_, _<_, _≤_}
 use native.Mathlib.Omega.{arith}
 use borrow.Author.Tests.{eqb-true}
 use lib.Bits.{bitOr}
 use lib.Dec.{eqb}
-use lib.ListN.{length, getD, take, drop, length-drop, getD-replicate}
-use lib.Seq.{drop-drop, length-take-le}
+use lib.ListN.{length, getD, take, drop, getD-replicate}
+use lib.Seq.{drop-drop}
 use Rattle.symbols.specs.Symbols.{none, plus, minus, lineLength, fits, lineBy}
 use Rattle.symbols.specs.Calls.{leaves}
 use Rattle.frame.specs.Bits.{bit}
@@ -16,10 +16,12 @@ use Rattle.info.specs.Info.{info0}
 use Rattle.combining.specs.Combine.{isSent, only, combinedSymbol, column, combined}
 use Rattle.combining.specs.Gathering.{gathered, gatheredSymbol}
 use Rattle.combining.specs.Calls.{terminals, linesLength, rows, combineFits, combinedReply, eight}
+use Rattle.combining.specs.Sending.{filter, isSending, sending, linesTaken}
 use Rattle.combining.specs.declared.combine.Combined.{Combined}
-use Rattle.test_lemmas.proofs.ByCases.{at-each-below}
+use Rattle.test_lemmas.proofs.ByCases.{by-test, at-each-below}
 use Rattle.symbols.proofs.Lines.{Small, within-small, fits-within}
 use Rattle.symbols.proofs.Fill.{line-is, tabulate-ext, length-tabulate, getD-tabulate}
+use Rattle.combining.proofs.Sending.{combined-sending}
 
 -- What is gathered, as a number: 1 for plus, 2 for minus.
 code : Bool → Bool → ℕ
@@ -67,60 +69,107 @@ small-column zero i l h j = omega arith
 small-column (suc n) i l h zero = small-take lineLength l h i
 small-column (suc n) i l h (suc j) = small-column n i (drop lineLength l) (small-drop lineLength l h) j
 
--- A part of 48 of the lines.
-pub part-line : (lines : List ℕ) (n : ℕ) → length lines ≡ linesLength → n < terminals → length (take lineLength (drop (n * lineLength) lines)) ≡ lineLength
-part-line lines n h k = length-take-le lineLength (drop (n * lineLength) lines) (rw length-drop (omega arith))
+small-cons : (x : ℕ) (l : List ℕ) → x ≤ minus → Small l → Small (x ∷ l)
+small-cons x l h s zero = h
+small-cons x l h s (suc i) = s i
 
--- The loop over the eight lines: what is gathered at the end is gathered from what there is by the lines to come.
-pub record Gathering (lines out₀ out : List ℕ) (n : ℕ) : Type 0 where
+small-filter : (p : List ℕ → Bool) (i : ℕ) (ls : List (List ℕ)) → Small (column i ls) → Small (column i (filter p ls))
+unfolding filter
+small-filter p i [] h = h
+small-filter p i (l ∷ ls) h =
+    let rest = small-filter p i ls (λ j. h (suc j)) in
+    by-test (p l) (λ t. rw t (small-cons (getD l i none) (column i (filter p ls)) (h 0) rest)) (λ t. rw t rest)
+
+-- The lines from terminal n on that are sent.
+abbrev toCome : List ℕ → ℕ → List (List ℕ)
+toCome lines n = sending (rows (terminals - n) (drop (n * lineLength) lines))
+
+-- The loop over the eight lines: what is gathered at the end is gathered from what there is by the lines to come that are sent.
+pub record Gathering (lines out₀ out : List ℕ) (taken n : ℕ) : Type 0 where
   pub long : length out ≡ lineLength
   pub low : n ≤ terminals
+  pub few : taken ≤ n
+  pub count : linesTaken lines ≡ taken + length (toCome lines n)
   pub value : (i : ℕ) → i < lineLength
-      → gathered (getD out₀ i none) (column i (rows terminals lines)) ≡ gathered (getD out i none) (column i (rows (terminals - n) (drop (n * lineLength) lines)))
+      → gathered (getD out₀ i none) (column i (sending (rows terminals lines))) ≡ gathered (getD out i none) (column i (toCome lines n))
 
-pub gather-start : (lines out : List ℕ) → length out ≡ lineLength → Gathering lines out out 0
-gather-start lines out h = record { long = h; low = omega arith; value = λ i k. refl }
+pub gather-start : (lines out : List ℕ) → length out ≡ lineLength → Gathering lines out out 0 0
+gather-start lines out h = record { long = h; low = omega arith; few = omega arith; count = omega arith; value = λ i k. refl }
 
-module _ {lines out₀ out : List ℕ} {n : ℕ} (m : Gathering lines out₀ out n) where
-  pub gather-next : n < terminals → (next : List ℕ) → next ≡ lineBy (λ i. bitOr (getD out i none) (getD (take lineLength (drop (n * lineLength) lines)) i none))
-      → Gathering lines out₀ next (n + 1)
-  unfolding rows gathered
-  gather-next h next e = record {
-    long = ap length e ∙ length-tabulate lineLength (λ i. bitOr (getD out i none) (getD (take lineLength (drop (n * lineLength) lines)) i none));
+module _ {lines out₀ out : List ℕ} {taken n : ℕ} (m : Gathering lines out₀ out taken n) where
+  -- The line of terminal n, sent or not.
+  abbrev here : List ℕ
+  here = take lineLength (drop (n * lineLength) lines)
+
+  here-first : n < terminals → toCome lines n ≡ cond (isSending here) (here ∷ toCome lines (n + 1)) (toCome lines (n + 1))
+  unfolding rows filter
+  here-first h =
+      let more : terminals - n ≡ suc (terminals - (n + 1)) = omega arith in
+      let past : (n + 1) * lineLength ≡ n * lineLength + lineLength = omega arith in
+      rw (more, past, ← drop-drop lineLength (n * lineLength) lines)
+
+  pub gather-next : n < terminals → isSending here ≡ true → (next : List ℕ)
+      → next ≡ lineBy (λ i. bitOr (getD out i none) (getD here i none)) → Gathering lines out₀ next (taken + 1) (n + 1)
+  unfolding gathered
+  gather-next h s next e = record {
+    long = ap length e ∙ length-tabulate lineLength (λ i. bitOr (getD out i none) (getD here i none));
     low = omega arith;
-    value = step;
+    few = omega (arith, m .few);
+    count = m .count ∙ rw first (omega arith);
+    value = λ i k. m .value i k ∙ rw (first, e, getD-tabulate lineLength (λ j. bitOr (getD out j none) (getD here j none)) i k);
   }
     where
-      step : (i : ℕ) → i < lineLength
-          → gathered (getD out₀ i none) (column i (rows terminals lines)) ≡ gathered (getD next i none) (column i (rows (terminals - (n + 1)) (drop ((n + 1) * lineLength) lines)))
-      step i k =
-          let more : terminals - n ≡ suc (terminals - (n + 1)) = omega arith in
-          let past : (n + 1) * lineLength ≡ n * lineLength + lineLength = omega arith in
-          m .value i k ∙ rw (more, e, getD-tabulate lineLength (λ j. bitOr (getD out j none) (getD (take lineLength (drop (n * lineLength) lines)) j none)) i k, past, ← drop-drop lineLength (n * lineLength) lines)
+      first : toCome lines n ≡ here ∷ toCome lines (n + 1)
+      first = here-first h ∙ rw s
 
-  pub gather-done : terminals ≤ n → out ≡ lineBy (λ i. gathered (getD out₀ i none) (column i (rows terminals lines)))
-  unfolding rows gathered
-  gather-done h = line-is out (λ i. gathered (getD out₀ i none) (column i (rows terminals lines))) (m .long) at-end
+  pub gather-skip : n < terminals → isSending here ≡ false → Gathering lines out₀ out taken (n + 1)
+  gather-skip h s = record {
+    long = m .long;
+    low = omega arith;
+    few = omega (arith, m .few);
+    count = m .count ∙ rw first;
+    value = λ i k. m .value i k ∙ rw first;
+  }
     where
-      at-end : (i : ℕ) → i < lineLength → getD out i none ≡ gathered (getD out₀ i none) (column i (rows terminals lines))
-      at-end i k = let none-left : terminals - n ≡ 0 = omega arith in sym (m .value i k ∙ rw none-left)
+      first : toCome lines n ≡ toCome lines (n + 1)
+      first = here-first h ∙ rw s
+
+  none-to-come : terminals ≤ n → toCome lines n ≡ []
+  unfolding rows filter
+  none-to-come h = let none-left : terminals - n ≡ 0 = omega arith in rw none-left
+
+  pub gather-count : terminals ≤ n → taken ≡ linesTaken lines
+  gather-count h = sym (m .count ∙ rw (none-to-come h) (omega arith))
+
+  pub gather-done : terminals ≤ n → out ≡ lineBy (λ i. gathered (getD out₀ i none) (column i (sending (rows terminals lines))))
+  unfolding gathered
+  gather-done h =
+      line-is out (λ i. gathered (getD out₀ i none) (column i (sending (rows terminals lines)))) (m .long)
+      (λ i k. sym (m .value i k ∙ rw (none-to-come h)))
 
 -- Cleared, gathered and resolved: the combined line.
 pub combines : (lines cleared all last : List ℕ) → fits linesLength minus lines ≡ true → cleared ≡ info0
-    → all ≡ lineBy (λ i. gathered (getD cleared i none) (column i (rows terminals lines))) → last ≡ lineBy (λ i. gatheredSymbol (getD all i none)) → last ≡ eight lines
+    → all ≡ lineBy (λ i. gathered (getD cleared i none) (column i (sending (rows terminals lines)))) → last ≡ lineBy (λ i. gatheredSymbol (getD all i none)) → last ≡ eight lines
 unfolding combined
-combines lines cleared all last h z a e = e ∙ tabulate-ext lineLength (λ i. gatheredSymbol (getD all i none)) (λ i. combinedSymbol (column i (rows terminals lines))) at-i
+combines lines cleared all last h z a e =
+    e ∙ (tabulate-ext lineLength (λ i. gatheredSymbol (getD all i none)) (λ i. combinedSymbol (column i sent)) at-i ∙ combined-sending (rows terminals lines))
   where
-    at-i : (i : ℕ) → i < lineLength → gatheredSymbol (getD all i none) ≡ combinedSymbol (column i (rows terminals lines))
+    sent : List (List ℕ)
+    sent = sending (rows terminals lines)
+
+    small : (i : ℕ) → Small (column i sent)
+    small i = small-filter isSending i (rows terminals lines) (small-column terminals i lines (within-small lines (fits-within linesLength minus lines h)))
+
+    at-i : (i : ℕ) → i < lineLength → gatheredSymbol (getD all i none) ≡ combinedSymbol (column i sent)
     at-i i k =
-        rw (a, getD-tabulate lineLength (λ j. gathered (getD cleared j none) (column j (rows terminals lines))) i k, z, getD-replicate {A = ℕ} lineLength i none 0 k)
-        (gathered-combined (column i (rows terminals lines)) (small-column terminals i lines (within-small lines (fits-within linesLength minus lines h))))
+        rw (a, getD-tabulate lineLength (λ j. gathered (getD cleared j none) (column j sent)) i k, z, getD-replicate {A = ℕ} lineLength i none 0 k)
+        (gathered-combined (column i sent) (small i))
 
 -- What the call replies and leaves, refused or not.
 pub combine-refused : (lines lent : List ℕ) → combineFits lines lent ≡ false
-    → (Combined.Refused 2 ≡ combinedReply (combineFits lines lent)) × (lent ≡ leaves (combineFits lines lent) (eight lines) lent)
+    → (Combined.Refused 2 ≡ combinedReply (combineFits lines lent) (linesTaken lines)) × (lent ≡ leaves (combineFits lines lent) (eight lines) lent)
 combine-refused lines lent h = (rw h, rw h)
 
-pub combine-done : (lines lent last : List ℕ) → combineFits lines lent ≡ true → last ≡ eight lines
-    → (Combined.Line ≡ combinedReply (combineFits lines lent)) × (last ≡ leaves (combineFits lines lent) (eight lines) lent)
-combine-done lines lent last h e = (rw h, rw h e)
+pub combine-done : (lines lent last : List ℕ) (taken : ℕ) → combineFits lines lent ≡ true → taken ≡ linesTaken lines → last ≡ eight lines
+    → (Combined.Line taken ≡ combinedReply (combineFits lines lent) (linesTaken lines)) × (last ≡ leaves (combineFits lines lent) (eight lines) lent)
+combine-done lines lent last taken h n e = (rw (h, n), rw h e)

@@ -18,12 +18,14 @@ use Rattle.frame.proofs.Laws.{d-up, e-down, a-down}
 use Rattle.info.specs.Info.{info3Fields}
 use Rattle.info.proofs.Laws.{line-info0, line-info1, line-info3}
 use Rattle.combining.specs.Combine.{isSent, only, combinedSymbol, column, combined}
-use Rattle.combining.specs.Calls.{rows, laid}
+use Rattle.combining.specs.Calls.{terminals, rows, laid}
 use Rattle.combining.specs.Sent.{Sent, sentLine}
 use Rattle.combining.specs.Sent.Sent.{silent, calling, frame}
+use Rattle.combining.specs.Sending.{filter, isSending, sends}
 use Rattle.combining.specs.Hit.{keepLetter, plusLetter, minusLetter, struck, hit}
 use Rattle.combining.specs.StruckBits.{struckBit, struckE, struckA}
 use Rattle.combining.specs.Laws
+use Rattle.combining.proofs.Sending as sending
 use Rattle.combining.proofs.Columns as columns
 use Rattle.combining.proofs.ByGroup as by-group
 use Rattle.combining.proofs.Senders as senders
@@ -145,6 +147,28 @@ fits-sent xs n = fits-laid (map sentLine xs) (length-map xs sentLine ∙ n) (eac
 
 pub eight-sent : Laws.EightSent
 eight-sent xs n = eight-laid (map sentLine xs) (length-map xs sentLine ∙ n) (λ i h. line-length _ (each-sent xs i h))
+
+-- ---- Lines that are sent.
+pub combined-sending : Laws.CombinedSending
+combined-sending = sending.combined-sending
+
+pub sending-pulse : Laws.SendingPulse
+sending-pulse = sending.sending-pulse
+
+pub sending-sent : Laws.SendingSent
+sending-sent = sending.sending-sent
+
+pub taken-sent : Laws.TakenSent
+taken-sent xs n =
+    ap (λ (ls : List (List ℕ)). length (filter isSending ls)) (rw (length-map xs sentLine ∙ n) at (rows-laid (map sentLine xs) (λ i h. line-length _ (each-sent xs i h))))
+    ∙ (ap length (sending.sending-sent xs) ∙ length-map (filter sends xs) sentLine)
+
+pub taken-none : Laws.TakenNone
+taken-none lines h = sym (sending.combined-sending (rows terminals lines)) ∙ (ap combined (no-elements (filter isSending (rows terminals lines)) h) ∙ combined-none)
+  where
+    no-elements : (ls : List (List ℕ)) → length ls ≡ 0 → ls ≡ []
+    no-elements [] e = refl
+    no-elements (l ∷ ls) e = absurd (omega arith)
 
 -- ---- Hits.
 pub hit-at : Laws.HitAt

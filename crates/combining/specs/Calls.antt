@@ -34,9 +34,9 @@ laid (l ∷ ls) = l ++ laid ls
 abbrev pub combineFits : List ℕ → List ℕ → Bool
 combineFits lines lent = hasLineLength lent && fits linesLength minus lines
 
--- What the call replies.
-abbrev pub combinedReply : Bool → Combined
-combinedReply good = cond good Combined.Line (Combined.Refused 2)
+-- What the call replies: how many lines it took, or refusal 2.
+abbrev pub combinedReply : Bool → ℕ → Combined
+combinedReply good taken = cond good (Combined.Line taken) (Combined.Refused 2)
 
 -- The combined line of the eight.
 abbrev pub eight : List ℕ → List ℕ

@@ -4,6 +4,7 @@ pub mod Calls
 pub mod Gathering
 pub mod Groups
 pub mod Sent
+pub mod Sending
 pub mod SentD
 pub mod Hit
 pub mod StruckBits

@@ -22,15 +22,20 @@ returns c = let args = c .before .before .before .args in
 fits-requires : tie.Need-fits-requires
 fits-requires c κs = search needs
 
+senders-requires : tie.Need-senders-requires
+senders-requires c κs = fits-length linesLength minus _ (sym (c .before .fits2 .ensures) ∙ c .if2 .taken)
+
 info0-requires : tie.Need-info0-requires
 info0-requires c κs = search needs
 
 gather-requires : tie.Need-gather-requires
 gather-requires c κs =
     let silent = c .before .before .before in
-    let lent = silent .before .before .before in (
-      fits-length linesLength minus _ (sym (lent .fits2 .ensures) ∙ silent .before .before .if2 .taken),
-      ap length (left-written info0 (lent .before .before .before .before .args .out .now) (lent .before .if1 .left) (silent .info0 .ensures .1)),
+    let found = silent .before .before in
+    let lent = found .before .before in (
+      fits-length linesLength minus _ (sym (lent .fits2 .ensures) ∙ found .before .if2 .taken),
+      (found .senders .ensures,
+        ap length (left-written info0 (lent .before .before .before .before .args .out .now) (lent .before .if1 .left) (silent .info0 .ensures .1))),
     )
 
 resolve-requires : tie.Need-resolve-requires
@@ -44,11 +49,12 @@ returns-2 c =
     let resolve = c .before .before in
     let gather = resolve .before .before .before .before in
     let silent = gather .before .before .before .before in
-    let lent = silent .before .before .before in
+    let found = silent .before .before in
+    let lent = found .before .before in
     let args = lent .before .before .before .before .args in
-    let good = sym (lent .fits2 .ensures) ∙ silent .before .before .if2 .taken in
-    combine-done (args .lines .now) (args .out .now) _ (and-both-true _ _ (eq-eqb _ _ (lent .before .if1 .left)) good)
-    (combines (args .lines .now) _ _ _ good (left-written info0 (lent .before .before .before .before .args .out .now) (lent .before .if1 .left) (silent .info0 .ensures .1)) (gather .gather .ensures) (resolve .resolve .ensures))
+    let good = sym (lent .fits2 .ensures) ∙ found .before .if2 .taken in
+    combine-done (args .lines .now) (args .out .now) _ _ (and-both-true _ _ (eq-eqb _ _ (lent .before .if1 .left)) good) (gather .gather .ensures .0)
+    (combines (args .lines .now) _ _ _ good (left-written info0 (args .out .now) (lent .before .if1 .left) (silent .info0 .ensures .1)) (gather .gather .ensures .1) (resolve .resolve .ensures))
 
 returns-3 : tie.Need-returns-3
 returns-3 c = let args = c .before .before .before .before .before .args in
@@ -61,6 +67,7 @@ combine-spec =
     (tie.spec
     returns
     fits-requires
+    senders-requires
     info0-requires
     gather-requires
     resolve-requires

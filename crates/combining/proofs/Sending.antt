@@ -1,0 +1,115 @@
+-- Lines that are sent: they alone give the line that all give; how many of several are sent.
+use mathlib.Core.Path.{_≡_, refl, sym, ap, _∙_}
+use mathlib.Core.Bool.{Bool, true, false, not}
+use mathlib.Core.List.{List, [], _∷_, map}
+use Prim.Native.Nat.{ℕ, zero, suc, _+_, _*_, _<_, _≤_}
+use native.Mathlib.Omega.{arith}
+use borrow.Author.Tests.{not-false, eqb-true, eqb-false}
+use lib.Dec.{eqb}
+use lib.ListN.{length, getD, set, take, drop, replicate, length-set, length-map, length-drop, getD-replicate}
+use lib.Seq.{drop-drop, length-take-le, ext-getD, getD-set-same, getD-set-other}
+use Rattle.test_lemmas.proofs.ByCases.{by-test, clash}
+use Rattle.symbols.specs.Symbols.{lineLength, none, plus, minus, sameSymbols}
+use Rattle.symbols.proofs.Fill.{tabulate-ext}
+use Rattle.symbols.proofs.Lines.{same-symbols-true, same-symbols-self, line-length}
+use Rattle.framed.specs.Framed.{hasPulse}
+use Rattle.info.specs.Info.{info0, info1, info3}
+use Rattle.info.proofs.Laws.{pulseless-info0, pulse-info1, pulse-info3, line-info3}
+use Rattle.combining.specs.Combine.{isSent, column, combined}
+use Rattle.combining.specs.Calls.{terminals, linesLength, rows}
+use Rattle.combining.specs.Sent.{Sent, sentLine}
+use Rattle.combining.specs.Sent.Sent.{silent, calling, frame}
+use Rattle.combining.specs.Sending.{filter, isSending, sending, sends}
+
+-- ---- A line that is not sent is INFO 0; one of 48 symbols is sent where it has a pulse.
+is-info0 : (l : List ℕ) → isSending l ≡ false → l ≡ info0
+unfolding isSending
+is-info0 l e = same-symbols-true l info0 (not-false (sameSymbols l info0) e)
+
+info0-silent : isSending info0 ≡ false
+unfolding isSending
+info0-silent = ap not (same-symbols-self info0)
+
+pub sending-pulse : (l : List ℕ) → length l ≡ lineLength → isSending l ≡ hasPulse l
+sending-pulse l h =
+    by-test (hasPulse l)
+    (λ t. by-test (isSending l) (λ u. u ∙ sym t) (λ u. clash (hasPulse l) t (pulseless-info0 l h .1 (is-info0 l u))))
+    (λ t. ap isSending (pulseless-info0 l h .0 t) ∙ (info0-silent ∙ sym t))
+
+-- ---- The lines that are sent alone give the line that all give.
+sent-sending : (s i : ℕ) → eqb none s ≡ false → i < lineLength → (ls : List (List ℕ)) → isSent s (column i (sending ls)) ≡ isSent s (column i ls)
+unfolding isSent filter
+sent-sending s i n h [] = refl
+sent-sending s i n h (l ∷ ls) =
+    by-test (isSending l) (λ t. rw (t, sent-sending s i n h ls))
+    (λ t. rw (t, is-info0 l t, getD-replicate {A = ℕ} lineLength i none none h, n, sent-sending s i n h ls))
+
+pub combined-sending : (ls : List (List ℕ)) → combined (sending ls) ≡ combined ls
+unfolding combined
+combined-sending ls = tabulate-ext lineLength _ _ (λ i h. rw (sent-sending plus i refl h ls, sent-sending minus i refl h ls))
+
+-- ---- Which of several terminals send.
+sends-is : (x : Sent) → isSending (sentLine x) ≡ sends x
+sends-is silent = info0-silent
+sends-is calling = sending-pulse info1 refl ∙ pulse-info1
+sends-is (frame d) = sending-pulse (info3 d) (line-length (info3 d) (line-info3 d)) ∙ pulse-info3 d
+
+pub sending-sent : (xs : List Sent) → sending (map sentLine xs) ≡ map sentLine (filter sends xs)
+unfolding filter
+sending-sent [] = refl
+sending-sent (x ∷ xs) = rw (sends-is x, sending-sent xs) (by-test (sends x) (λ t. rw t) (λ t. rw t))
+
+-- ---- The loop that finds the senders.
+abbrev senders : List ℕ → List Bool
+senders lines = map isSending (rows terminals lines)
+
+length-rows : (n : ℕ) (l : List ℕ) → length (rows n l) ≡ n
+unfolding rows
+length-rows zero l = refl
+length-rows (suc n) l = ap suc (length-rows n (drop lineLength l))
+
+-- Whether terminal k of n sends, by its line.
+sender-at : (n k : ℕ) (l : List ℕ) → k < n → getD (map isSending (rows n l)) k false ≡ isSending (take lineLength (drop (k * lineLength) l))
+unfolding rows
+sender-at zero k l h = absurd (omega arith)
+sender-at (suc n) zero l h = refl
+sender-at (suc n) (suc k) l h =
+    let past : suc k * lineLength ≡ lineLength + k * lineLength = omega arith in
+    sender-at n k (drop lineLength l) (omega arith) ∙ rw (drop-drop (k * lineLength) lineLength l, past)
+
+pub sender-is : (lines : List ℕ) (found : List Bool) (n : ℕ) → found ≡ senders lines → n < terminals
+    → getD found n false ≡ isSending (take lineLength (drop (n * lineLength) lines))
+sender-is lines found n e h = rw e (sender-at terminals n lines h)
+
+-- A part of 48 of the lines.
+pub part-line : (lines : List ℕ) (n : ℕ) → length lines ≡ linesLength → n < terminals → length (take lineLength (drop (n * lineLength) lines)) ≡ lineLength
+part-line lines n h k = length-take-le lineLength (drop (n * lineLength) lines) (rw length-drop (omega arith))
+
+-- Below n it is found which terminals send.
+pub record Found (lines : List ℕ) (found : List Bool) (n : ℕ) : Type 0 where
+  pub long : length found ≡ terminals
+  pub low : n ≤ terminals
+  pub done : (k : ℕ) → k < n → getD found k false ≡ getD (senders lines) k false
+
+pub found-start : (lines : List ℕ) → Found lines (replicate terminals false) 0
+found-start lines = record { long = refl; low = omega arith; done = λ k l. absurd (omega arith) }
+
+module _ {lines : List ℕ} {found : List Bool} {n : ℕ} (m : Found lines found n) where
+  -- The line of terminal n, and whether it sends.
+  pub found-next : length lines ≡ linesLength → n < terminals → (b : Bool) → b ≡ hasPulse (take lineLength (drop (n * lineLength) lines))
+      → Found lines (set found n b) (n + 1)
+  found-next h l b e = record {
+    long = length-set found n b ∙ m .long;
+    low = omega arith;
+    done = λ k j.
+        by-test (eqb k n) (λ t. rw (eqb-true k n t) (getD-set-same found n b false (omega (arith, m .long)) ∙ here))
+        (λ t. getD-set-other found n k b false (eqb-false k n t) ∙ m .done k (omega (arith, eqb-false k n t)));
+  }
+    where
+      here : b ≡ getD (senders lines) n false
+      here = e ∙ (sym (sending-pulse _ (part-line lines n h l)) ∙ sym (sender-at terminals n lines l))
+
+  pub found-done : terminals ≤ n → found ≡ senders lines
+  found-done h =
+      ext-getD false found (senders lines) (m .long ∙ sym (length-map (rows terminals lines) isSending ∙ length-rows terminals lines))
+      (λ i k. m .done i (omega (arith, m .long)))
