@@ -1,5 +1,7 @@
-// Prints the INFO lines and some written frames as rows of `+`, `-` and `0`, beside a row that
-// names the field at each position: `1` for B1, `2` for B2, `f` for FA.
+// Prints the INFO lines, some written frames and what several terminals give together as rows of
+// `+`, `-` and `0`, beside a row that names the field at each position: `1` for B1, `2` for B2, `f`
+// for FA.
+use combining::combine::Combined;
 use combining::combine::LINES_LENGTH;
 use combining::combine::TERMINALS;
 use combining::combine::combine;
@@ -108,25 +110,59 @@ fn frames() {
     show(b"up   a5 07 80 00 ", &mut line);
 }
 
-// Puts INFO 3 with the D bits d in the place of terminal n among the eight lines.
-fn put(lines: &mut [u8], n: usize, d: Four) {
+// Puts INFO 1, or else INFO 3 with the D bits d, in the place of terminal n among the eight lines.
+fn put(lines: &mut [u8], n: usize, calling: bool, d: Four) {
     if n < TERMINALS {
         let from = n * LINE_LENGTH;
         let to = from + LINE_LENGTH;
         if to <= lines.len() {
-            info3(d, &mut lines[from..to]);
+            if calling {
+                info1(&mut lines[from..to]);
+            } else {
+                info3(d, &mut lines[from..to]);
+            }
         }
     }
 }
 
-// Prints two terminals together, and a hit on INFO 2: plus at 3, none at 5 and 6.
-fn combined_and_hit() {
-    let mut lines = [NONE; LINES_LENGTH];
-    put(&mut lines, 0, four(true, false, true, true));
-    put(&mut lines, 2, four(true, true, false, true));
+// Puts INFO 3 with all D at 1 in the place of each terminal.
+fn put_all(lines: &mut [u8]) {
+    let mut n: usize = 0;
+    while n < TERMINALS {
+        put(lines, n, false, four(true, true, true, true));
+        n += 1;
+    }
+}
+
+// Prints the line that the eight lines give together, and below it how many of them were taken.
+fn show_combined(name: &[u8], lines: &[u8]) {
     let mut line = [NONE; LINE_LENGTH];
-    combine(&lines, &mut line);
-    show(b"D 1011 with 1101 ", &mut line);
+    let answer = combine(lines, &mut line);
+    let Combined::Line(taken) = answer else {
+        return;
+    };
+    show(name, &mut line);
+    io::write_all(STDOUT_FILENO, b"lines taken      ");
+    io::print_decimal(STDOUT_FILENO, taken as u64);
+    io::write_all(STDOUT_FILENO, b"\n");
+}
+
+// Prints terminals together: none that sends, two, a third with INFO 1, and all eight.
+fn combined() {
+    let mut lines = [NONE; LINES_LENGTH];
+    show_combined(b"nobody sends     ", &lines);
+    put(&mut lines, 0, false, four(true, false, true, true));
+    put(&mut lines, 2, false, four(true, true, false, true));
+    show_combined(b"D 1011 with 1101 ", &lines);
+    put(&mut lines, 7, true, four(true, true, true, true));
+    show_combined(b".. with INFO 1   ", &lines);
+    put_all(&mut lines);
+    show_combined(b"D 1111 of eight  ", &lines);
+}
+
+// Prints a hit on INFO 2: plus at 3, none at 5 and 6.
+fn hit_line() {
+    let mut line = [NONE; LINE_LENGTH];
     let mut hit = [KEEP_LETTER; LINE_LENGTH];
     hit[2] = PLUS_LETTER;
     hit[4] = NONE_LETTER;
@@ -147,5 +183,6 @@ fn main() {
     );
     infos();
     frames();
-    combined_and_hit();
+    combined();
+    hit_line();
 }

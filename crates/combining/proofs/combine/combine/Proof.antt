@@ -34,8 +34,10 @@ gather-requires c κs =
     let found = silent .before .before in
     let lent = found .before .before in (
       fits-length linesLength minus _ (sym (lent .fits2 .ensures) ∙ found .before .if2 .taken),
-      (found .senders .ensures,
-        ap length (left-written info0 (lent .before .before .before .before .args .out .now) (lent .before .if1 .left) (silent .info0 .ensures .1))),
+      (
+        found .senders .ensures,
+        ap length (left-written info0 (lent .before .before .before .before .args .out .now) (lent .before .if1 .left) (silent .info0 .ensures .1)),
+      ),
     )
 
 resolve-requires : tie.Need-resolve-requires
