@@ -152,9 +152,6 @@ eight-sent xs n = eight-laid (map sentLine xs) (length-map xs sentLine âˆ™ n) (Î
 pub combined-sending : Laws.CombinedSending
 combined-sending = sending.combined-sending
 
-pub sending-pulse : Laws.SendingPulse
-sending-pulse = sending.sending-pulse
-
 pub sending-sent : Laws.SendingSent
 sending-sent = sending.sending-sent
 

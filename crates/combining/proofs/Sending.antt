@@ -4,24 +4,24 @@ use mathlib.Core.Bool.{Bool, true, false, not}
 use mathlib.Core.List.{List, [], _∷_, map}
 use Prim.Native.Nat.{ℕ, zero, suc, _+_, _*_, _<_, _≤_}
 use native.Mathlib.Omega.{arith}
-use borrow.Author.Tests.{not-false, eqb-true, eqb-false}
-use lib.Dec.{eqb}
+use borrow.Author.Tests.{not-false, eqb-true, eqb-false, leb-true}
+use lib.Dec.{eqb, leb}
 use lib.ListN.{length, getD, set, take, drop, replicate, length-set, length-map, length-drop, getD-replicate}
 use lib.Seq.{drop-drop, length-take-le, ext-getD, getD-set-same, getD-set-other}
-use Rattle.test_lemmas.proofs.ByCases.{by-test, clash}
-use Rattle.symbols.specs.Symbols.{lineLength, none, plus, minus, sameSymbols}
+use Rattle.test_lemmas.proofs.ByCases.{by-test, both, clash}
+use Rattle.symbols.specs.Symbols.{lineLength, none, plus, minus, within, fits, sameSymbols}
 use Rattle.symbols.proofs.Fill.{tabulate-ext}
-use Rattle.symbols.proofs.Lines.{same-symbols-true, same-symbols-self, line-length}
-use Rattle.framed.specs.Framed.{hasPulse}
-use Rattle.info.specs.Info.{info0, info1, info3}
-use Rattle.info.proofs.Laws.{pulseless-info0, pulse-info1, pulse-info3, line-info3}
+use Rattle.symbols.proofs.Lines.{same-symbols-true, same-symbols-self, fits-length, fits-within}
+use Rattle.frame.specs.Polarity.{symbols}
+use Rattle.frame.specs.Up.{upLine}
+use Rattle.info.specs.Info.{info0}
 use Rattle.combining.specs.Combine.{isSent, column, combined}
 use Rattle.combining.specs.Calls.{terminals, linesLength, rows}
 use Rattle.combining.specs.Sent.{Sent, sentLine}
 use Rattle.combining.specs.Sent.Sent.{silent, calling, frame}
 use Rattle.combining.specs.Sending.{filter, isSending, sending, sends}
 
--- ---- A line that is not sent is INFO 0; one of 48 symbols is sent where it has a pulse.
+-- ---- A line that is not sent is INFO 0: 48 codes, none above none.
 is-info0 : (l : List ℕ) → isSending l ≡ false → l ≡ info0
 unfolding isSending
 is-info0 l e = same-symbols-true l info0 (not-false (sameSymbols l info0) e)
@@ -30,11 +30,22 @@ info0-silent : isSending info0 ≡ false
 unfolding isSending
 info0-silent = ap not (same-symbols-self info0)
 
-pub sending-pulse : (l : List ℕ) → length l ≡ lineLength → isSending l ≡ hasPulse l
-sending-pulse l h =
-    by-test (hasPulse l)
-    (λ t. by-test (isSending l) (λ u. u ∙ sym t) (λ u. clash (hasPulse l) t (pulseless-info0 l h .1 (is-info0 l u))))
-    (λ t. ap isSending (pulseless-info0 l h .0 t) ∙ (info0-silent ∙ sym t))
+within-none : (l : List ℕ) → within none l ≡ true → l ≡ replicate (length l) none
+unfolding within
+within-none [] e = refl
+within-none (x ∷ l) e =
+    let h = both (leb x none) (within none l) e in
+    let z : x ≡ none = omega (arith, leb-true x none (h .0)) in
+    rw (z, ← within-none l (h .1))
+
+sending-is : (l : List ℕ) → not (fits lineLength none l) ≡ isSending l
+unfolding fits within
+sending-is l =
+    by-test (fits lineLength none l)
+    (λ t.
+    let here : l ≡ info0 = rw (fits-length lineLength none l t) at (within-none l (fits-within lineLength none l t)) in
+    rw t (sym (ap isSending here ∙ info0-silent)))
+    (λ t. by-test (isSending l) (λ u. rw (t, u)) (λ u. clash (fits lineLength none l) (ap (fits lineLength none) (is-info0 l u)) t))
 
 -- ---- The lines that are sent alone give the line that all give.
 sent-sending : (s i : ℕ) → eqb none s ≡ false → i < lineLength → (ls : List (List ℕ)) → isSent s (column i (sending ls)) ≡ isSent s (column i ls)
@@ -50,9 +61,10 @@ combined-sending ls = tabulate-ext lineLength _ _ (λ i h. rw (sent-sending plus
 
 -- ---- Which of several terminals send.
 sends-is : (x : Sent) → isSending (sentLine x) ≡ sends x
-sends-is silent = info0-silent
-sends-is calling = sending-pulse info1 refl ∙ pulse-info1
-sends-is (frame d) = sending-pulse (info3 d) (line-length (info3 d) (line-info3 d)) ∙ pulse-info3 d
+unfolding isSending sameSymbols upLine symbols
+sends-is silent = refl
+sends-is calling = refl
+sends-is (frame d) = refl
 
 pub sending-sent : (xs : List Sent) → sending (map sentLine xs) ≡ map sentLine (filter sends xs)
 unfolding filter
@@ -95,19 +107,19 @@ pub found-start : (lines : List ℕ) → Found lines (replicate terminals false)
 found-start lines = record { long = refl; low = omega arith; done = λ k l. absurd (omega arith) }
 
 module _ {lines : List ℕ} {found : List Bool} {n : ℕ} (m : Found lines found n) where
-  -- The line of terminal n, and whether it sends.
-  pub found-next : length lines ≡ linesLength → n < terminals → (b : Bool) → b ≡ hasPulse (take lineLength (drop (n * lineLength) lines))
-      → Found lines (set found n b) (n + 1)
-  found-next h l b e = record {
-    long = length-set found n b ∙ m .long;
+  -- Terminal n sends unless its line has no code above none.
+  pub found-next : n < terminals → (pulseless : Bool) → pulseless ≡ fits lineLength none (take lineLength (drop (n * lineLength) lines))
+      → Found lines (set found n (not pulseless)) (n + 1)
+  found-next l pulseless e = record {
+    long = length-set found n (not pulseless) ∙ m .long;
     low = omega arith;
     done = λ k j.
-        by-test (eqb k n) (λ t. rw (eqb-true k n t) (getD-set-same found n b false (omega (arith, m .long)) ∙ here))
-        (λ t. getD-set-other found n k b false (eqb-false k n t) ∙ m .done k (omega (arith, eqb-false k n t)));
+        by-test (eqb k n) (λ t. rw (eqb-true k n t) (getD-set-same found n (not pulseless) false (omega (arith, m .long)) ∙ here))
+        (λ t. getD-set-other found n k (not pulseless) false (eqb-false k n t) ∙ m .done k (omega (arith, eqb-false k n t)));
   }
     where
-      here : b ≡ getD (senders lines) n false
-      here = e ∙ (sym (sending-pulse _ (part-line lines n h l)) ∙ sym (sender-at terminals n lines l))
+      here : not pulseless ≡ getD (senders lines) n false
+      here = ap not e ∙ (sending-is _ ∙ sym (sender-at terminals n lines l))
 
   pub found-done : terminals ≤ n → found ≡ senders lines
   found-done h =

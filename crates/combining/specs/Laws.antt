@@ -16,14 +16,13 @@ use Rattle.frame.specs.Groups.{groupSymbols, upGroups}
 use Rattle.frame.specs.declared.fields.Four.{Four}
 use Rattle.frame.specs.declared.fields.DownFields.{DownFields}
 use Rattle.frame.specs.declared.fields.UpFields.{UpFields}
-use Rattle.framed.specs.Framed.{hasPulse}
 use Rattle.info.specs.Info.{info0, info1, info3}
 use Rattle.combining.specs.Combine.{combinedOver, combined}
 use Rattle.combining.specs.Calls.{terminals, linesLength, rows, laid, eight}
 use Rattle.combining.specs.Groups.{Combines, allOf, ofSender}
 use Rattle.combining.specs.Sent.{Sent, sentLine}
 use Rattle.combining.specs.SentD.{sentD, anyCalling, frames, framesLine, heardWithInfo1}
-use Rattle.combining.specs.Sending.{filter, isSending, sending, linesTaken, sends, howManySend}
+use Rattle.combining.specs.Sending.{filter, sending, linesTaken, sends, howManySend}
 use Rattle.combining.specs.Hit.{keepLetter, plusLetter, minusLetter, noneLetter, struck, hit}
 use Rattle.combining.specs.StruckBits.{struckBit, struckE, struckA}
 
@@ -128,10 +127,6 @@ EightSent = (xs : List Sent) → length xs ≡ terminals → eight (laid (map se
 -- give, whatever the lines are.
 abbrev pub CombinedSending : Type 0
 CombinedSending = (ls : List (List ℕ)) → combined (sending ls) ≡ combined ls
-
--- A line is sent where it has a pulse.
-abbrev pub SendingPulse : Type 0
-SendingPulse = (l : List ℕ) → length l ≡ lineLength → isSending l ≡ hasPulse l
 
 -- Of several terminals, whatever they send, those are taken that do not send INFO 0.
 abbrev pub SendingSent : Type 0

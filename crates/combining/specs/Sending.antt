@@ -1,6 +1,6 @@
--- Calls: which lines are sent, and how many the call that combines them takes (document 02, 2.4: take
--- only the terminals that send; the lines taken are always the number of terminals that send other
--- than INFO 0).
+-- Calls: which lines are sent, and how many the call that combines them takes (document 02, 2.4:
+-- take only the terminals that send; the lines taken are always the number of terminals that send
+-- other than INFO 0).
 -- Interface: `isSending`, `sending`, `linesTaken`. Assumes nothing.
 use mathlib.Core.Bool.{Bool, true, false, not, cond}
 use mathlib.Core.List.{List, [], _∷_}

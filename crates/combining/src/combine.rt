@@ -10,7 +10,6 @@ ghost use Rattle.combining.specs.Combine.{column};
 ghost use Rattle.combining.specs.Gathering.{gathered, gatheredSymbol};
 ghost use Rattle.combining.specs.Calls.{terminals, linesLength, rows, combineFits, combinedReply, eight};
 ghost use Rattle.combining.specs.Sending.{isSending, sending, linesTaken};
-use framed::first_pulse;
 use info::info::info0;
 use symbols::LINE_LENGTH;
 use symbols::MINUS;
@@ -63,7 +62,7 @@ fn resolve(out: &mut [u8])
     }
 }
 
-// Finds which of the eight terminals send: INFO 0 alone has no pulse.
+// Finds which of the eight terminals send: INFO 0 alone has no code above none.
 fn senders(lines: &[u8]) -> [bool; TERMINALS]
     requires { ⌜ length (now lines) ≡ linesLength ⌝ }
     ensures { λ r. ⌜ r ≡ map isSending (rows terminals (now (lines .entry))) ⌝ }
@@ -73,7 +72,7 @@ fn senders(lines: &[u8]) -> [bool; TERMINALS]
     while n < TERMINALS {
         let from = n * LINE_LENGTH;
         let to = from + LINE_LENGTH;
-        sends[n] = first_pulse(&lines[from..to]) != NONE;
+        sends[n] = !fits(&lines[from..to], LINE_LENGTH, NONE);
         n += 1;
     }
     sends

@@ -14,7 +14,7 @@ use symbols::answer;
 use symbols::fits;
 
 // Gives the first pulse of s, or none where s has no pulse.
-pub fn first_pulse(s: &[u8]) -> u8
+fn first_pulse(s: &[u8]) -> u8
     ensures { λ r. ⌜ r ≡ firstPulse (now (s .entry)) ⌝ }
 {
     let mut i = 0;
