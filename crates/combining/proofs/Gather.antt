@@ -7,8 +7,8 @@ use native.Mathlib.Omega.{arith}
 use borrow.Author.Tests.{eqb-true}
 use lib.Bits.{bitOr}
 use lib.Dec.{eqb}
-use lib.ListN.{length, getD, take, drop, getD-replicate}
-use lib.Seq.{drop-drop}
+use lib.ListN.{length, getD, take, drop, length-drop, getD-replicate}
+use lib.Seq.{drop-drop, length-take-le}
 use Rattle.symbols.specs.Symbols.{none, plus, minus, lineLength, fits, lineBy}
 use Rattle.symbols.specs.Calls.{leaves}
 use Rattle.frame.specs.Bits.{bit}
@@ -16,7 +16,7 @@ use Rattle.info.specs.Info.{info0}
 use Rattle.combining.specs.Combine.{isSent, only, combinedSymbol, column, combined}
 use Rattle.combining.specs.Gathering.{gathered, gatheredSymbol}
 use Rattle.combining.specs.Calls.{terminals, linesLength, rows, combineFits, combinedReply, eight}
-use Rattle.combining.specs.Sending.{filter, isSending, sending, linesTaken}
+use Rattle.combining.specs.Sending.{isSending, sending, linesTaken}
 use Rattle.combining.specs.declared.combine.Combined.{Combined}
 use Rattle.test_lemmas.proofs.ByCases.{by-test, at-each-below}
 use Rattle.symbols.proofs.Lines.{Small, within-small, fits-within}
@@ -73,18 +73,22 @@ small-cons : (x : ℕ) (l : List ℕ) → x ≤ minus → Small l → Small (x �
 small-cons x l h s zero = h
 small-cons x l h s (suc i) = s i
 
-small-filter : (p : List ℕ → Bool) (i : ℕ) (ls : List (List ℕ)) → Small (column i ls) → Small (column i (filter p ls))
-unfolding filter
-small-filter p i [] h = h
-small-filter p i (l ∷ ls) h =
-    let rest = small-filter p i ls (λ j. h (suc j)) in
-    by-test (p l) (λ t. rw t (small-cons (getD l i none) (column i (filter p ls)) (h 0) rest)) (λ t. rw t rest)
+small-sending : (i : ℕ) (ls : List (List ℕ)) → Small (column i ls) → Small (column i (sending ls))
+unfolding sending
+small-sending i [] h = h
+small-sending i (l ∷ ls) h =
+    let rest = small-sending i ls (λ j. h (suc j)) in
+    by-test (isSending l) (λ t. rw t (small-cons (getD l i none) (column i (sending ls)) (h 0) rest)) (λ t. rw t rest)
 
--- The lines from terminal n on that are sent.
+-- A part of 48 of the lines.
+pub part-line : (lines : List ℕ) (n : ℕ) → length lines ≡ linesLength → n < terminals → length (take lineLength (drop (n * lineLength) lines)) ≡ lineLength
+part-line lines n h k = length-take-le lineLength (drop (n * lineLength) lines) (rw length-drop (omega arith))
+
+-- The lines of the terminals from n on that send.
 abbrev toCome : List ℕ → ℕ → List (List ℕ)
 toCome lines n = sending (rows (terminals - n) (drop (n * lineLength) lines))
 
--- The loop over the eight lines: what is gathered at the end is gathered from what there is by the lines to come that are sent.
+-- The loop over the eight lines: what is gathered at the end is gathered from what there is by the lines to come of terminals that send.
 pub record Gathering (lines out₀ out : List ℕ) (taken n : ℕ) : Type 0 where
   pub long : length out ≡ lineLength
   pub low : n ≤ terminals
@@ -97,12 +101,12 @@ pub gather-start : (lines out : List ℕ) → length out ≡ lineLength → Gath
 gather-start lines out h = record { long = h; low = omega arith; few = omega arith; count = omega arith; value = λ i k. refl }
 
 module _ {lines out₀ out : List ℕ} {taken n : ℕ} (m : Gathering lines out₀ out taken n) where
-  -- The line of terminal n, sent or not.
+  -- The line of terminal n.
   abbrev here : List ℕ
   here = take lineLength (drop (n * lineLength) lines)
 
   here-first : n < terminals → toCome lines n ≡ cond (isSending here) (here ∷ toCome lines (n + 1)) (toCome lines (n + 1))
-  unfolding rows filter
+  unfolding rows sending
   here-first h =
       let more : terminals - n ≡ suc (terminals - (n + 1)) = omega arith in
       let past : (n + 1) * lineLength ≡ n * lineLength + lineLength = omega arith in
@@ -135,7 +139,7 @@ module _ {lines out₀ out : List ℕ} {taken n : ℕ} (m : Gathering lines out�
       first = here-first h ∙ rw s
 
   none-to-come : terminals ≤ n → toCome lines n ≡ []
-  unfolding rows filter
+  unfolding rows sending
   none-to-come h = let none-left : terminals - n ≡ 0 = omega arith in rw none-left
 
   pub gather-count : terminals ≤ n → taken ≡ linesTaken lines
@@ -158,7 +162,7 @@ combines lines cleared all last h z a e =
     sent = sending (rows terminals lines)
 
     small : (i : ℕ) → Small (column i sent)
-    small i = small-filter isSending i (rows terminals lines) (small-column terminals i lines (within-small lines (fits-within linesLength minus lines h)))
+    small i = small-sending i (rows terminals lines) (small-column terminals i lines (within-small lines (fits-within linesLength minus lines h)))
 
     at-i : (i : ℕ) → i < lineLength → gatheredSymbol (getD all i none) ≡ combinedSymbol (column i sent)
     at-i i k =

@@ -5,7 +5,7 @@ use mathlib.Core.List.{List, [], _∷_, _++_, map}
 use Prim.Native.Nat.{ℕ, zero, suc, _*_, _<_, _≤_}
 use native.Mathlib.Omega.{arith}
 use lib.Dec.{eqb, leb}
-use lib.ListN.{length, getD, length-append, length-map}
+use lib.ListN.{length, getD, replicate, length-append, length-map}
 use lib.Seq.{take-at, drop-at}
 use Rattle.test_lemmas.proofs.ByCases.{by-test, both}
 use Rattle.symbols.specs.Symbols.{lineLength, none, plus, minus, level, levels, within, isLine, tabulate}
@@ -21,11 +21,12 @@ use Rattle.combining.specs.Combine.{isSent, only, combinedSymbol, column
 use Rattle.combining.specs.Calls.{terminals, rows, laid}
 use Rattle.combining.specs.Sent.{Sent, sentLine}
 use Rattle.combining.specs.Sent.Sent.{silent, calling, frame}
-use Rattle.combining.specs.Sending.{filter, isSending, sends}
+use Rattle.combining.specs.SentD.{howManySend}
+use Rattle.combining.specs.Sending.{sending}
 use Rattle.combining.specs.Hit.{keepLetter, plusLetter, minusLetter, struck, hit}
 use Rattle.combining.specs.StruckBits.{struckBit, struckE, struckA}
 use Rattle.combining.specs.Laws
-use Rattle.combining.proofs.Sending as sending
+use Rattle.combining.proofs.Sending as of-senders
 use Rattle.combining.proofs.Columns as columns
 use Rattle.combining.proofs.ByGroup as by-group
 use Rattle.combining.proofs.Senders as senders
@@ -148,24 +149,31 @@ fits-sent xs n = fits-laid (map sentLine xs) (length-map xs sentLine ∙ n) (eac
 pub eight-sent : Laws.EightSent
 eight-sent xs n = eight-laid (map sentLine xs) (length-map xs sentLine ∙ n) (λ i h. line-length _ (each-sent xs i h))
 
--- ---- Lines that are sent.
+-- ---- The lines of terminals that send.
 pub combined-sending : Laws.CombinedSending
-combined-sending = sending.combined-sending
+combined-sending = of-senders.combined-sending
+
+pub sending-pulse : Laws.SendingPulse
+sending-pulse = of-senders.sending-pulse
 
 pub sending-sent : Laws.SendingSent
-sending-sent = sending.sending-sent
+sending-sent = of-senders.sending-sent
 
 pub taken-sent : Laws.TakenSent
 taken-sent xs n =
-    ap (λ (ls : List (List ℕ)). length (filter isSending ls)) (rw (length-map xs sentLine ∙ n) at (rows-laid (map sentLine xs) (λ i h. line-length _ (each-sent xs i h))))
-    ∙ (ap length (sending.sending-sent xs) ∙ length-map (filter sends xs) sentLine)
+    ap (λ (ls : List (List ℕ)). length (sending ls)) (rw (length-map xs sentLine ∙ n) at (rows-laid (map sentLine xs) (λ i h. line-length _ (each-sent xs i h))))
+    ∙ of-senders.sending-sent xs
 
 pub taken-none : Laws.TakenNone
-taken-none lines h = sym (sending.combined-sending (rows terminals lines)) ∙ (ap combined (no-elements (filter isSending (rows terminals lines)) h) ∙ combined-none)
+taken-none lines h = sym (of-senders.combined-sending (rows terminals lines)) ∙ (ap combined (no-elements (sending (rows terminals lines)) h) ∙ combined-none)
   where
     no-elements : (ls : List (List ℕ)) → length ls ≡ 0 → ls ≡ []
     no-elements [] e = refl
     no-elements (l ∷ ls) e = absurd (omega arith)
+
+pub taken-of-nobody : Laws.TakenOfNobody
+unfolding howManySend
+taken-of-nobody = taken-sent (replicate terminals silent) refl
 
 -- ---- Hits.
 pub hit-at : Laws.HitAt

@@ -1,4 +1,4 @@
--- Lines that are sent: they alone give the line that all give; how many of several are sent.
+-- The lines of terminals that send: they alone give the line that all give; how many of several send.
 use mathlib.Core.Path.{_≡_, refl, sym, ap, _∙_}
 use mathlib.Core.Bool.{Bool, true, false, not}
 use mathlib.Core.List.{List, [], _∷_, map}
@@ -6,22 +6,26 @@ use Prim.Native.Nat.{ℕ, zero, suc, _+_, _*_, _<_, _≤_}
 use native.Mathlib.Omega.{arith}
 use borrow.Author.Tests.{not-false, eqb-true, eqb-false, leb-true}
 use lib.Dec.{eqb, leb}
-use lib.ListN.{length, getD, set, take, drop, replicate, length-set, length-map, length-drop, getD-replicate}
-use lib.Seq.{drop-drop, length-take-le, ext-getD, getD-set-same, getD-set-other}
+use lib.ListN.{length, getD, set, take, drop, replicate, length-set, length-map, getD-replicate}
+use lib.Seq.{drop-drop, ext-getD, getD-set-same, getD-set-other}
 use Rattle.test_lemmas.proofs.ByCases.{by-test, both, clash}
 use Rattle.symbols.specs.Symbols.{lineLength, none, plus, minus, within, fits, sameSymbols}
 use Rattle.symbols.proofs.Fill.{tabulate-ext}
 use Rattle.symbols.proofs.Lines.{same-symbols-true, same-symbols-self, fits-length, fits-within}
 use Rattle.frame.specs.Polarity.{symbols}
 use Rattle.frame.specs.Up.{upLine}
-use Rattle.info.specs.Info.{info0}
+use Rattle.frame.specs.declared.fields.Four.{Four}
+use Rattle.framed.specs.Framed.{hasPulse}
+use Rattle.info.specs.Info.{info0, info1, info3}
+use Rattle.info.proofs.Laws.{pulseless-info0}
 use Rattle.combining.specs.Combine.{isSent, column, combined}
-use Rattle.combining.specs.Calls.{terminals, linesLength, rows}
+use Rattle.combining.specs.Calls.{terminals, rows}
 use Rattle.combining.specs.Sent.{Sent, sentLine}
 use Rattle.combining.specs.Sent.Sent.{silent, calling, frame}
-use Rattle.combining.specs.Sending.{filter, isSending, sending, sends}
+use Rattle.combining.specs.SentD.{howManySend}
+use Rattle.combining.specs.Sending.{isSending, sending}
 
--- ---- A line that is not sent is INFO 0: 48 codes, none above none.
+-- ---- A terminal that does not send has the line INFO 0: 48 codes, none above none.
 is-info0 : (l : List ℕ) → isSending l ≡ false → l ≡ info0
 unfolding isSending
 is-info0 l e = same-symbols-true l info0 (not-false (sameSymbols l info0) e)
@@ -47,9 +51,16 @@ sending-is l =
     rw t (sym (ap isSending here ∙ info0-silent)))
     (λ t. by-test (isSending l) (λ u. rw (t, u)) (λ u. clash (fits lineLength none l) (ap (fits lineLength none) (is-info0 l u)) t))
 
--- ---- The lines that are sent alone give the line that all give.
+-- So its line has no pulse, and every other has one.
+pub sending-pulse : (l : List ℕ) → length l ≡ lineLength → isSending l ≡ hasPulse l
+sending-pulse l h =
+    by-test (hasPulse l)
+    (λ t. by-test (isSending l) (λ u. u ∙ sym t) (λ u. clash (hasPulse l) t (pulseless-info0 l h .1 (is-info0 l u))))
+    (λ t. ap isSending (pulseless-info0 l h .0 t) ∙ (info0-silent ∙ sym t))
+
+-- ---- The lines of terminals that send alone give the line that all give.
 sent-sending : (s i : ℕ) → eqb none s ≡ false → i < lineLength → (ls : List (List ℕ)) → isSent s (column i (sending ls)) ≡ isSent s (column i ls)
-unfolding isSent filter
+unfolding isSent sending
 sent-sending s i n h [] = refl
 sent-sending s i n h (l ∷ ls) =
     by-test (isSending l) (λ t. rw (t, sent-sending s i n h ls))
@@ -59,21 +70,25 @@ pub combined-sending : (ls : List (List ℕ)) → combined (sending ls) ≡ comb
 unfolding combined
 combined-sending ls = tabulate-ext lineLength _ _ (λ i h. rw (sent-sending plus i refl h ls, sent-sending minus i refl h ls))
 
--- ---- Which of several terminals send.
-sends-is : (x : Sent) → isSending (sentLine x) ≡ sends x
-unfolding isSending sameSymbols upLine symbols
-sends-is silent = refl
-sends-is calling = refl
-sends-is (frame d) = refl
+-- ---- How many of several terminals send.
+info1-sends : isSending info1 ≡ true
+unfolding isSending sameSymbols
+info1-sends = refl
 
-pub sending-sent : (xs : List Sent) → sending (map sentLine xs) ≡ map sentLine (filter sends xs)
-unfolding filter
+info3-sends : (d : Four) → isSending (info3 d) ≡ true
+unfolding isSending sameSymbols upLine symbols
+info3-sends d = refl
+
+pub sending-sent : (xs : List Sent) → length (sending (map sentLine xs)) ≡ howManySend xs
+unfolding sending howManySend
 sending-sent [] = refl
-sending-sent (x ∷ xs) = rw (sends-is x, sending-sent xs) (by-test (sends x) (λ t. rw t) (λ t. rw t))
+sending-sent (silent ∷ xs) = rw info0-silent (sending-sent xs)
+sending-sent (calling ∷ xs) = rw info1-sends (ap suc (sending-sent xs))
+sending-sent (frame d ∷ xs) = rw (info3-sends d) (ap suc (sending-sent xs))
 
 -- ---- The loop that finds the senders.
-abbrev senders : List ℕ → List Bool
-senders lines = map isSending (rows terminals lines)
+abbrev whoSends : List ℕ → List Bool
+whoSends lines = map isSending (rows terminals lines)
 
 length-rows : (n : ℕ) (l : List ℕ) → length (rows n l) ≡ n
 unfolding rows
@@ -89,19 +104,15 @@ sender-at (suc n) (suc k) l h =
     let past : suc k * lineLength ≡ lineLength + k * lineLength = omega arith in
     sender-at n k (drop lineLength l) (omega arith) ∙ rw (drop-drop (k * lineLength) lineLength l, past)
 
-pub sender-is : (lines : List ℕ) (found : List Bool) (n : ℕ) → found ≡ senders lines → n < terminals
+pub sender-is : (lines : List ℕ) (found : List Bool) (n : ℕ) → found ≡ whoSends lines → n < terminals
     → getD found n false ≡ isSending (take lineLength (drop (n * lineLength) lines))
 sender-is lines found n e h = rw e (sender-at terminals n lines h)
-
--- A part of 48 of the lines.
-pub part-line : (lines : List ℕ) (n : ℕ) → length lines ≡ linesLength → n < terminals → length (take lineLength (drop (n * lineLength) lines)) ≡ lineLength
-part-line lines n h k = length-take-le lineLength (drop (n * lineLength) lines) (rw length-drop (omega arith))
 
 -- Below n it is found which terminals send.
 pub record Found (lines : List ℕ) (found : List Bool) (n : ℕ) : Type 0 where
   pub long : length found ≡ terminals
   pub low : n ≤ terminals
-  pub done : (k : ℕ) → k < n → getD found k false ≡ getD (senders lines) k false
+  pub done : (k : ℕ) → k < n → getD found k false ≡ getD (whoSends lines) k false
 
 pub found-start : (lines : List ℕ) → Found lines (replicate terminals false) 0
 found-start lines = record { long = refl; low = omega arith; done = λ k l. absurd (omega arith) }
@@ -118,10 +129,10 @@ module _ {lines : List ℕ} {found : List Bool} {n : ℕ} (m : Found lines found
         (λ t. getD-set-other found n k (not pulseless) false (eqb-false k n t) ∙ m .done k (omega (arith, eqb-false k n t)));
   }
     where
-      here : not pulseless ≡ getD (senders lines) n false
+      here : not pulseless ≡ getD (whoSends lines) n false
       here = ap not e ∙ (sending-is _ ∙ sym (sender-at terminals n lines l))
 
-  pub found-done : terminals ≤ n → found ≡ senders lines
+  pub found-done : terminals ≤ n → found ≡ whoSends lines
   found-done h =
-      ext-getD false found (senders lines) (m .long ∙ sym (length-map (rows terminals lines) isSending ∙ length-rows terminals lines))
+      ext-getD false found (whoSends lines) (m .long ∙ sym (length-map (rows terminals lines) isSending ∙ length-rows terminals lines))
       (λ i k. m .done i (omega (arith, m .long)))

@@ -16,13 +16,15 @@ use Rattle.frame.specs.Groups.{groupSymbols, upGroups}
 use Rattle.frame.specs.declared.fields.Four.{Four}
 use Rattle.frame.specs.declared.fields.DownFields.{DownFields}
 use Rattle.frame.specs.declared.fields.UpFields.{UpFields}
+use Rattle.framed.specs.Framed.{hasPulse}
 use Rattle.info.specs.Info.{info0, info1, info3}
 use Rattle.combining.specs.Combine.{combinedOver, combined}
 use Rattle.combining.specs.Calls.{terminals, linesLength, rows, laid, eight}
 use Rattle.combining.specs.Groups.{Combines, allOf, ofSender}
 use Rattle.combining.specs.Sent.{Sent, sentLine}
-use Rattle.combining.specs.SentD.{sentD, anyCalling, frames, framesLine, heardWithInfo1}
-use Rattle.combining.specs.Sending.{filter, sending, linesTaken, sends, howManySend}
+use Rattle.combining.specs.SentD.{howManySend, sentD, anyCalling, frames, framesLine, heardWithInfo1}
+use Rattle.combining.specs.Sent.Sent.{silent}
+use Rattle.combining.specs.Sending.{isSending, sending, linesTaken}
 use Rattle.combining.specs.Hit.{keepLetter, plusLetter, minusLetter, noneLetter, struck, hit}
 use Rattle.combining.specs.StruckBits.{struckBit, struckE, struckA}
 
@@ -123,22 +125,29 @@ FitsSent = (xs : List Sent) → length xs ≡ terminals → fits linesLength min
 abbrev pub EightSent : Type 0
 EightSent = (xs : List Sent) → length xs ≡ terminals → eight (laid (map sentLine xs)) ≡ combined (map sentLine xs)
 
--- ---- Only lines that are sent are taken (document 02, 2.4). They alone give the line that all
--- give, whatever the lines are.
+-- ---- Only the lines of terminals that send are taken (document 02, 2.4). They alone give the line
+-- that all give, whatever the lines are.
 abbrev pub CombinedSending : Type 0
 CombinedSending = (ls : List (List ℕ)) → combined (sending ls) ≡ combined ls
 
--- Of several terminals, whatever they send, those are taken that do not send INFO 0.
-abbrev pub SendingSent : Type 0
-SendingSent = (xs : List Sent) → sending (map sentLine xs) ≡ map sentLine (filter sends xs)
+-- A terminal sends where its line has a pulse.
+abbrev pub SendingPulse : Type 0
+SendingPulse = (l : List ℕ) → length l ≡ lineLength → isSending l ≡ hasPulse l
 
--- So the call takes as many lines as terminals send other than INFO 0.
+-- Of several terminals, whatever they send, as many lines are taken as send other than INFO 0, and
+-- so it is with the eight of the call.
+abbrev pub SendingSent : Type 0
+SendingSent = (xs : List Sent) → length (sending (map sentLine xs)) ≡ howManySend xs
+
 abbrev pub TakenSent : Type 0
 TakenSent = (xs : List Sent) → length xs ≡ terminals → linesTaken (laid (map sentLine xs)) ≡ howManySend xs
 
--- The line of nobody is 48 nones.
+-- Where no line is taken, INFO 0 is given; so it is with the lines of nobody.
 abbrev pub TakenNone : Type 0
 TakenNone = (lines : List ℕ) → linesTaken lines ≡ 0 → eight lines ≡ info0
+
+abbrev pub TakenOfNobody : Type 0
+TakenOfNobody = linesTaken (laid (map sentLine (replicate terminals silent))) ≡ 0
 
 -- ---- A hit changes exactly its letters' positions: keep leaves the symbol, plus, minus and none
 -- give theirs.

@@ -1,14 +1,22 @@
--- Laws: the terms of the laws about what several terminals send: their D bits, whether one sends
--- INFO 1, the INFO 3 among them, and the D that are heard where INFO 1 is on the line.
+-- Laws: the terms of the laws about what several terminals send: how many send other than INFO 0,
+-- their D bits, whether one sends INFO 1, the INFO 3 among them, and the D that are heard where
+-- INFO 1 is on the line.
 -- Interface: none but for laws and proofs. Assumes nothing.
 use mathlib.Core.Bool.{Bool, true, false, not, cond, _||_}
 use mathlib.Core.List.{List, [], _∷_}
-use Prim.Native.Nat.{ℕ}
+use Prim.Native.Nat.{ℕ, suc}
 use Rattle.frame.specs.Four.{allFour, andAll}
 use Rattle.frame.specs.declared.fields.Four.{Four}
 use Rattle.info.specs.Info.{info0, info1, info3}
 use Rattle.combining.specs.Sent.{Sent}
 use Rattle.combining.specs.Sent.Sent.{silent, calling, frame}
+
+-- How many send other than INFO 0.
+unfoldable pub howManySend : List Sent → ℕ
+howManySend [] = 0
+howManySend (silent ∷ xs) = howManySend xs
+howManySend (calling ∷ xs) = suc (howManySend xs)
+howManySend (frame d ∷ xs) = suc (howManySend xs)
 
 -- The D bits of what one terminal sends: INFO 0 and INFO 1 count as 1s.
 abbrev pub sentD : Sent → Four

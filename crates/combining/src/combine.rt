@@ -62,7 +62,7 @@ fn resolve(out: &mut [u8])
     }
 }
 
-// Finds which of the eight terminals send: INFO 0 alone has no code above none.
+// Finds which of the eight terminals send: the line INFO 0 alone has no code above none.
 fn senders(lines: &[u8]) -> [bool; TERMINALS]
     requires { ⌜ length (now lines) ≡ linesLength ⌝ }
     ensures { λ r. ⌜ r ≡ map isSending (rows terminals (now (lines .entry))) ⌝ }

@@ -110,26 +110,29 @@ fn frames() {
     show(b"up   a5 07 80 00 ", &mut line);
 }
 
-// Puts INFO 1, or else INFO 3 with the D bits d, in the place of terminal n among the eight lines.
-fn put(lines: &mut [u8], n: usize, calling: bool, d: Four) {
+// Puts INFO 1 in the place of terminal 8 among the eight lines.
+fn put_info1(lines: &mut [u8]) {
+    if lines.len() == LINES_LENGTH {
+        info1(&mut lines[LINES_LENGTH - LINE_LENGTH..]);
+    }
+}
+
+// Puts INFO 3 with the D bits d in the place of terminal n + 1 among the eight lines.
+fn put_info3(lines: &mut [u8], n: usize, d: Four) {
     if n < TERMINALS {
         let from = n * LINE_LENGTH;
         let to = from + LINE_LENGTH;
         if to <= lines.len() {
-            if calling {
-                info1(&mut lines[from..to]);
-            } else {
-                info3(d, &mut lines[from..to]);
-            }
+            info3(d, &mut lines[from..to]);
         }
     }
 }
 
 // Puts INFO 3 with all D at 1 in the place of each terminal.
-fn put_all(lines: &mut [u8]) {
+fn put_all_info3(lines: &mut [u8]) {
     let mut n: usize = 0;
     while n < TERMINALS {
-        put(lines, n, false, four(true, true, true, true));
+        put_info3(lines, n, four(true, true, true, true));
         n += 1;
     }
 }
@@ -151,12 +154,12 @@ fn show_combined(name: &[u8], lines: &[u8]) {
 fn combined() {
     let mut lines = [NONE; LINES_LENGTH];
     show_combined(b"nobody sends     ", &lines);
-    put(&mut lines, 0, false, four(true, false, true, true));
-    put(&mut lines, 2, false, four(true, true, false, true));
+    put_info3(&mut lines, 0, four(true, false, true, true));
+    put_info3(&mut lines, 2, four(true, true, false, true));
     show_combined(b"D 1011 with 1101 ", &lines);
-    put(&mut lines, 7, true, four(true, true, true, true));
+    put_info1(&mut lines);
     show_combined(b".. with INFO 1   ", &lines);
-    put_all(&mut lines);
+    put_all_info3(&mut lines);
     show_combined(b"D 1111 of eight  ", &lines);
 }
 

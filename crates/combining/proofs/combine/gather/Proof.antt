@@ -5,8 +5,8 @@ use Prim.Native.Nat.{_+_, _-_, _*_}
 use native.Mathlib.Omega.{arith}
 use Rattle.symbols.specs.Symbols.{lineLength}
 use Rattle.combining.specs.Calls.{terminals}
-use Rattle.combining.proofs.Gather.{Gathering, gather-start, gather-next, gather-skip, gather-count, gather-done}
-use Rattle.combining.proofs.Sending.{sender-is, part-line}
+use Rattle.combining.proofs.Gather.{Gathering, part-line, gather-start, gather-next, gather-skip, gather-count, gather-done}
+use Rattle.combining.proofs.Sending.{sender-is}
 use Rattle.combining.proofs.combine.gather.Statement.{statement}
 use Rattle.combining.proofs.combine.gather.Tie as tie
 
