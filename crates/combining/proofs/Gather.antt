@@ -84,7 +84,7 @@ small-sending i (l ∷ ls) h =
 pub part-line : (lines : List ℕ) (n : ℕ) → length lines ≡ linesLength → n < terminals → length (take lineLength (drop (n * lineLength) lines)) ≡ lineLength
 part-line lines n h k = length-take-le lineLength (drop (n * lineLength) lines) (rw length-drop (omega arith))
 
--- The lines of the terminals from n on that send.
+-- The lines from index n on of terminals that send.
 abbrev toCome : List ℕ → ℕ → List (List ℕ)
 toCome lines n = sending (rows (terminals - n) (drop (n * lineLength) lines))
 
@@ -101,7 +101,7 @@ pub gather-start : (lines out : List ℕ) → length out ≡ lineLength → Gath
 gather-start lines out h = record { long = h; low = omega arith; few = omega arith; count = omega arith; value = λ i k. refl }
 
 module _ {lines out₀ out : List ℕ} {taken n : ℕ} (m : Gathering lines out₀ out taken n) where
-  -- The line of terminal n.
+  -- The line at index n.
   abbrev here : List ℕ
   here = take lineLength (drop (n * lineLength) lines)
 

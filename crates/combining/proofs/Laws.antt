@@ -4,6 +4,7 @@ use mathlib.Core.Bool.{Bool, true, false}
 use mathlib.Core.List.{List, [], _∷_, _++_, map}
 use Prim.Native.Nat.{ℕ, zero, suc, _*_, _<_, _≤_}
 use native.Mathlib.Omega.{arith}
+use borrow.Author.Tests.{eq-eqb}
 use lib.Dec.{eqb, leb}
 use lib.ListN.{length, getD, replicate, length-append, length-map}
 use lib.Seq.{take-at, drop-at}
@@ -163,6 +164,9 @@ pub taken-sent : Laws.TakenSent
 taken-sent xs n =
     ap (λ (ls : List (List ℕ)). length (sending ls)) (rw (length-map xs sentLine ∙ n) at (rows-laid (map sentLine xs) (λ i h. line-length _ (each-sent xs i h))))
     ∙ of-senders.sending-sent xs
+
+pub reply-sent : Laws.ReplySent
+reply-sent xs lent n m = rw (eq-eqb (length lent) lineLength m, fits-sent xs n, taken-sent xs n)
 
 pub taken-none : Laws.TakenNone
 taken-none lines h = sym (of-senders.combined-sending (rows terminals lines)) ∙ (ap combined (no-elements (sending (rows terminals lines)) h) ∙ combined-none)

@@ -95,7 +95,7 @@ unfolding rows
 length-rows zero l = refl
 length-rows (suc n) l = ap suc (length-rows n (drop lineLength l))
 
--- Whether terminal k of n sends, by its line.
+-- Whether the terminal at index k of n sends, by its line.
 sender-at : (n k : ℕ) (l : List ℕ) → k < n → getD (map isSending (rows n l)) k false ≡ isSending (take lineLength (drop (k * lineLength) l))
 unfolding rows
 sender-at zero k l h = absurd (omega arith)
@@ -108,7 +108,7 @@ pub sender-is : (lines : List ℕ) (found : List Bool) (n : ℕ) → found ≡ w
     → getD found n false ≡ isSending (take lineLength (drop (n * lineLength) lines))
 sender-is lines found n e h = rw e (sender-at terminals n lines h)
 
--- Below n it is found which terminals send.
+-- Below index n it is found which terminals send.
 pub record Found (lines : List ℕ) (found : List Bool) (n : ℕ) : Type 0 where
   pub long : length found ≡ terminals
   pub low : n ≤ terminals
@@ -118,7 +118,7 @@ pub found-start : (lines : List ℕ) → Found lines (replicate terminals false)
 found-start lines = record { long = refl; low = omega arith; done = λ k l. absurd (omega arith) }
 
 module _ {lines : List ℕ} {found : List Bool} {n : ℕ} (m : Found lines found n) where
-  -- Terminal n sends unless its line has no code above none.
+  -- The terminal at index n sends unless its line has no code above none.
   pub found-next : n < terminals → (pulseless : Bool) → pulseless ≡ fits lineLength none (take lineLength (drop (n * lineLength) lines))
       → Found lines (set found n (not pulseless)) (n + 1)
   found-next l pulseless e = record {

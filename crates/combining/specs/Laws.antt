@@ -19,7 +19,8 @@ use Rattle.frame.specs.declared.fields.UpFields.{UpFields}
 use Rattle.framed.specs.Framed.{hasPulse}
 use Rattle.info.specs.Info.{info0, info1, info3}
 use Rattle.combining.specs.Combine.{combinedOver, combined}
-use Rattle.combining.specs.Calls.{terminals, linesLength, rows, laid, eight}
+use Rattle.combining.specs.Calls.{terminals, linesLength, rows, laid, combineFits, combinedReply, eight}
+use Rattle.combining.specs.declared.combine.Combined.{Combined}
 use Rattle.combining.specs.Groups.{Combines, allOf, ofSender}
 use Rattle.combining.specs.Sent.{Sent, sentLine}
 use Rattle.combining.specs.SentD.{howManySend, sentD, anyCalling, frames, framesLine, heardWithInfo1}
@@ -141,6 +142,13 @@ SendingSent = (xs : List Sent) → length (sending (map sentLine xs)) ≡ howMan
 
 abbrev pub TakenSent : Type 0
 TakenSent = (xs : List Sent) → length xs ≡ terminals → linesTaken (laid (map sentLine xs)) ≡ howManySend xs
+
+-- That number is what the call replies.
+abbrev pub ReplySent : Type 0
+ReplySent =
+    (xs : List Sent) (lent : List ℕ) → length xs ≡ terminals → length lent ≡ lineLength →
+    let lines = laid (map sentLine xs) in
+    combinedReply (combineFits lines lent) (linesTaken lines) ≡ Combined.Line (howManySend xs)
 
 -- Where no line is taken, INFO 0 is given; so it is with the lines of nobody.
 abbrev pub TakenNone : Type 0
