@@ -9,7 +9,7 @@ use lib.Dec.{eqb}
 use lib.ListN.{getD, replicate}
 use Rattle.test_lemmas.proofs.ByCases.{by-test}
 use Rattle.symbols.specs.Symbols.{none, plus, minus}
-use Rattle.frame.specs.Bits.{octetBits, zeros, balanced, dIndex}
+use Rattle.frame.specs.Bits.{octetBits, zeros, balanced, dIndex, faIndex}
 use Rattle.frame.specs.Four.{pick}
 use Rattle.frame.specs.Polarity.{opposite, alternate, nextPulse, symbols}
 use Rattle.frame.specs.Up.{upBits, upLine}
@@ -65,7 +65,7 @@ groups-up f =
     (by-groups
     (octetBits (f .b1first)
     ∷ (f .d .first ∷ [])
-    ∷ (false ∷ [])
+    ∷ (f .fa ∷ [])
     ∷ octetBits (f .b2first)
     ∷ (f .d .second ∷ [])
     ∷ octetBits (f .b1second)
@@ -82,6 +82,10 @@ d-symbol-up (suc zero) f h = rw (groups-up f)
 d-symbol-up (suc (suc zero)) f h = rw (groups-up f)
 d-symbol-up (suc (suc (suc zero))) f h = rw (groups-up f)
 d-symbol-up (suc (suc (suc (suc k)))) f h = absurd (omega arith)
+
+pub fa-symbol-up : (f : UpFields) → getD (upLine f) faIndex none ≡ cond (f .fa) none minus
+unfolding alternate octetBits
+fa-symbol-up f = rw (groups-up f)
 
 -- 1s are nones.
 alternate-ones : (n : ℕ) → alternate minus (replicate n true) ≡ replicate n none

@@ -33,6 +33,18 @@ pub a-down : Laws.ADown
 unfolding downBits downBody octetBits
 a-down f = rw (frames.down-levels f)
 
+pub fa-down : Laws.FaDown
+unfolding downBits downBody octetBits
+fa-down f = rw (frames.down-levels f)
+
+pub s-down : Laws.SDown
+unfolding downBits downBody octetBits
+s-down f = rw (frames.down-levels f)
+
+pub fa-up : Laws.FaUp
+unfolding upBits octetBits
+fa-up f = rw (frames.up-levels f)
+
 pub d-up : Laws.DUp
 unfolding upBits octetBits
 d-up f = rw (frames.up-levels f)
@@ -52,6 +64,9 @@ groups-up = groups.groups-up
 
 pub d-symbol-up : Laws.DSymbolUp
 d-symbol-up = groups.d-symbol-up
+
+pub fa-symbol-up : Laws.FaSymbolUp
+fa-symbol-up = groups.fa-symbol-up
 
 pub group-of-ones : Laws.GroupOfOnes
 group-of-ones = groups.group-of-ones

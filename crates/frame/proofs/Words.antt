@@ -108,25 +108,27 @@ down-bits f n first pair second third fourth h q k l m e =
     let sum : n ≡ numberHighFirst (p ++ ((f .fa ∷ not (f .fa) ∷ []) ++ (r ++ (s ++ t)))) = omega (arith, pair-number (f .fa)) in
     down-last f n sum
 
--- The upward frame: FA and its L are 0.
-none-number : numberHighFirst (single false) ≡ 0
+-- The upward frame: FA and its L are alike.
+alike-number : (fa : Bool) → 3 * bit fa ≡ numberHighFirst (single fa)
 unfolding numberHighFirst zeros
-none-number = refl
+alike-number true = refl
+alike-number false = refl
 
-pub up-bits : (f : UpFields) (n first second third fourth : ℕ)
+pub up-bits : (f : UpFields) (n first pair second third fourth : ℕ)
     → first ≡ numberHighFirst (balanced (octetBits (f .b1first)) ++ single (f .d .first))
+    → pair ≡ 3 * bit (f .fa)
     → second ≡ numberHighFirst (balanced (octetBits (f .b2first)) ++ single (f .d .second))
     → third ≡ numberHighFirst (balanced (octetBits (f .b1second)) ++ single (f .d .third))
     → fourth ≡ numberHighFirst (balanced (octetBits (f .b2second)) ++ single (f .d .fourth))
-    → n ≡ (((first * 4 + 0) * 2048 + second) * 2048 + third) * 2048 + fourth
+    → n ≡ (((first * 4 + pair) * 2048 + second) * 2048 + third) * 2048 + fourth
     → topBits 46 n ≡ drop 2 (upBits f)
 unfolding upBits octetBits
-up-bits f n first second third fourth h k l m e =
+up-bits f n first pair second third fourth h q k l m e =
     let p = balanced (octetBits (f .b1first)) ++ single (f .d .first) in
     let r = balanced (octetBits (f .b2first)) ++ single (f .d .second) in
     let s = balanced (octetBits (f .b1second)) ++ single (f .d .third) in
     let t = balanced (octetBits (f .b2second)) ++ single (f .d .fourth) in
-    let joined : numberHighFirst (p ++ (single false ++ (r ++ (s ++ t)))) ≡ (((numberHighFirst p * 4 + numberHighFirst (single false)) * 2048 + numberHighFirst r) * 2048 + numberHighFirst s) * 2048 + numberHighFirst t =
-    joined-number p (single false) r s t refl refl refl refl in
-    let sum : n ≡ numberHighFirst (p ++ (single false ++ (r ++ (s ++ t)))) = omega (arith, none-number) in
+    let joined : numberHighFirst (p ++ (single (f .fa) ++ (r ++ (s ++ t)))) ≡ (((numberHighFirst p * 4 + numberHighFirst (single (f .fa))) * 2048 + numberHighFirst r) * 2048 + numberHighFirst s) * 2048 + numberHighFirst t =
+    joined-number p (single (f .fa)) r s t refl refl refl refl in
+    let sum : n ≡ numberHighFirst (p ++ (single (f .fa) ++ (r ++ (s ++ t)))) = omega (arith, alike-number (f .fa)) in
     rw sum (top-bits (drop 2 (upBits f)) refl)

@@ -1,7 +1,7 @@
 -- Rules: bits, octets and counts of 0s (document 01, "The line": B octets, and what L is taken
 -- over). A bit is true for 1 and false for 0.
 -- Interface: `bit`, `numberHighFirst`, `octetBits`, `zeros`, `balanced`, `bitAtPosition`,
--- `octetAt`, `fourAt`, `dBits`. Assumes nothing.
+-- `octetAt`, `fourAt`, `dBits`, `faBit`, `faIndex`. Assumes nothing.
 use mathlib.Core.Bool.{Bool, true, false}
 use mathlib.Core.List.{List, [], _∷_, _++_}
 use Prim.Native.Nat.{ℕ, _+_, _-_, _*_, _/_, _%_, _^_}
@@ -66,6 +66,13 @@ fourAt i j k l bits =
 -- The four D bits stand at the same positions in both directions (tables 5-1 and 5-2).
 abbrev pub dBits : List Bool → Four
 dBits bits = fourAt 12 25 36 47 bits
+
+-- FA stands at the same position in both directions; its index in a line, from 0.
+abbrev pub faBit : List Bool → Bool
+faBit bits = bitAtPosition 14 bits
+
+abbrev pub faIndex : ℕ
+faIndex = 13
 
 -- The index in a line, from 0, of the D at place k: the D bits have the places 0 to 3.
 abbrev pub dIndex : ℕ → ℕ

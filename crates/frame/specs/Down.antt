@@ -1,12 +1,12 @@
 -- Rules: the frame from the network to the terminals (document 01, "Network to terminals"; table
 -- 5-2).
--- Interface: `downBody`, `downBits`, `downLine`, `eBits`, `aBit`, `eIndex`, `aIndex`,
--- `downFieldsOf`. Assumes nothing.
+-- Interface: `downBody`, `downBits`, `downLine`, `eBits`, `aBit`, `sBit`, `eIndex`, `aIndex`,
+-- `sIndex`, `downFieldsOf`. Assumes nothing.
 use mathlib.Core.Bool.{Bool, false, not}
 use mathlib.Core.List.{List, [], _∷_, _++_}
 use Prim.Native.Nat.{ℕ}
 use lib.ListN.{getD}
-use Rattle.frame.specs.Bits.{octetBits, balanced, bitAtPosition, octetAt, fourAt, dBits}
+use Rattle.frame.specs.Bits.{octetBits, balanced, bitAtPosition, octetAt, fourAt, dBits, faBit}
 use Rattle.frame.specs.Polarity.{symbols}
 use Rattle.symbols.specs.Symbols.{levels}
 use Rattle.frame.specs.declared.fields.Four.{Four}
@@ -43,19 +43,26 @@ downBits f = false ∷ false ∷ balanced (downBody f)
 unfoldable pub downLine : DownFields → List ℕ
 downLine f = symbols (downBits f)
 
--- The four E bits and A, of a downward frame's bits.
+-- The four E bits, A and S, of a downward frame's bits.
 abbrev pub eBits : List Bool → Four
 eBits bits = fourAt 11 24 35 46 bits
 
 abbrev pub aBit : List Bool → Bool
 aBit bits = bitAtPosition 13 bits
 
--- The indices in a line, from 0, of the E at place k and of A: the E bits have the places 0 to 3.
+abbrev pub sBit : List Bool → Bool
+sBit bits = bitAtPosition 37 bits
+
+-- The indices in a line, from 0, of the E at place k, of A and of S: the E bits have the places 0
+-- to 3.
 abbrev pub eIndex : ℕ → ℕ
 eIndex k = getD (10 ∷ 23 ∷ 34 ∷ 45 ∷ []) k 0
 
 abbrev pub aIndex : ℕ
 aIndex = 12
+
+abbrev pub sIndex : ℕ
+sIndex = 36
 
 -- The fields that 48 bits hold, by position.
 unfoldable pub downFields : List Bool → DownFields
@@ -67,9 +74,9 @@ downFields bits = record {
   e = eBits bits;
   d = dBits bits;
   a = aBit bits;
-  fa = bitAtPosition 14 bits;
+  fa = faBit bits;
   m = bitAtPosition 26 bits;
-  s = bitAtPosition 37 bits;
+  s = sBit bits;
 }
 
 -- The fields that a line holds at symbol level.

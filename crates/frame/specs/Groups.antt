@@ -19,7 +19,7 @@ upGroups =
     (λ f. plus ∷ minus ∷ [])
     ∷ (λ f. groupSymbols (octetBits (f .b1first)))
     ∷ (λ f. groupSymbols (f .d .first ∷ []))
-    ∷ (λ f. groupSymbols (false ∷ []))
+    ∷ (λ f. groupSymbols (f .fa ∷ []))
     ∷ (λ f. groupSymbols (octetBits (f .b2first)))
     ∷ (λ f. groupSymbols (f .d .second ∷ []))
     ∷ (λ f. groupSymbols (octetBits (f .b1second)))

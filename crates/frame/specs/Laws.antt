@@ -8,9 +8,9 @@ use Prim.Native.Nat.{ℕ, suc, _<_}
 use lib.ListN.{getD, replicate}
 use Rattle.symbols.specs.Symbols.{lineLength, none, minus, level, levels, isLine}
 use Rattle.frame.specs.Four.{pick, filledWithOnes, allFour, andFour}
-use Rattle.frame.specs.Bits.{balanced, dBits, dIndex}
+use Rattle.frame.specs.Bits.{balanced, dBits, dIndex, faBit, faIndex}
 use Rattle.frame.specs.Polarity.{nextPulse}
-use Rattle.frame.specs.Down.{downBits, downLine, eBits, aBit, eIndex}
+use Rattle.frame.specs.Down.{downBits, downLine, eBits, aBit, sBit, eIndex}
 use Rattle.frame.specs.Up.{upBits, upLine}
 use Rattle.frame.specs.Groups.{groupSymbols, upGroups, laidOut}
 use Rattle.frame.specs.declared.fields.Four.{Four}
@@ -33,6 +33,15 @@ EDown = (f : DownFields) → eBits (levels (downLine f)) ≡ f .e
 abbrev pub ADown : Type 0
 ADown = (f : DownFields) → aBit (levels (downLine f)) ≡ f .a
 
+abbrev pub FaDown : Type 0
+FaDown = (f : DownFields) → faBit (levels (downLine f)) ≡ f .fa
+
+abbrev pub SDown : Type 0
+SDown = (f : DownFields) → sBit (levels (downLine f)) ≡ f .s
+
+abbrev pub FaUp : Type 0
+FaUp = (f : UpFields) → faBit (levels (upLine f)) ≡ f .fa
+
 abbrev pub DUp : Type 0
 DUp = (f : UpFields) → dBits (levels (upLine f)) ≡ f .d
 
@@ -53,6 +62,10 @@ GroupsUp = (f : UpFields) → upLine f ≡ laidOut upGroups f
 
 abbrev pub DSymbolUp : Type 0
 DSymbolUp = (k : ℕ) (f : UpFields) → k < 4 → getD (upLine f) (dIndex k) none ≡ cond (pick k (f .d)) none minus
+
+-- FA begins its group too, and a 0 there is a minus.
+abbrev pub FaSymbolUp : Type 0
+FaSymbolUp = (f : UpFields) → getD (upLine f) faIndex none ≡ cond (f .fa) none minus
 
 -- A group of 1s, with its L, is nones.
 abbrev pub GroupOfOnes : Type 0

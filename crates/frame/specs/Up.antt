@@ -3,7 +3,7 @@
 use mathlib.Core.Bool.{Bool, false}
 use mathlib.Core.List.{List, [], _∷_, _++_}
 use Prim.Native.Nat.{ℕ}
-use Rattle.frame.specs.Bits.{octetBits, balanced, octetAt, dBits}
+use Rattle.frame.specs.Bits.{octetBits, balanced, octetAt, dBits, faBit}
 use Rattle.frame.specs.Polarity.{symbols}
 use Rattle.symbols.specs.Symbols.{levels}
 use Rattle.frame.specs.declared.fields.UpFields.{UpFields}
@@ -12,13 +12,13 @@ use Rattle.frame.specs.declared.fields.UpFields.{UpFields}
 abbrev pub single : Bool → List Bool
 single b = balanced (b ∷ [])
 
--- All 48: each group is followed by the L that makes its number of 0s even. F and FA are 0.
+-- All 48: each group is followed by the L that makes its number of 0s even. F is 0.
 unfoldable pub upBits : UpFields → List Bool
 upBits f =
     single false  -- 1-2 F L
     ++ (balanced (octetBits (f .b1first))  -- 3-11 B1 L
     ++ (single (f .d .first)  -- 12-13 D L
-    ++ (single false  -- 14-15 FA L
+    ++ (single (f .fa)  -- 14-15 FA L
     ++ (balanced (octetBits (f .b2first))  -- 16-24 B2 L
     ++ (single (f .d .second)  -- 25-26 D L
     ++ (balanced (octetBits (f .b1second))  -- 27-35 B1 L
@@ -38,6 +38,7 @@ upFields bits = record {
   b1second = octetAt 27 bits;
   b2second = octetAt 38 bits;
   d = dBits bits;
+  fa = faBit bits;
 }
 
 -- The fields that a line holds at symbol level.

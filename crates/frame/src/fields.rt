@@ -1,5 +1,5 @@
 // The fields of the two frames, by value: every bit but those that follow from others (L and N) and
-// those that are always 0 (F, and FA upward).
+// F, which is always 0.
 
 // The four D bits of a frame, or its four echo bits, in the order of the line.
 pub struct Four {
@@ -23,6 +23,13 @@ pub struct DownFields {
     pub s: bool,
 }
 
+// The downward bits that the 20-period cycle sets.
+pub struct CycleBits {
+    pub fa: bool,
+    pub m: bool,
+    pub s: bool,
+}
+
 // The fields of a frame from a terminal to the network.
 pub struct UpFields {
     pub b1first: u8,
@@ -30,4 +37,5 @@ pub struct UpFields {
     pub b1second: u8,
     pub b2second: u8,
     pub d: Four,
+    pub fa: bool,
 }

@@ -63,7 +63,7 @@ pub(crate) fn down_word(f: DownFields) -> u64
     open + (u64::count_ones(open) % 2) as u64
 }
 
-// Gives bits 3 to 48 of an upward frame. FA and its L are 0.
+// Gives bits 3 to 48 of an upward frame. FA's L is as FA.
 pub(crate) fn up_word(f: UpFields) -> u64
     ensures { λ r. ⌜ topBits 46 r ≡ drop 2 (upBits f) ⌝ }
 {
@@ -71,5 +71,5 @@ pub(crate) fn up_word(f: UpFields) -> u64
     let second = group(f.b2first, f.d.second);
     let third = group(f.b1second, f.d.third);
     let fourth = group(f.b2second, f.d.fourth);
-    joined(first, 0, second, third, fourth)
+    joined(first, 3 * bit(f.fa), second, third, fourth)
 }

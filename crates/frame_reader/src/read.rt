@@ -32,6 +32,8 @@ const D2: usize = 24;
 const D3: usize = 35;
 
 const D4: usize = 46;
+// The index of FA, of either direction.
+const FA: usize = 13;
 // The indices of the four echo bits.
 const E1: usize = 10;
 
@@ -77,7 +79,7 @@ fn down_fields(line: &[u8]) -> DownFields
     ensures { λ r. ⌜ r ≡ downFieldsOf (now (line .entry)) ⌝ }
 {
     let a = line[12] == NONE;
-    let fa = line[13] == NONE;
+    let fa = line[FA] == NONE;
     let m = line[25] == NONE;
     let s = line[36] == NONE;
     DownFields {
@@ -99,12 +101,14 @@ fn up_fields(line: &[u8]) -> UpFields
     requires { ⌜ length (now line) ≡ lineLength ⌝ }
     ensures { λ r. ⌜ r ≡ upFieldsOf (now (line .entry)) ⌝ }
 {
+    let fa = line[FA] == NONE;
     UpFields {
         b1first: octet_at(line, 2),
         b2first: octet_at(line, 15),
         b1second: octet_at(line, 26),
         b2second: octet_at(line, 37),
         d: four_at(line, D1, D2, D3, D4),
+        fa: fa,
     }
 }
 

@@ -6,7 +6,7 @@ use Prim.Native.Nat.{ℕ, _+_, _-_}
 use native.Mathlib.Omega.{arith}
 use borrow.Author.Tests.{eqb-true, eqb-false, eq-eqb, ne-eqb}
 use lib.Dec.{eqb}
-use lib.ListN.{length, take, drop, length-drop}
+use lib.ListN.{length, take, drop, length-take, length-drop}
 use lib.Seq.{take-all}
 use Rattle.test_lemmas.proofs.ByCases.{by-test, clash}
 use Rattle.symbols.specs.Symbols.{within, fits}
@@ -63,8 +63,16 @@ module _ (up : ℕ) (fs : List ℕ) where
     pub accepts-downward : up ≡ 0 → d ≡ accepts up fs
     accepts-downward h = rw h down-is
 
-    pub accepts-upward : {u : Bool} → (up ≡ 0 → ⊥) → u ≡ fits 8 0 (take (length fs - 8) (drop 8 fs)) → (d && u) ≡ accepts up fs
-    accepts-upward h k = rw (ne-eqb up 0 h, down-is, k, part-fits 8 8 0 fs long)
+    -- E and A, and M and S
+    echoes-fit : fits 5 0 (take 5 (drop 8 fs)) ≡ within 0 (take 5 (drop 8 fs))
+    unfolding fits
+    echoes-fit =
+        let part : length (take 5 (drop 8 fs)) ≡ 5 = rw (length-take, length-drop) (omega arith) in
+        rw (eq-eqb (length (take 5 (drop 8 fs))) 5 part)
+
+    pub accepts-upward : {u v : Bool} → (up ≡ 0 → ⊥) → u ≡ fits 5 0 (take 5 (drop 8 fs)) → v ≡ fits 2 0 (take (length fs - 14) (drop 14 fs))
+        → (d && (u && v)) ≡ accepts up fs
+    accepts-upward h k l = rw (ne-eqb up 0 h, down-is, k, l, echoes-fit, part-fits 14 2 0 fs long)
 
   pub accepts-length : accepts up fs ≡ true → length fs ≡ fieldsLength
   unfolding isDown

@@ -1,6 +1,6 @@
 -- The fields' octets: what stands at each place, and the loop that copies them.
 use mathlib.Core.Path.{_≡_, refl, sym, ap, _∙_}
-use mathlib.Core.Bool.{Bool, true, false}
+use mathlib.Core.Bool.{Bool, true, false, _&&_}
 use mathlib.Core.List.{List, [], _∷_}
 use Prim.Native.Nat.{ℕ, zero, suc, _+_, _≤_, _<_}
 use native.Mathlib.Numerals.{add-one}
@@ -9,7 +9,7 @@ use mir.Val.{boolByte}
 use borrow.Author.Tests.{eqb-true, eqb-false, leb-true}
 use lib.Dec.{eqb, leb}
 use lib.ListN.{length, take, drop, getD, set, length-set}
-use lib.Seq.{getD-drop, take-suc, take-suc-set, take-all}
+use lib.Seq.{getD-drop, getD-take, take-suc, take-suc-set, take-all}
 use Rattle.test_lemmas.proofs.ByCases.{by-test, both, and-left, and-right}
 use Rattle.symbols.specs.Symbols.{within, tabulate}
 use Rattle.symbols.proofs.Fill.{tabulate-is}
@@ -115,5 +115,11 @@ module _ (fs : List ℕ) (e : isDown fs ≡ true) where
 
 pub up-exact : (fs : List ℕ) → isUp fs ≡ true → upOctets (upFrom fs) ≡ fs
 up-exact fs e =
-    let none : (i : ℕ) → getD fs (8 + i) 0 ≡ 0 = λ i. omega (arith, rw getD-drop at (within-at 0 (drop 8 fs) (and-right (isDown fs) (within 0 (drop 8 fs)) e) i)) in
-    rw (none 0, none 1, none 2, none 3, none 4, none 5, none 6, none 7) at (down-exact fs (and-left (isDown fs) (within 0 (drop 8 fs)) e))
+    let echoes = within 0 (take 5 (drop 8 fs)) in
+    let rest = within 0 (drop 14 fs) in
+    let zeros = and-right (isDown fs) (echoes && rest) e in
+    let none : (i : ℕ) → i < 5 → getD fs (8 + i) 0 ≡ 0 = λ i h.
+    omega (arith, rw (getD-take 5 (drop 8 fs) i 0, getD-drop) at (within-at 0 (take 5 (drop 8 fs)) (and-left echoes rest zeros) i)) in
+    let last : (i : ℕ) → getD fs (14 + i) 0 ≡ 0 = λ i. omega (arith, rw getD-drop at (within-at 0 (drop 14 fs) (and-right echoes rest zeros) i)) in
+    rw (none 0 (omega arith), none 1 (omega arith), none 2 (omega arith), none 3 (omega arith), none 4 (omega arith), last 0, last 1)
+    at (down-exact fs (and-left (isDown fs) (echoes && rest) e))

@@ -7,7 +7,7 @@ use mathlib.Core.Bool.{Bool, false, _&&_}
 use mathlib.Core.List.{List, [], _∷_}
 use Prim.Native.Nat.{ℕ, _+_}
 use lib.Dec.{eqb}
-use lib.ListN.{length, drop, getD}
+use lib.ListN.{length, take, drop, getD}
 use Rattle.symbols.specs.Symbols.{within}
 use Rattle.frame.specs.Bits.{bit}
 use Rattle.frame.specs.Four.{allFour}
@@ -63,7 +63,7 @@ downFrom fs = record {
   s = eqb (getD fs 15 0) 1;
 }
 
--- An upward frame has the B octets and the D bits of a downward one. Where octets are to be
+-- An upward frame has the B octets, the D bits and FA of a downward one. Where octets are to be
 -- written, every other bit is 0.
 abbrev pub asDown : UpFields → DownFields
 asDown f = record {
@@ -74,13 +74,13 @@ asDown f = record {
   d = f .d;
   e = allFour false;
   a = false;
-  fa = false;
+  fa = f .fa;
   m = false;
   s = false;
 }
 
 abbrev pub upPart : DownFields → UpFields
-upPart f = record { b1first = f .b1first; b2first = f .b2first; b1second = f .b1second; b2second = f .b2second; d = f .d }
+upPart f = record { b1first = f .b1first; b2first = f .b2first; b1second = f .b1second; b2second = f .b2second; d = f .d; fa = f .fa }
 
 abbrev pub upOctets : UpFields → List ℕ
 upOctets f = downOctets (asDown f)
@@ -92,6 +92,6 @@ upFrom fs = upPart (downFrom fs)
 unfoldable pub isDown : List ℕ → Bool
 isDown fs = eqb (length fs) fieldsLength && within 1 (drop 4 fs)
 
--- .. of an upward frame: those from the first E on 0 as well.
+-- .. of an upward frame: those of E, A, M and S 0 as well.
 abbrev pub isUp : List ℕ → Bool
-isUp fs = isDown fs && within 0 (drop 8 fs)
+isUp fs = isDown fs && (within 0 (take 5 (drop 8 fs)) && within 0 (drop 14 fs))

@@ -1,6 +1,6 @@
 // The fields of a frame as 16 octets, with the same places in both directions: the four B octets;
-// then bits, each an octet 0 or 1: the four D, the four E, A, FA, M and S. An upward frame has no
-// bit from E on: these octets are 0.
+// then bits, each an octet 0 or 1: the four D, the four E, A, FA, M and S. Of these bits an upward
+// frame has the four D and FA: the octets of the others are 0.
 ghost use mathlib.Core.Path.{_≡_};
 ghost use Prim.Native.Nat.{_+_, _≤_};
 ghost use lib.ListN.{length};
@@ -16,6 +16,11 @@ pub const FIELDS: usize = 16;
 pub(crate) const FIRST_D: usize = 4;
 
 pub(crate) const FIRST_E: usize = 8;
+
+// The places of FA and of M, the first behind it.
+pub(crate) const FA: usize = 13;
+
+pub(crate) const M: usize = 14;
 
 // Gives the four bits from place `at` on.
 fn four_from(octets: &[u8], at: usize) -> Four
@@ -36,8 +41,8 @@ pub(crate) fn down_from(octets: &[u8]) -> DownFields
     ensures { λ r. ⌜ r ≡ downFrom (now (octets .entry)) ⌝ }
 {
     let a = octets[12] == 1;
-    let fa = octets[13] == 1;
-    let m = octets[14] == 1;
+    let fa = octets[FA] == 1;
+    let m = octets[M] == 1;
     let s = octets[15] == 1;
     DownFields {
         b1first: octets[0],
@@ -102,7 +107,7 @@ pub(crate) fn as_down(f: UpFields) -> DownFields
         e: zeros,
         d: d,
         a: false,
-        fa: false,
+        fa: f.fa,
         m: false,
         s: false,
     }

@@ -1,9 +1,11 @@
 // Writing a frame from lent octets.
 ghost use mathlib.Core.Path.{_≡_};
 ghost use Rattle.host_frames.specs.Calls.{replyOf, leftOf, accepts, frameWritten};
+use super::fields::FA;
 use super::fields::FIELDS;
 use super::fields::FIRST_D;
 use super::fields::FIRST_E;
+use super::fields::M;
 use super::fields::down_from;
 use frame::fields::UpFields;
 use frame::write::write_down;
@@ -21,7 +23,9 @@ fn accepts(up: u32, fields: &[u8]) -> bool
     if up == 0 {
         return downward;
     }
-    downward & fits(&fields[FIRST_E..], FIELDS - FIRST_E, 0)
+    let echoes = fits(&fields[FIRST_E..FA], FA - FIRST_E, 0);
+    let rest = fits(&fields[M..], FIELDS - M, 0);
+    downward & (echoes & rest)
 }
 
 // Writes the frame of 16 octets of fields, downward where `up` is 0, as 48 symbols and replies 0;
@@ -46,6 +50,7 @@ pub extern "C" fn sbus_write_frame(up: u32, fields: &[u8], symbols: &mut [u8]) -
             b1second: f.b1second,
             b2second: f.b2second,
             d: d,
+            fa: f.fa,
         };
         write_up(u, symbols) as u32
     }
