@@ -2,30 +2,32 @@
 -- under the same name in small letters.
 -- Interface: none but for laws and proofs. Assumes nothing.
 use mathlib.Core.Path.{_≡_}
-use mathlib.Core.Bool.{true, false}
+use mathlib.Core.Bool.{Bool, true, false, not, _&&_}
 use mathlib.Core.Logic.{_↔_}
 use mathlib.Core.List.{List}
 use Prim.Native.Nat.{ℕ}
 use lib.ListN.{length}
 use Rattle.symbols.specs.Symbols.{lineLength, levels, isLine}
 use Rattle.frame.specs.Four.{allFour}
-use Rattle.frame.specs.Bits.{dBits}
-use Rattle.frame.specs.Down.{eBits, aBit}
+use Rattle.frame.specs.Bits.{dBits, faBit}
+use Rattle.frame.specs.Down.{eBits, aBit, sBit}
 use Rattle.frame.specs.Up.{upLine}
 use Rattle.frame.specs.declared.fields.Four.{Four}
+use Rattle.frame.specs.declared.fields.CycleBits.{CycleBits}
 use Rattle.frame.specs.declared.fields.UpFields.{UpFields}
 use Rattle.framed.specs.Framed.{framedDown, framedUp, hasPulse}
-use Rattle.info.specs.Info.{info0, info1, info2, info3, info4, isInfo1}
+use Rattle.info.specs.Info.{info0, info1, info2With, info3With, info4With, isInfo1}
 
--- Framed periods: INFO 2, 3 and 4 are framed, for all their bits; INFO 0 and INFO 1 are not.
+-- Framed periods: INFO 2 and 4 are framed, for all their bits; INFO 3 unless its first D and its FA
+-- are 1; INFO 0 and INFO 1 are not.
 abbrev pub FramedInfo2 : Type 0
-FramedInfo2 = framedDown info2 ≡ true
+FramedInfo2 = (bits : CycleBits) → framedDown (info2With bits) ≡ true
 
 abbrev pub FramedInfo3 : Type 0
-FramedInfo3 = (d : Four) → framedUp (info3 d) ≡ true
+FramedInfo3 = (fa : Bool) (d : Four) → framedUp (info3With fa d) ≡ not (d .first && fa)
 
 abbrev pub FramedInfo4 : Type 0
-FramedInfo4 = (e : Four) → framedDown (info4 e) ≡ true
+FramedInfo4 = (bits : CycleBits) (e : Four) → framedDown (info4With bits e) ≡ true
 
 abbrev pub UnframedInfo0 : Type 0
 UnframedInfo0 = (framedDown info0 ≡ false) × (framedUp info0 ≡ false)
@@ -51,13 +53,13 @@ abbrev pub PulseInfo1 : Type 0
 PulseInfo1 = hasPulse info1 ≡ true
 
 abbrev pub PulseInfo2 : Type 0
-PulseInfo2 = hasPulse info2 ≡ true
+PulseInfo2 = (bits : CycleBits) → hasPulse (info2With bits) ≡ true
 
 abbrev pub PulseInfo3 : Type 0
-PulseInfo3 = (d : Four) → hasPulse (info3 d) ≡ true
+PulseInfo3 = (fa : Bool) (d : Four) → hasPulse (info3With fa d) ≡ true
 
 abbrev pub PulseInfo4 : Type 0
-PulseInfo4 = (e : Four) → hasPulse (info4 e) ≡ true
+PulseInfo4 = (bits : CycleBits) (e : Four) → hasPulse (info4With bits e) ≡ true
 
 -- All five are lines.
 abbrev pub LineInfo0 : Type 0
@@ -67,32 +69,54 @@ abbrev pub LineInfo1 : Type 0
 LineInfo1 = isLine info1 ≡ true
 
 abbrev pub LineInfo2 : Type 0
-LineInfo2 = isLine info2 ≡ true
+LineInfo2 = (bits : CycleBits) → isLine (info2With bits) ≡ true
 
 abbrev pub LineInfo3 : Type 0
-LineInfo3 = (d : Four) → isLine (info3 d) ≡ true
+LineInfo3 = (fa : Bool) (d : Four) → isLine (info3With fa d) ≡ true
 
 abbrev pub LineInfo4 : Type 0
-LineInfo4 = (e : Four) → isLine (info4 e) ≡ true
+LineInfo4 = (bits : CycleBits) (e : Four) → isLine (info4With bits e) ≡ true
 
--- What is taken from them at symbol level: E and A downward, D upward.
+-- What is taken from them at symbol level: E, A, FA and S downward, D and FA upward. INFO 0 counts
+-- as 1s.
 abbrev pub EInfo0 : Type 0
 EInfo0 = eBits (levels info0) ≡ allFour true
 
 abbrev pub EInfo2 : Type 0
-EInfo2 = eBits (levels info2) ≡ allFour false
+EInfo2 = (bits : CycleBits) → eBits (levels (info2With bits)) ≡ allFour false
 
 abbrev pub EInfo4 : Type 0
-EInfo4 = (e : Four) → eBits (levels (info4 e)) ≡ e
+EInfo4 = (bits : CycleBits) (e : Four) → eBits (levels (info4With bits e)) ≡ e
 
 abbrev pub AInfo0 : Type 0
 AInfo0 = aBit (levels info0) ≡ true
 
 abbrev pub AInfo2 : Type 0
-AInfo2 = aBit (levels info2) ≡ false
+AInfo2 = (bits : CycleBits) → aBit (levels (info2With bits)) ≡ false
 
 abbrev pub AInfo4 : Type 0
-AInfo4 = (e : Four) → aBit (levels (info4 e)) ≡ true
+AInfo4 = (bits : CycleBits) (e : Four) → aBit (levels (info4With bits e)) ≡ true
 
 abbrev pub DInfo3 : Type 0
-DInfo3 = (d : Four) → dBits (levels (info3 d)) ≡ d
+DInfo3 = (fa : Bool) (d : Four) → dBits (levels (info3With fa d)) ≡ d
+
+abbrev pub FaInfo0 : Type 0
+FaInfo0 = faBit (levels info0) ≡ true
+
+abbrev pub FaInfo2 : Type 0
+FaInfo2 = (bits : CycleBits) → faBit (levels (info2With bits)) ≡ bits .fa
+
+abbrev pub FaInfo3 : Type 0
+FaInfo3 = (fa : Bool) (d : Four) → faBit (levels (info3With fa d)) ≡ fa
+
+abbrev pub FaInfo4 : Type 0
+FaInfo4 = (bits : CycleBits) (e : Four) → faBit (levels (info4With bits e)) ≡ bits .fa
+
+abbrev pub SInfo0 : Type 0
+SInfo0 = sBit (levels info0) ≡ true
+
+abbrev pub SInfo2 : Type 0
+SInfo2 = (bits : CycleBits) → sBit (levels (info2With bits)) ≡ bits .s
+
+abbrev pub SInfo4 : Type 0
+SInfo4 = (bits : CycleBits) (e : Four) → sBit (levels (info4With bits e)) ≡ bits .s

@@ -7,6 +7,7 @@ ghost use Rattle.frame.specs.Polarity.{opposite};
 ghost use Rattle.symbols.specs.Symbols.{none, lineLength};
 ghost use Rattle.symbols.specs.Calls.{hasLineLength, reply, leaves, tested};
 ghost use Rattle.info.specs.Info as spec;
+use frame::fields::CycleBits;
 use frame::fields::DownFields;
 use frame::fields::Four;
 use frame::fields::UpFields;
@@ -68,10 +69,10 @@ pub fn info1(out: &mut [u8]) -> u8
     write_repeated(PLUS, MINUS, out)
 }
 
-// Writes INFO 2.
-pub fn info2(out: &mut [u8]) -> u8
+// Writes INFO 2 with the cycle's bits.
+pub fn info2_with(bits: CycleBits, out: &mut [u8]) -> u8
     ensures reply { λ r. ⌜ r ≡ reply (hasLineLength (now (out .entry))) ⌝ }
-    ensures octets { λ _. ⌜ now (out .exit) ≡ leaves (hasLineLength (now (out .entry))) spec.info2 (now (out .entry)) ⌝ }
+    ensures octets { λ _. ⌜ now (out .exit) ≡ leaves (hasLineLength (now (out .entry))) (spec.info2With bits) (now (out .entry)) ⌝ }
 {
     let zeros = Four {
         first: false,
@@ -87,17 +88,30 @@ pub fn info2(out: &mut [u8]) -> u8
         e: zeros,
         d: zeros,
         a: false,
-        fa: false,
-        m: false,
-        s: false,
+        fa: bits.fa,
+        m: bits.m,
+        s: bits.s,
     };
     write_down(f, out)
 }
 
-// Writes INFO 3 with the D bits d.
-pub fn info3(d: Four, out: &mut [u8]) -> u8
+// Writes INFO 2 where no cycle runs.
+pub fn info2(out: &mut [u8]) -> u8
     ensures reply { λ r. ⌜ r ≡ reply (hasLineLength (now (out .entry))) ⌝ }
-    ensures octets { λ _. ⌜ now (out .exit) ≡ leaves (hasLineLength (now (out .entry))) (spec.info3 d) (now (out .entry)) ⌝ }
+    ensures octets { λ _. ⌜ now (out .exit) ≡ leaves (hasLineLength (now (out .entry))) spec.info2 (now (out .entry)) ⌝ }
+{
+    let bits = CycleBits {
+        fa: false,
+        m: false,
+        s: false,
+    };
+    info2_with(bits, out)
+}
+
+// Writes INFO 3 with FA and the D bits d.
+pub fn info3_with(fa: bool, d: Four, out: &mut [u8]) -> u8
+    ensures reply { λ r. ⌜ r ≡ reply (hasLineLength (now (out .entry))) ⌝ }
+    ensures octets { λ _. ⌜ now (out .exit) ≡ leaves (hasLineLength (now (out .entry))) (spec.info3With fa d) (now (out .entry)) ⌝ }
 {
     let f = UpFields {
         b1first: 255,
@@ -105,8 +119,17 @@ pub fn info3(d: Four, out: &mut [u8]) -> u8
         b1second: 255,
         b2second: 255,
         d: d,
+        fa: fa,
     };
     write_up(f, out)
+}
+
+// Writes INFO 3 where no cycle runs, with the D bits d.
+pub fn info3(d: Four, out: &mut [u8]) -> u8
+    ensures reply { λ r. ⌜ r ≡ reply (hasLineLength (now (out .entry))) ⌝ }
+    ensures octets { λ _. ⌜ now (out .exit) ≡ leaves (hasLineLength (now (out .entry))) (spec.info3 d) (now (out .entry)) ⌝ }
+{
+    info3_with(false, d, out)
 }
 
 // Gives the symbol at the E bit e, where the last pulse before it is `last`: none for a 1, the
@@ -127,10 +150,10 @@ fn behind_echo(e: bool, last: u8) -> u8
     if e { 3 - last } else { last }
 }
 
-// Puts the pulses of INFO 4 into a line of nones: at F, at the L after it, at each E that is 0, at
-// FA, at M, at S, and at the last L where the pulses between are odd in number. The first pulse
-// after position 2 is minus, as if the pulse there were a plus: so the E at position 11 comes after
-// PLUS.
+// Puts the pulses of INFO 4 where no cycle runs into a line of nones: at F, at the L after it, at
+// each E that is 0, at FA, at M, at S, and at the last L where the pulses between are odd in number.
+// The first pulse after position 2 is minus, as if the pulse there were a plus: so the E at position
+// 11 comes after PLUS.
 fn put_pulses(e: Four, out: &mut [u8])
     requires { ⌜ now out ≡ spec.info0 ⌝ }
     ensures { λ _. ⌜ now (out .exit) ≡ spec.info4 e ⌝ }
@@ -154,7 +177,7 @@ fn put_pulses(e: Four, out: &mut [u8])
     out[47] = echo(l == MINUS, MINUS);
 }
 
-// Writes INFO 4 with the echo bits e.
+// Writes INFO 4 where no cycle runs, with the echo bits e.
 pub fn info4(e: Four, out: &mut [u8]) -> u8
     ensures reply { λ r. ⌜ r ≡ reply (hasLineLength (now (out .entry))) ⌝ }
     ensures octets { λ _. ⌜ now (out .exit) ≡ leaves (hasLineLength (now (out .entry))) (spec.info4 e) (now (out .entry)) ⌝ }
@@ -165,6 +188,32 @@ pub fn info4(e: Four, out: &mut [u8]) -> u8
     }
     put_pulses(e, out);
     0
+}
+
+// Writes INFO 4 with the cycle's bits and the echo bits e.
+pub fn info4_with(bits: CycleBits, e: Four, out: &mut [u8]) -> u8
+    ensures reply { λ r. ⌜ r ≡ reply (hasLineLength (now (out .entry))) ⌝ }
+    ensures octets { λ _. ⌜ now (out .exit) ≡ leaves (hasLineLength (now (out .entry))) (spec.info4With bits e) (now (out .entry)) ⌝ }
+{
+    let ones = Four {
+        first: true,
+        second: true,
+        third: true,
+        fourth: true,
+    };
+    let f = DownFields {
+        b1first: 255,
+        b2first: 255,
+        b1second: 255,
+        b2second: 255,
+        e: e,
+        d: ones,
+        a: true,
+        fa: bits.fa,
+        m: bits.m,
+        s: bits.s,
+    };
+    write_down(f, out)
 }
 
 // Tests whether a line is exactly INFO 1.
