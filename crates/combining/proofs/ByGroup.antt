@@ -1,9 +1,12 @@
 -- Upward frames are combined group by group.
 use mathlib.Core.Path.{_≡_, refl, sym, ap, _∙_}
-use mathlib.Core.Bool.{Bool, true, false, cond}
+use mathlib.Core.Bool.{Bool, true, false, cond, _&&_}
 use mathlib.Core.List.{List, [], _∷_, map, map-map}
 use Prim.Native.Nat.{ℕ}
+use borrow.Author.Tests.{eqb-true}
+use lib.Dec.{eqb}
 use lib.ListN.{getD}
+use Rattle.test_lemmas.proofs.ByCases.{and-left, and-right}
 use Rattle.symbols.specs.Symbols.{lineLength, none, plus, minus, within, tabulate}
 use Rattle.frame.specs.Four.{pick, andAll}
 use Rattle.frame.specs.Bits.{octetBits, zeros}
@@ -13,10 +16,11 @@ use Rattle.frame.specs.Groups.{groupSymbols, upGroups, laidOut}
 use Rattle.frame.specs.declared.fields.Four.{Four}
 use Rattle.frame.specs.declared.fields.UpFields.{UpFields}
 use Rattle.frame.proofs.Laws.{groups-up, pick-and, pick-ones}
-use Rattle.info.specs.Info.{info3, info3Fields}
+use Rattle.info.specs.Info.{info3Fields}
 use Rattle.combining.specs.Combine.{column, combinedOver, combined}
 use Rattle.combining.specs.Groups.{Combines, allOf, ofSender}
 use Rattle.combining.specs.Groups.Combines.{end, group}
+use Rattle.combining.specs.SentD.{isIdle, jointFields}
 use Rattle.combining.proofs.Columns.{map-ext, combined-parts, combined-alike, combined-plus, combined-minus}
 
 laid-out : {X : Type 0} {xs : List X} {gs : List (X → List ℕ)} {n : ℕ} {l : List ℕ} → Combines xs gs n l → combinedOver n (map (laidOut gs) xs) ≡ l
@@ -59,25 +63,56 @@ unfolding allOf andAll
 all-and k [] = sym (pick-ones k)
 all-and k (d ∷ ds) = rw (all-and k ds, ← pick-and k d (andAll ds))
 
-module _ (d : Four) (ds : List Four) where
-  abbrev joint : Four
-  joint = andAll (d ∷ ds)
+-- A frame with B at 1 is INFO 3 with its FA and D.
+abbrev asIdle : UpFields → UpFields
+asIdle f = info3Fields (f .fa) (f .d)
 
-  d-group : (k : ℕ) → combinedOver 2 (map (λ x. groupSymbols (pick k x ∷ [])) (d ∷ ds)) ≡ groupSymbols (pick k joint ∷ [])
-  d-group k = group-bit (pick k) (d ∷ ds) ∙ ap (λ (b : Bool). groupSymbols (b ∷ [])) (all-and k (d ∷ ds))
+idle-is : (f : UpFields) → isIdle f ≡ true → f ≡ asIdle f
+idle-is f e =
+    let b1 = eqb (f .b1first) 255 in
+    let b2 = eqb (f .b2first) 255 in
+    let b3 = eqb (f .b1second) 255 in
+    let b4 = eqb (f .b2second) 255 in
+    let rest = and-right b1 (b2 && (b3 && b4)) e in
+    let last = and-right b2 (b3 && b4) rest in
+    rw (
+      eqb-true (f .b1first) 255 (and-left b1 (b2 && (b3 && b4)) e),
+      eqb-true (f .b2first) 255 (and-left b2 (b3 && b4) rest),
+      eqb-true (f .b1second) 255 (and-left b3 b4 last),
+      eqb-true (f .b2second) 255 (and-right b3 b4 last),
+    )
 
-  octet-group : combinedOver 9 (map (λ (x : Four). groupSymbols (octetBits 255)) (d ∷ ds)) ≡ groupSymbols (octetBits 255)
+pub all-idle : (fs : List UpFields) → allOf isIdle fs ≡ true → map upLine fs ≡ map (λ f. upLine (asIdle f)) fs
+unfolding allOf
+all-idle [] e = refl
+all-idle (f ∷ fs) e = rw (← idle-is f (and-left (isIdle f) (allOf isIdle fs) e), ← all-idle fs (and-right (isIdle f) (allOf isIdle fs) e))
+
+of-map : (k : ℕ) (fs : List UpFields) → allOf (λ (f : UpFields). pick k (f .d)) fs ≡ allOf (pick k) (map (λ (f : UpFields). f .d) fs)
+unfolding allOf
+of-map k [] = refl
+of-map k (f ∷ fs) = rw (of-map k fs)
+
+module _ (f : UpFields) (fs : List UpFields) where
+  abbrev jointD : Four
+  jointD = andAll (map (λ (x : UpFields). x .d) (f ∷ fs))
+
+  d-group : (k : ℕ) → combinedOver 2 (map (λ x. groupSymbols (pick k (x .d) ∷ [])) (f ∷ fs)) ≡ groupSymbols (pick k jointD ∷ [])
+  d-group k =
+      group-bit (λ x. pick k (x .d)) (f ∷ fs)
+      ∙ ap (λ (b : Bool). groupSymbols (b ∷ [])) (of-map k (f ∷ fs) ∙ all-and k (map (λ (x : UpFields). x .d) (f ∷ fs)))
+
+  octet-group : combinedOver 9 (map (λ (x : UpFields). groupSymbols (octetBits 255)) (f ∷ fs)) ≡ groupSymbols (octetBits 255)
   unfolding alternate octetBits zeros within
-  octet-group = combined-alike 9 (groupSymbols (octetBits 255)) d ds refl refl
+  octet-group = combined-alike 9 (groupSymbols (octetBits 255)) f fs refl refl
 
-  pub combined-info3 : combined (map info3 (d ∷ ds)) ≡ info3 joint
+  joint-idle : combined (map (λ x. upLine (asIdle x)) (f ∷ fs)) ≡ upLine (jointFields (f ∷ fs))
   unfolding pick alternate octetBits zeros within
-  combined-info3 =
-      combined-frames info3Fields (d ∷ ds) (laidOut upGroups (info3Fields joint))
-      (group (λ x. refl) (combined-alike 2 (plus ∷ minus ∷ []) d ds refl refl)
+  joint-idle =
+      combined-frames asIdle (f ∷ fs) (laidOut upGroups (jointFields (f ∷ fs)))
+      (group (λ x. refl) (combined-alike 2 (plus ∷ minus ∷ []) f fs refl refl)
       (group (λ x. refl) octet-group
       (group (λ x. refl) (d-group 0)
-      (group (λ x. refl) (combined-alike 2 (groupSymbols (false ∷ [])) d ds refl refl)
+      (group (λ x. refl) (group-bit (λ x. x .fa) (f ∷ fs))
       (group (λ x. refl) octet-group
       (group (λ x. refl) (d-group 1)
       (group (λ x. refl) octet-group
@@ -85,4 +120,7 @@ module _ (d : Four) (ds : List Four) where
       (group (λ x. refl) octet-group
       (group (λ x. refl) (d-group 3)
       end))))))))))
-      ∙ sym (groups-up (info3Fields joint))
+      ∙ sym (groups-up (jointFields (f ∷ fs)))
+
+  pub combined-info3 : allOf isIdle (f ∷ fs) ≡ true → combined (map upLine (f ∷ fs)) ≡ upLine (jointFields (f ∷ fs))
+  combined-info3 e = ap combined (all-idle (f ∷ fs) e) ∙ joint-idle

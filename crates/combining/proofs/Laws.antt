@@ -1,7 +1,7 @@
 -- The laws of `specs/Laws.antt`, proved under the same names in small letters.
 use mathlib.Core.Path.{_≡_, refl, sym, ap, _∙_}
 use mathlib.Core.Bool.{Bool, true, false}
-use mathlib.Core.List.{List, [], _∷_, _++_, map}
+use mathlib.Core.List.{List, [], _∷_, _++_, map, map-map}
 use Prim.Native.Nat.{ℕ, zero, suc, _*_, _<_, _≤_}
 use native.Mathlib.Omega.{arith}
 use borrow.Author.Tests.{eq-eqb}
@@ -13,16 +13,17 @@ use Rattle.symbols.specs.Symbols.{lineLength, none, plus, minus, level, levels,
 use Rattle.symbols.proofs.Fill.{getD-tabulate}
 use Rattle.symbols.proofs.Levels.{level-at}
 use Rattle.symbols.proofs.Lines.{fits-is, line-length, line-small, fits-within, line-by}
-use Rattle.frame.specs.Four.{pick, andAll}
-use Rattle.frame.specs.Down.{downLine, eIndex, aIndex}
-use Rattle.frame.proofs.Laws.{d-up, e-down, a-down}
-use Rattle.info.specs.Info.{info3Fields}
-use Rattle.info.proofs.Laws.{line-info0, line-info1, line-info3}
+use Rattle.frame.specs.Four.{pick}
+use Rattle.frame.specs.Bits.{faIndex}
+use Rattle.frame.specs.Down.{downLine, eIndex, aIndex, sIndex}
+use Rattle.frame.proofs.Laws.{line-up, e-down, a-down}
+use Rattle.frame.specs.declared.fields.UpFields.{UpFields}
+use Rattle.info.proofs.Laws.{line-info0, line-info1}
 use Rattle.combining.specs.Combine.{isSent, only, combinedSymbol, column, combined}
 use Rattle.combining.specs.Calls.{terminals, rows, laid}
 use Rattle.combining.specs.Sent.{Sent, sentLine}
 use Rattle.combining.specs.Sent.Sent.{silent, calling, frame}
-use Rattle.combining.specs.SentD.{howManySend}
+use Rattle.combining.specs.SentD.{howManySend, sentD, anyCalling}
 use Rattle.combining.specs.Sending.{sending}
 use Rattle.combining.specs.Hit.{keepLetter, plusLetter, minusLetter, struck, hit}
 use Rattle.combining.specs.StruckBits.{struckBit, struckE, struckA}
@@ -80,20 +81,31 @@ group-of-one X = columns.combined-of-one
 pub combined-info3 : Laws.CombinedInfo3
 combined-info3 = by-group.combined-info3
 
-pub combined-d : Laws.CombinedD
-combined-d d ds = rw (by-group.combined-info3 d ds) (d-up (info3Fields (andAll (d ∷ ds))))
-
 pub combined-sent : Laws.CombinedSent
 combined-sent = senders.combined-sent
 
 pub combined-calling : Laws.CombinedCalling
 combined-calling = beside.combined-calling
 
+pub beside-info3 : Laws.BesideInfo3
+beside-info3 = beside.beside-info3
+
 pub combined-sent-d : Laws.CombinedSentD
 combined-sent-d = senders.combined-sent-d
 
 pub combined-quiet-d : Laws.CombinedQuietD
 combined-quiet-d xs h = rw h at (senders.combined-sent-d xs)
+
+pub combined-sent-fa : Laws.CombinedSentFa
+combined-sent-fa = senders.combined-sent-fa
+
+all-frames : (fs : List UpFields) → anyCalling (map frame fs) ≡ false
+unfolding anyCalling
+all-frames [] = refl
+all-frames (f ∷ fs) = all-frames fs
+
+pub combined-d : Laws.CombinedD
+combined-d fs = rw (map-map sentLine frame fs, map-map sentD frame fs) at (combined-quiet-d (map frame fs) (all-frames fs))
 
 pub pick-all : Laws.PickAll
 pick-all k ds = sym (by-group.all-and k ds)
@@ -137,7 +149,7 @@ fits-laid ls n h = sym (fits-is minus (laid ls) (laid-length ls h ∙ rw n) (sym
 pub line-sent : Laws.LineSent
 line-sent silent = line-info0
 line-sent calling = line-info1
-line-sent (frame d) = line-info3 d
+line-sent (frame f) = line-up f
 
 each-sent : (xs : List Sent) (i : ℕ) → i < length (map sentLine xs) → isLine (getD (map sentLine xs) i []) ≡ true
 each-sent [] i h = absurd (omega arith)
@@ -222,6 +234,12 @@ pick-struck-e (suc zero) letters e h = refl
 pick-struck-e (suc (suc zero)) letters e h = refl
 pick-struck-e (suc (suc (suc zero))) letters e h = refl
 pick-struck-e (suc (suc (suc (suc k)))) letters e h = absurd (omega arith)
+
+pub fa-hit : Laws.FaHit
+fa-hit letters l = bit-hit letters l faIndex (omega arith)
+
+pub s-hit : Laws.SHit
+s-hit letters l = bit-hit letters l sIndex (omega arith)
 
 pub a-hit : Laws.AHit
 a-hit letters l = bit-hit letters l aIndex (omega arith)

@@ -14,9 +14,9 @@ use Rattle.symbols.proofs.Fill.{tabulate-ext}
 use Rattle.symbols.proofs.Lines.{same-symbols-true, same-symbols-self, fits-length, fits-within}
 use Rattle.frame.specs.Polarity.{symbols}
 use Rattle.frame.specs.Up.{upLine}
-use Rattle.frame.specs.declared.fields.Four.{Four}
+use Rattle.frame.specs.declared.fields.UpFields.{UpFields}
 use Rattle.framed.specs.Framed.{hasPulse}
-use Rattle.info.specs.Info.{info0, info1, info3}
+use Rattle.info.specs.Info.{info0, info1}
 use Rattle.info.proofs.Laws.{pulseless-info0}
 use Rattle.combining.specs.Combine.{isSent, column, combined}
 use Rattle.combining.specs.Calls.{terminals, rows}
@@ -75,16 +75,16 @@ info1-sends : isSending info1 ≡ true
 unfolding isSending sameSymbols
 info1-sends = refl
 
-info3-sends : (d : Four) → isSending (info3 d) ≡ true
+frame-sends : (f : UpFields) → isSending (upLine f) ≡ true
 unfolding isSending sameSymbols upLine symbols
-info3-sends d = refl
+frame-sends f = refl
 
 pub sending-sent : (xs : List Sent) → length (sending (map sentLine xs)) ≡ howManySend xs
 unfolding sending howManySend
 sending-sent [] = refl
 sending-sent (silent ∷ xs) = rw info0-silent (sending-sent xs)
 sending-sent (calling ∷ xs) = rw info1-sends (ap suc (sending-sent xs))
-sending-sent (frame d ∷ xs) = rw (info3-sends d) (ap suc (sending-sent xs))
+sending-sent (frame f ∷ xs) = rw (frame-sends f) (ap suc (sending-sent xs))
 
 -- ---- The loop that finds the senders.
 abbrev whoSends : List ℕ → List Bool

@@ -9,21 +9,21 @@ use lib.Dec.{eqb}
 use lib.ListN.{length, getD, replicate}
 use Rattle.symbols.specs.Symbols.{lineLength, none, plus, minus, level, levels, within, fits, isLine}
 use Rattle.frame.specs.Four.{pick, andAll}
-use Rattle.frame.specs.Bits.{dBits}
-use Rattle.frame.specs.Down.{downLine, eBits, eIndex, aBit}
+use Rattle.frame.specs.Bits.{dBits, faBit, faIndex}
+use Rattle.frame.specs.Down.{downLine, eBits, eIndex, aBit, sBit, sIndex}
 use Rattle.frame.specs.Up.{upLine}
 use Rattle.frame.specs.Groups.{groupSymbols, upGroups}
 use Rattle.frame.specs.declared.fields.Four.{Four}
 use Rattle.frame.specs.declared.fields.DownFields.{DownFields}
 use Rattle.frame.specs.declared.fields.UpFields.{UpFields}
-use Rattle.framed.specs.Framed.{hasPulse}
-use Rattle.info.specs.Info.{info0, info1, info3}
+use Rattle.framed.specs.Framed.{framedUp, hasPulse}
+use Rattle.info.specs.Info.{info0, info1, info3With, isInfo1}
 use Rattle.combining.specs.Combine.{combinedOver, combined}
 use Rattle.combining.specs.Calls.{terminals, linesLength, rows, laid, combineFits, combinedReply, eight}
 use Rattle.combining.specs.declared.combine.Combined.{Combined}
 use Rattle.combining.specs.Groups.{Combines, allOf, ofSender}
 use Rattle.combining.specs.Sent.{Sent, sentLine}
-use Rattle.combining.specs.SentD.{howManySend, sentD, anyCalling, frames, framesLine, heardWithInfo1}
+use Rattle.combining.specs.SentD.{howManySend, sentD, sentFa, anyCalling, frames, isIdle, jointFields, framesLine, heardWithInfo1, allOnes}
 use Rattle.combining.specs.Sent.Sent.{silent}
 use Rattle.combining.specs.Sending.{isSending, sending, linesTaken}
 use Rattle.combining.specs.Hit.{keepLetter, plusLetter, minusLetter, noneLetter, struck, hit}
@@ -71,26 +71,39 @@ GroupOfOne = (X : Type 0) (n : ℕ) (g : X → List ℕ) (x : X) (before after :
 
 -- ---- INFO 3 together are INFO 3 with the ANDs.
 abbrev pub CombinedInfo3 : Type 0
-CombinedInfo3 = (d : Four) (ds : List Four) → combined (map info3 (d ∷ ds)) ≡ info3 (andAll (d ∷ ds))
+CombinedInfo3 = (f : UpFields) (fs : List UpFields) → allOf isIdle (f ∷ fs) ≡ true → combined (map upLine (f ∷ fs)) ≡ upLine (jointFields (f ∷ fs))
 
+-- The D bits of upward frames together are the ANDs, whatever the B octets are.
 abbrev pub CombinedD : Type 0
-CombinedD = (d : Four) (ds : List Four) → dBits (levels (combined (map info3 (d ∷ ds)))) ≡ andAll (d ∷ ds)
+CombinedD = (fs : List UpFields) → dBits (levels (combined (map upLine fs))) ≡ andAll (map (λ (f : UpFields). f .d) fs)
 
 -- Terminals that send INFO 0 or INFO 3: INFO 3 with the ANDs of those that send it, or INFO 0.
 abbrev pub CombinedSent : Type 0
-CombinedSent = (xs : List Sent) → anyCalling xs ≡ false → combined (map sentLine xs) ≡ framesLine (frames xs)
+CombinedSent = (xs : List Sent) → allOf isIdle (frames xs) ≡ true → anyCalling xs ≡ false → combined (map sentLine xs) ≡ framesLine (frames xs)
 
 -- Where any sends INFO 1: INFO 1 beside that line.
 abbrev pub CombinedCalling : Type 0
-CombinedCalling = (xs : List Sent) → anyCalling xs ≡ true → combined (map sentLine xs) ≡ combined (info1 ∷ framesLine (frames xs) ∷ [])
+CombinedCalling = (xs : List Sent) → allOf isIdle (frames xs) ≡ true → anyCalling xs ≡ true → combined (map sentLine xs) ≡ combined (info1 ∷ framesLine (frames xs) ∷ [])
 
--- The D bits at symbol level, whatever is sent: the ANDs, at position 25 inverted where INFO 1 is
--- sent.
+-- INFO 1 beside INFO 3 is no frame. It is INFO 1 itself exactly where that INFO 3 has FA and all D at
+-- 1: then F and its L, which both have, are its only pulses.
+abbrev pub BesideInfo3 : Type 0
+BesideInfo3 =
+    (fa : Bool) (d : Four) →
+    let l = combined (info1 ∷ info3With fa d ∷ []) in (hasPulse l ≡ true) × (framedUp l ≡ false) × (isInfo1 l ≡ allOnes fa d)
+
+-- The D bits at symbol level, whatever is sent, B octets too: the ANDs, at position 25 inverted where
+-- INFO 1 is sent.
 abbrev pub CombinedSentD : Type 0
 CombinedSentD = (xs : List Sent) → dBits (levels (combined (map sentLine xs))) ≡ heardWithInfo1 (anyCalling xs) (andAll (map sentD xs))
 
 abbrev pub CombinedQuietD : Type 0
 CombinedQuietD = (xs : List Sent) → anyCalling xs ≡ false → dBits (levels (combined (map sentLine xs))) ≡ andAll (map sentD xs)
+
+-- FA at symbol level, whatever is sent: the AND. INFO 1 has no pulse at position 14, and a FA of 0 is
+-- a minus whatever the B octets are.
+abbrev pub CombinedSentFa : Type 0
+CombinedSentFa = (xs : List Sent) → faBit (levels (combined (map sentLine xs))) ≡ allOf sentFa xs
 
 -- The ANDs and the heard D bits, place by place.
 abbrev pub PickAll : Type 0
@@ -191,6 +204,13 @@ EHitDown = (letters : List ℕ) (f : DownFields) → eBits (levels (hit letters 
 abbrev pub PickStruckE : Type 0
 PickStruckE =
     (k : ℕ) (letters : List ℕ) (e : Four) → k < 4 → pick k (struckE letters e) ≡ struckBit (getD letters (eIndex k) keepLetter) (pick k e)
+
+-- FA and S, under the letters of positions 14 and 37.
+abbrev pub FaHit : Type 0
+FaHit = (letters l : List ℕ) → faBit (levels (hit letters l)) ≡ struckBit (getD letters faIndex keepLetter) (faBit (levels l))
+
+abbrev pub SHit : Type 0
+SHit = (letters l : List ℕ) → sBit (levels (hit letters l)) ≡ struckBit (getD letters sIndex keepLetter) (sBit (levels l))
 
 abbrev pub AHit : Type 0
 AHit = (letters l : List ℕ) → aBit (levels (hit letters l)) ≡ struckA letters (aBit (levels l))
