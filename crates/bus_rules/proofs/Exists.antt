@@ -23,6 +23,7 @@ use Rattle.heard_line.specs.Sensing.{shownUp, shownDown}
 use Rattle.network.specs.Network as network
 use Rattle.network.specs.declared.Network.{Network}
 use Rattle.terminal.specs.Terminal as terminal
+use Rattle.cycle.specs.declared.record.Cycle.{Cycle}
 use Rattle.bus_rules.specs.Bus.{Station, Hit, Bus, freshStation, freshBus, stationAt, withCounts}
 use Rattle.bus_rules.specs.Bus.Hit.{none, given}
 use Rattle.bus_rules.specs.Exchange.{Opportunity, accessStepOf, eComes, saidTo, stationsOf, anySends, anyInfo1, anyInfo3, stationAfterE, onward, begins, opportunitiesOf, exchanged, wholeDown, wholeUp, lineDown, inF7}
@@ -36,6 +37,7 @@ use Rattle.bus_rules.specs.Scenes as scenes
 use Rattle.bus_rules.specs.Scenes.{handedBack, activating, activated, beforeWait, waitStart, duringWait, duringBusy}
 use Rattle.bus_rules.specs.Exists as exists
 use Rattle.bus_rules.proofs.Quick.{up-shown, down-shown}
+use Rattle.bus_rules.proofs.Off.{still-off, period-off}
 use Rattle.bus_rules.proofs.Stations.{Each, station-heard, station-timed, each-exchanged}
 use Rattle.bus_rules.proofs.Stretches.{state-exchanged}
 use Rattle.bus_rules.proofs.Ranges.{opportunities-counted}
@@ -60,6 +62,7 @@ record Steady (b : Bus) : Type 0 where
   in-G3 : b .network .state ≡ G3
   aligned : b .network .alignment .aligned ≡ true
   no-hit : b .hit ≡ Hit.none
+  no-cycle : b .cycle .running ≡ false
   rest : Each Rests (b .stations)
   -- one that is activated
   who : ℕ
@@ -122,14 +125,14 @@ one-sends (s ∷ ss) (suc i) h = rw (one-sends ss i h) (or-true (eqb (infoIn Tab
 
 hears-INFO-4 : (b : Bus) → Steady b → shownDown (wholeDown (exchanged b)) ≡ shownBy G3
 unfolding wholeDown lineDown exchanged onward begins
-hears-INFO-4 b s = rw (s .in-G3, s .no-hit) (down-shown G3 _)
+hears-INFO-4 b s = rw (s .in-G3, s .no-hit) (down-shown _ G3 _)
 
 hears-INFO-3 : (b : Bus) → Steady b → shownUp (wholeUp (exchanged b)) ≡ shownFrom false true
-unfolding wholeUp stationThen
+unfolding stationThen
 hears-INFO-3 b s =
     let stations = stationsOf (exchanged b .senders) in
     rw (
-      up-shown (exchanged b .senders),
+      up-shown (exchanged b) (still-off b (s .no-cycle)),
       rest-no-info-1 stations (each-exchanged Rests rests-turned b (s .rest)),
       one-sends stations (s .who) (state-exchanged (s .who) b ∙ s .sends),
     )
@@ -157,6 +160,7 @@ steady-on b s =
       in-G3 = net-run b s .0;
       aligned = net-run b s .1;
       no-hit = hit-run b;
+      no-cycle = ap (λ (c : Cycle). c .running) (period-off b (s .no-cycle)) ∙ s .no-cycle;
       rest = λ i. still-run b s i .0;
       who = s .who;
       sends = still-run b s (s .who) .1 (s .sends);
@@ -185,7 +189,7 @@ activated-rest (suc i) = off (all-fresh 7 i)
 
 activated-steady : Steady activated
 unfolding handedBack
-activated-steady = record { in-G3 = refl; aligned = refl; no-hit = refl; rest = activated-rest; who = 0; sends = refl }
+activated-steady = record { in-G3 = refl; aligned = refl; no-hit = refl; no-cycle = refl; rest = activated-rest; who = 0; sends = refl }
 
 pub stretches-exist : exists.StretchesExist
 stretches-exist n = steady-stretch n activated activated-steady
@@ -194,7 +198,7 @@ stretches-exist n = steady-stretch n activated activated-steady
 other-steady : Steady (withCounts (activated .periods) 1 activated)
 other-steady =
     let s = activated-steady in
-    record { in-G3 = s .in-G3; aligned = s .aligned; no-hit = s .no-hit; rest = s .rest; who = s .who; sends = s .sends }
+    record { in-G3 = s .in-G3; aligned = s .aligned; no-hit = s .no-hit; no-cycle = s .no-cycle; rest = s .rest; who = s .who; sends = s .sends }
 
 one-is-no-four : (calls : List Call) → afterAll freshBus calls ≡ withCounts (activated .periods) 1 activated → ⊥
 one-is-no-four calls e =

@@ -10,21 +10,24 @@ use lib.ListN.{length, getD, length-append}
 use lib.Seq.{getD-at}
 use borrow.Author.Tests.{eqb-true, not-true}
 use Rattle.test_lemmas.proofs.ByCases.{by-test, and-left, and-right}
-use Rattle.symbols.specs.Symbols.{levels, tabulate, sameSymbols}
+use Rattle.symbols.specs.Symbols.{levels}
 use Rattle.frame.specs.Four.{pick, filledWithOnes, allFour, andAll}
-use Rattle.frame.specs.Bits.{octetBits, zeros, dBits}
-use Rattle.frame.specs.Polarity.{alternate, symbols}
-use Rattle.frame.specs.Up.{upBits, upLine}
-use Rattle.frame.specs.Down.{eBits}
+use Rattle.frame.specs.Bits.{dBits, faBit, faIndex}
+use Rattle.frame.specs.Down.{eBits, sBit, sIndex}
 use Rattle.frame.specs.declared.fields.Four.{Four}
+use Rattle.frame.specs.declared.fields.CycleBits.{CycleBits}
+use Rattle.frame.specs.declared.fields.UpFields.{UpFields}
 use Rattle.frame.proofs.Laws.{pick-and, pick-ones, pick-filled}
-use Rattle.framed.specs.Framed.{firstPulse, framedIn, framedUp, hasPulse}
-use Rattle.info.specs.Info.{info1, info3, isInfo1}
-use Rattle.info.proofs.Laws.{e-info0, e-info2, e-info4, line-info1}
-use Rattle.combining.specs.Combine.{isSent, combined}
-use Rattle.combining.specs.SentD.{sentD, anyCalling, frames, framesLine}
-use Rattle.combining.proofs.Laws.{combined-one, combined-info0, combined-sent, combined-calling, combined-sent-d, pick-heard, e-hit, pick-struck-e}
-use Rattle.combining.proofs.Beside.{at-each-four}
+use Rattle.info.specs.Info.{info1}
+use Rattle.info.proofs.Laws.{e-info0, e-info2, e-info4, fa-info0, fa-info2, fa-info4, s-info0, s-info2, s-info4, line-info1}
+use Rattle.combining.specs.Combine.{combined}
+use Rattle.combining.specs.Groups.{allOf}
+use Rattle.combining.specs.Sent.{Sent}
+use Rattle.combining.specs.SentD.{sentD, sentFa, anyCalling, frames, isIdle, framesLine}
+use Rattle.combining.specs.Sent.Sent.{silent, calling, frame}
+use Rattle.combining.proofs.Laws.{combined-one, combined-info0, combined-sent, combined-calling, combined-sent-d, combined-sent-fa, beside-info3, pick-heard, e-hit, fa-hit, s-hit, pick-struck-e}
+use Rattle.cycle.specs.Cycle.{bitsAt}
+use Rattle.cycle.proofs.Laws.{not-running}
 use Rattle.notes_and_cells.specs.Cells.{infoIn}
 use Rattle.table_6_2.specs.Table62.{F7}
 use Rattle.table_6_2.specs.Table62 as Table62
@@ -33,8 +36,8 @@ use Rattle.heard_line.specs.Sensing.{shownUp}
 use Rattle.heard_line.proofs.Shown.{shown-up-info0, shown-info1, shown-info3, shown-down-info0, shown-info2, shown-info4}
 use Rattle.bus_rules.specs.Bus.{Station, Hit}
 use Rattle.bus_rules.specs.Bus.Hit.{none, given}
-use Rattle.bus_rules.specs.Exchange.{Sender, stationsOf, anySends, anyInfo1, anyInfo3, inF7, sentDown, sentUp, stationAfterE, dOf, hearsE, sentOf, lineDown, lineUp, eComes, sendersAfter, dComes, onward, asSender, begins}
-use Rattle.bus_rules.specs.Quick.{sentE, struckAt, allD, InStep, shownFrom, shownBy}
+use Rattle.bus_rules.specs.Exchange.{Sender, Opportunity, stationsOf, anySends, anyInfo1, anyInfo3, inF7, sentDown, sentUp, stationAfterE, dOf, hearsE, sentOf, lineDown, lineUp, eComes, sendersAfter, dComes, onward, asSender, begins, wholeDown, wholeUp, faDown, faSent, sentFrom}
+use Rattle.bus_rules.specs.Quick.{sentE, struckAt, allD, InStep, sentBit, struckIn, allFa, sentDs, shownWith, shownFrom, shownBy}
 use Rattle.bus_rules.specs.Quick.InStep.{end, one}
 use Rattle.bus_rules.specs.Quick as quick
 
@@ -48,25 +51,25 @@ all-zero (suc (suc (suc zero))) h = refl
 all-zero (suc (suc (suc (suc k)))) h = absurd (omega arith)
 
 -- the E at place k of what is sent: in INFO 4 the bit at that place
-pub e-sent : (k state : ℕ) (es : List Bool) → k < 4 → pick k (eBits (levels (sentDown state (filledWithOnes es)))) ≡ sentE state (getD es k true)
+pub e-sent : (k : ℕ) (bits : CycleBits) (state : ℕ) (es : List Bool) → k < 4 → pick k (eBits (levels (sentDown bits state (filledWithOnes es)))) ≡ sentE state (getD es k true)
 unfolding sentDown sentE
-e-sent k state es h =
+e-sent k bits state es h =
     by-test (eqb (infoIn Table63.infoSent state) 4)
-    (λ t. rw (t, e-info4 (filledWithOnes es), pick-filled k es h))
+    (λ t. rw (t, e-info4 bits (filledWithOnes es), pick-filled k es h))
     (λ t. rw t
-    (by-test (eqb (infoIn Table63.infoSent state) 2) (λ u. rw (u, e-info2, all-zero k h)) (λ u. rw (u, e-info0, pick-ones k))))
+    (by-test (eqb (infoIn Table63.infoSent state) 2) (λ u. rw (u, e-info2 bits, all-zero k h)) (λ u. rw (u, e-info0, pick-ones k))))
 
 -- .. and under a hit
-pub e-down : (k state : ℕ) (h : Hit) (es : List Bool) → k < 4 → pick k (eBits (levels (lineDown state h es))) ≡ struckAt h k (sentE state (getD es k true))
+pub e-down : (k : ℕ) (bits : CycleBits) (state : ℕ) (h : Hit) (es : List Bool) → k < 4 → pick k (eBits (levels (lineDown bits state h es))) ≡ struckAt h k (sentE state (getD es k true))
 unfolding lineDown struckAt
-e-down k state none es h = e-sent k state es h
-e-down k state (given letters) es h =
-    rw (e-hit letters (sentDown state (filledWithOnes es)), pick-struck-e k letters (eBits (levels (sentDown state (filledWithOnes es)))) h, e-sent k state es h)
+e-down k bits state none es h = e-sent k bits state es h
+e-down k bits state (given letters) es h =
+    rw (e-hit letters (sentDown bits state (filledWithOnes es)), pick-struck-e k letters (eBits (levels (sentDown bits state (filledWithOnes es)))) h, e-sent k bits state es h)
 
 pub quick-e : quick.QuickE
 unfolding eComes
 quick-e m h =
-    e-down (length (m .es)) (m .network) (m .hit) (m .es ++ (m .heardD ∷ [])) h
+    e-down (length (m .es)) (bitsAt (m .cycle)) (m .network) (m .hit) (m .es ++ (m .heardD ∷ [])) h
     ∙ rw (getD-at (m .es) (m .heardD) [] true (length (m .es)) refl)
 
 -- ---- D.
@@ -159,48 +162,167 @@ pub in-step-onward : quick.InStepOnward
 unfolding onward sendersAfter
 in-step-onward m i = rw (one-more (m .es) (m .heardD) (length (m .es)) refl) (in-step-hears (length (m .es)) (eComes m) (m .senders) i)
 
--- ---- What is shown.
-frames-are : (ss : List Sender) → shownUp (framesLine (frames (map sentOf ss))) ≡ shownFrom false (anyInfo3 (stationsOf ss))
-unfolding frames sentOf sentUp anySends shownFrom
-frames-are [] = shown-up-info0
-frames-are (s ∷ ss) =
-    by-test (eqb (infoOf (s .station)) 3) (λ t. rw t (shown-info3 _))
-    (λ t. rw t (by-test (eqb (infoOf (s .station)) 1) (λ u. rw u (frames-are ss)) (λ u. rw u (frames-are ss))))
+-- ---- FA and S down.
+fa-sent : (bits : CycleBits) (state : ℕ) (es : List Bool) → faBit (levels (sentDown bits state (filledWithOnes es))) ≡ sentBit state (bits .fa)
+unfolding sentDown sentBit
+fa-sent bits state es =
+    by-test (eqb (infoIn Table63.infoSent state) 4) (λ t. rw (t, fa-info4 bits (filledWithOnes es)))
+    (λ t. rw t (by-test (eqb (infoIn Table63.infoSent state) 2) (λ u. rw (u, fa-info2 bits)) (λ u. rw (u, fa-info0))))
 
--- INFO 1 beside INFO 3: plus at position 9 and minus at 14, which only one of them has.
-abbrev signalUp : List ℕ → Bool
-signalUp l = hasPulse l && (not (framedUp l) && not (isInfo1 l))
+s-sent : (bits : CycleBits) (state : ℕ) (es : List Bool) → sBit (levels (sentDown bits state (filledWithOnes es))) ≡ sentBit state (bits .s)
+unfolding sentDown sentBit
+s-sent bits state es =
+    by-test (eqb (infoIn Table63.infoSent state) 4) (λ t. rw (t, s-info4 bits (filledWithOnes es)))
+    (λ t. rw t (by-test (eqb (infoIn Table63.infoSent state) 2) (λ u. rw (u, s-info2 bits)) (λ u. rw (u, s-info0))))
 
-signal-shown : (l : List ℕ) → signalUp l ≡ true → shownUp l ≡ shownFrom true true
-unfolding shownUp shownFrom
-signal-shown l e =
-    let neither = and-right (hasPulse l) (not (framedUp l) && not (isInfo1 l)) e in
+fa-struck : (bits : CycleBits) (state : ℕ) (h : Hit) (es : List Bool) → faBit (levels (lineDown bits state h es)) ≡ struckIn h faIndex (sentBit state (bits .fa))
+unfolding lineDown struckIn
+fa-struck bits state none es = fa-sent bits state es
+fa-struck bits state (given letters) es = fa-hit letters (sentDown bits state (filledWithOnes es)) ∙ rw (fa-sent bits state es)
+
+s-struck : (bits : CycleBits) (state : ℕ) (h : Hit) (es : List Bool) → sBit (levels (lineDown bits state h es)) ≡ struckIn h sIndex (sentBit state (bits .s))
+unfolding lineDown struckIn
+s-struck bits state none es = s-sent bits state es
+s-struck bits state (given letters) es = s-hit letters (sentDown bits state (filledWithOnes es)) ∙ rw (s-sent bits state es)
+
+pub quick-fa : quick.QuickFa
+unfolding faDown wholeDown
+quick-fa m = fa-struck (bitsAt (m .cycle)) (m .network) (m .hit) (m .es)
+
+pub quick-s : quick.QuickS
+unfolding wholeDown
+quick-s m = s-struck (bitsAt (m .cycle)) (m .network) (m .hit) (m .es)
+
+-- ---- Those that send a frame, among all.
+unfoldable some : List UpFields → Bool
+some [] = false
+some (f ∷ fs) = true
+
+joint-fa : (xs : List Sent) → allOf (λ (f : UpFields). f .fa) (frames xs) ≡ allOf sentFa xs
+unfolding allOf frames
+joint-fa [] = refl
+joint-fa (silent ∷ xs) = joint-fa xs
+joint-fa (calling ∷ xs) = joint-fa xs
+joint-fa (frame f ∷ xs) = rw (joint-fa xs)
+
+joint-d : (xs : List Sent) → andAll (map (λ (f : UpFields). f .d) (frames xs)) ≡ andAll (map sentD xs)
+unfolding andAll frames
+joint-d [] = refl
+joint-d (silent ∷ xs) = joint-d xs
+joint-d (calling ∷ xs) = joint-d xs
+joint-d (frame f ∷ xs) = rw (joint-d xs)
+
+-- ---- The whole line up: what all send, each with its FA.
+module _ (fas : ℕ → Bool) where
+  calling-all : (i : ℕ) (ss : List Sender) → anyCalling (sentFrom fas i ss) ≡ anyInfo1 (stationsOf ss)
+  unfolding anyCalling anySends sentFrom sentUp
+  calling-all i [] = refl
+  calling-all i (s ∷ ss) =
+      rw (calling-all (suc i) ss)
+      (by-test (eqb (infoOf (s .station)) 3) (λ t. rw (t, eqb-true (infoOf (s .station)) 3 t))
+      (λ t. rw t (by-test (eqb (infoOf (s .station)) 1) (λ u. rw u) (λ u. rw u))))
+
+  idle-all : (i : ℕ) (ss : List Sender) → allOf isIdle (frames (sentFrom fas i ss)) ≡ true
+  unfolding allOf frames sentFrom sentUp
+  idle-all i [] = refl
+  idle-all i (s ∷ ss) =
+      by-test (eqb (infoOf (s .station)) 3) (λ t. rw t (idle-all (suc i) ss))
+      (λ t. rw t (by-test (eqb (infoOf (s .station)) 1) (λ u. rw u (idle-all (suc i) ss)) (λ u. rw u (idle-all (suc i) ss))))
+
+  d-all-sent : (i : ℕ) (ss : List Sender) → map sentD (sentFrom fas i ss) ≡ map sentD (map sentOf ss)
+  unfolding sentFrom sentOf sentUp
+  d-all-sent i [] = refl
+  d-all-sent i (s ∷ ss) =
+      rw (d-all-sent (suc i) ss)
+      (by-test (eqb (infoOf (s .station)) 3) (λ t. rw t) (λ t. rw t (by-test (eqb (infoOf (s .station)) 1) (λ u. rw u) (λ u. rw u))))
+
+  fa-all-sent : (i : ℕ) (ss : List Sender) → allOf sentFa (sentFrom fas i ss) ≡ allFa fas i (stationsOf ss)
+  unfolding allOf allFa sentFrom sentUp
+  fa-all-sent i [] = refl
+  fa-all-sent i (s ∷ ss) =
+      rw (fa-all-sent (suc i) ss)
+      (by-test (eqb (infoOf (s .station)) 3) (λ t. rw t) (λ t. rw t (by-test (eqb (infoOf (s .station)) 1) (λ u. rw u) (λ u. rw u))))
+
+  some-sent : (i : ℕ) (ss : List Sender) → some (frames (sentFrom fas i ss)) ≡ anyInfo3 (stationsOf ss)
+  unfolding some frames sentFrom sentUp anySends
+  some-sent i [] = refl
+  some-sent i (s ∷ ss) =
+      by-test (eqb (infoOf (s .station)) 3) (λ t. rw t)
+      (λ t. rw t (by-test (eqb (infoOf (s .station)) 1) (λ u. rw u (some-sent (suc i) ss)) (λ u. rw u (some-sent (suc i) ss))))
+
+pub quick-up-fa : quick.QuickUpFa
+unfolding wholeUp
+quick-up-fa m = combined-sent-fa (sentFrom (faSent m) 0 (m .senders)) ∙ fa-all-sent (faSent m) 0 (m .senders)
+
+-- D does not depend on FA.
+pub d-whole : (m : Opportunity) → dBits (levels (wholeUp m)) ≡ dBits (levels (lineUp (m .senders)))
+unfolding wholeUp lineUp
+d-whole m =
     rw (
-      and-left (hasPulse l) (not (framedUp l) && not (isInfo1 l)) e,
-      not-true (framedUp l) (and-left (not (framedUp l)) (not (isInfo1 l)) neither),
-      not-true (isInfo1 l) (and-right (not (framedUp l)) (not (isInfo1 l)) neither),
+      combined-sent-d (sentFrom (faSent m) 0 (m .senders)),
+      combined-sent-d (map sentOf (m .senders)),
+      d-all-sent (faSent m) 0 (m .senders),
+      calling-all (faSent m) 0 (m .senders),
+      calling-is (m .senders),
     )
 
-signal-beside : (d : Four) → signalUp (combined (info1 ∷ info3 d ∷ [])) ≡ true
-unfolding combined isSent tabulate hasPulse firstPulse framedIn sameSymbols upLine upBits symbols alternate octetBits zeros
-signal-beside d = at-each-four (λ x. signalUp (combined (info1 ∷ info3 x ∷ []))) d refl
+-- ---- What is shown.
+shown-frames : (fs : List UpFields) (fa : Bool) (d : Four) (n : Bool) → allOf (λ (f : UpFields). f .fa) fs ≡ fa → andAll (map (λ (f : UpFields). f .d) fs) ≡ d
+    → some fs ≡ n → shownUp (framesLine fs) ≡ shownWith false n fa d
+unfolding shownWith some
+shown-frames [] fa d n p q e = rw (← e) shown-up-info0
+shown-frames (f ∷ fs) fa d n p q e = rw (← e, p, q) (shown-info3 fa d)
 
-beside-are : (ss : List Sender) → shownUp (combined (info1 ∷ framesLine (frames (map sentOf ss)) ∷ [])) ≡ shownFrom true (anyInfo3 (stationsOf ss))
-unfolding frames sentOf sentUp anySends shownFrom
-beside-are [] = rw (combined-info0 (info1 ∷ []) [], combined-one info1 line-info1) shown-info1
-beside-are (s ∷ ss) =
-    by-test (eqb (infoOf (s .station)) 3) (λ t. rw t (signal-shown _ (signal-beside _)))
-    (λ t. rw t (by-test (eqb (infoOf (s .station)) 1) (λ u. rw u (beside-are ss)) (λ u. rw u (beside-are ss))))
+shown-beside : (fs : List UpFields) (fa : Bool) (d : Four) (n : Bool) → allOf (λ (f : UpFields). f .fa) fs ≡ fa → andAll (map (λ (f : UpFields). f .d) fs) ≡ d
+    → shownUp (combined (info1 ∷ framesLine fs ∷ [])) ≡ shownWith true n fa d
+unfolding shownWith allOf andAll shownUp
+shown-beside [] fa d n p q = rw (← p, ← q, combined-info0 (info1 ∷ []) [], combined-one info1 line-info1) shown-info1
+shown-beside (f ∷ fs) fa d n p q = let b = beside-info3 fa d in rw (p, q, b .0, b .1, b .2)
+
+pub up-shown-with : quick.UpShownWith
+unfolding wholeUp sentDs
+up-shown-with m =
+    let ss = m .senders in
+    let fas = faSent m in
+    let xs = sentFrom fas 0 ss in
+    let fa = joint-fa xs ∙ fa-all-sent fas 0 ss in
+    let d = joint-d xs ∙ ap andAll (d-all-sent fas 0 ss) in
+    by-test (anyInfo1 (stationsOf ss))
+    (λ t. rw (combined-calling xs (idle-all fas 0 ss) (calling-all fas 0 ss ∙ t), t) (shown-beside (frames xs) _ _ _ fa d))
+    (λ t. rw (combined-sent xs (idle-all fas 0 ss) (calling-all fas 0 ss ∙ t), t) (shown-frames (frames xs) _ _ _ fa d (some-sent fas 0 ss)))
+
+-- Where no cycle runs FA is 0 upward, unless nobody sends INFO 3: then FA and all D count as 1.
+fa-off : (fas : ℕ → Bool) → ((i : ℕ) → fas i ≡ false) → (i : ℕ) (ss : List Station) → allFa fas i ss ≡ not (anyInfo3 ss)
+unfolding allFa anySends
+fa-off fas h i [] = refl
+fa-off fas h i (s ∷ ss) =
+    by-test (eqb (infoOf s) 3) (λ t. rw (t, h i)) (λ t. rw (t, fa-off fas h (suc i) ss))
+
+ones-off : (ss : List Sender) → anyInfo3 (stationsOf ss) ≡ false → andAll (map sentD (map sentOf ss)) ≡ allFour true
+unfolding andAll anySends sentOf sentUp
+ones-off [] h = refl
+ones-off (s ∷ ss) h =
+    by-test (eqb (infoOf (s .station)) 3) (λ t. absurd (true≢false (rw t at h)))
+    (λ t. let more = ones-off ss (rw t at h) in
+    rw (t, more) (by-test (eqb (infoOf (s .station)) 1) (λ u. rw u) (λ u. rw u)))
+
+shown-off : (info1 info3 : Bool) (d : Four) → (info3 ≡ false → d ≡ allFour true) → shownWith info1 info3 (not info3) d ≡ shownFrom info1 info3
+unfolding shownWith shownFrom
+shown-off true true d h = refl
+shown-off true false d h = rw (h refl)
+shown-off false true d h = by-test (d .first) (λ t. rw t) (λ t. rw t)
+shown-off false false d h = refl
 
 pub up-shown : quick.UpShown
-unfolding lineUp
-up-shown ss =
-    by-test (anyInfo1 (stationsOf ss))
-    (λ t. rw (combined-calling (map sentOf ss) (calling-is ss ∙ t), t) (beside-are ss))
-    (λ t. rw (combined-sent (map sentOf ss) (calling-is ss ∙ t), t) (frames-are ss))
+unfolding sentDs faSent
+up-shown m off =
+    let ss = stationsOf (m .senders) in
+    up-shown-with m
+    ∙ rw (fa-off (faSent m) (λ i. not-running (m .cycle) off .4 (faDown m) i) 0 ss)
+    (shown-off (anyInfo1 ss) (anyInfo3 ss) (andAll (map sentD (map sentOf (m .senders)))) (ones-off (m .senders)))
 
 pub down-shown : quick.DownShown
 unfolding sentDown shownBy
-down-shown state es =
-    by-test (eqb (infoIn Table63.infoSent state) 4) (λ t. rw t (shown-info4 es))
-    (λ t. rw t (by-test (eqb (infoIn Table63.infoSent state) 2) (λ u. rw u shown-info2) (λ u. rw u shown-down-info0)))
+down-shown bits state es =
+    by-test (eqb (infoIn Table63.infoSent state) 4) (λ t. rw t (shown-info4 bits es))
+    (λ t. rw t (by-test (eqb (infoIn Table63.infoSent state) 2) (λ u. rw u (shown-info2 bits)) (λ u. rw u shown-down-info0)))

@@ -9,7 +9,7 @@ use lib.Dec.{eqb, leb}
 use lib.ListN.{length, replicate}
 use borrow.Author.Tests.{eqb-true, leb-false}
 use Rattle.test_lemmas.proofs.ByCases.{by-test, clash}
-use Rattle.symbols.specs.Symbols.{lineLength, fits}
+use Rattle.symbols.specs.Symbols.{lineLength, within, fits}
 use Rattle.combining.specs.Hit.{noneLetter}
 use Rattle.notes_and_cells.specs.Notes.{DONE1, DONE2}
 use Rattle.hdlc.specs.Image.{image}
@@ -26,6 +26,9 @@ use Rattle.timing.specs.Counts.{mostPeriods}
 use Rattle.timing.specs.declared.counts.Periods.{Periods}
 use Rattle.timing.specs.Calls.{atPeriod}
 use Rattle.contention.proofs.Change.{length-change}
+use Rattle.cycle.specs.Cycle.{cycleInRange}
+use Rattle.cycle.specs.Laws as cycles
+use Rattle.cycle.proofs.Laws.{period-kept}
 use Rattle.heard_line.specs.Sensing.{shownUp, shownDown}
 use Rattle.network.specs.Network as network
 use Rattle.network.specs.Calls as networkCalls
@@ -40,7 +43,7 @@ use Rattle.terminal.proofs.Laws as terminal-laws
 use Rattle.terminal.proofs.RangesKept as terminal-kept
 use Rattle.bus_rules.specs.Bus.{Station, Bus, terminals, freshStation, freshBus, stationAt}
 use Rattle.bus_rules.specs.Exchange.{inF7, accessStepOf, stationAfterE, exchanged, wholeDown, wholeUp}
-use Rattle.bus_rules.specs.Period.{networkHears, terminalHears, stepped, doneCodes, heardBy, timed, periodRun}
+use Rattle.bus_rules.specs.Period.{networkHears, terminalHears, stepped, doneCodes, cycleAfter, heardBy, timed, periodRun}
 use Rattle.bus_rules.specs.Event.{among, stationOf, classOf, refusal, networkDoes, networkDone, hitGiven, terminalDoes, withFrame, stationAfter, stationDone, eventDone}
 use Rattle.notes_and_cells.specs.Events.{ON, OFF, AR, D1, D2, HIT}
 use Rattle.bus_rules.specs.Calls.{Call, reply, does, after, afterAll}
@@ -50,6 +53,7 @@ use Rattle.bus_rules.specs.Ranges.{InRange, runs, runsInG3, periodsRun, 
 use Rattle.bus_rules.proofs.Stations.{Each, station-heard, station-timed, length-heard, length-timed, each-change, each-exchanged}
 use Rattle.bus_rules.proofs.Simulation.{Takes, accepted, accepted-frame}
 use Rattle.bus_rules.proofs.OneDone.{exchangedAt, done-bits}
+use Rattle.bus_rules.proofs.Off.{cycle-then}
 
 -- ---- the calls of `network` and `terminal`
 -- what the calls of a terminal give for power and requests
@@ -177,6 +181,12 @@ terminals-heard b l r i = rw (station-heard i (exchanged b) b) (hears-in (b .per
 terminals-timed : (b : Bus) → InRange b → Each Fit (timed b .stations)
 terminals-timed b r i = rw (station-timed i b) (timer-in (b .periods) (r .periods-fit) (stationAt i b) (r .terminals-fit i))
 
+cycle-in : (b : Bus) → cycleInRange (b .cycle) ≡ true → cycleInRange (cycleAfter (exchanged b)) ≡ true
+unfolding cycleAfter cycles.period
+cycle-in b h =
+    rw (cycle-then b)
+    (period-kept (record { fa = _; s = _; g3 = _; f7 = _ }) (b .cycle) h)
+
 pub heard-in : (b : Bus) → b .periods < mostPeriods → InRange b → InRange (heardBy (exchanged b) b)
 unfolding heardBy
 heard-in b l r =
@@ -188,6 +198,7 @@ heard-in b l r =
           rw (network-hears-called (b .periods) now (wholeUp (exchanged b)) (b .network) (r .network-fits)) at
           (network-kept.heard-in-range (atPeriod (b .periods)) (b .network) (r .network-fits) (shownUp (wholeUp (exchanged b))));
       hit-fits = refl;
+      cycle-fits = cycle-in b (r .cycle-fits);
       eight = length-heard b ∙ r .eight;
       terminals-fit = terminals-heard b now r;
     }
@@ -202,6 +213,7 @@ timed-in b r =
           rw (network-timers-called (b .periods) (r .periods-fit) (b .network) (r .network-fits)) at
           (network-kept.timer-due-in-range (atPeriod (b .periods)) (b .network) (r .network-fits));
       hit-fits = r .hit-fits;
+      cycle-fits = r .cycle-fits;
       eight = length-timed b ∙ r .eight;
       terminals-fit = terminals-timed b r;
     }
@@ -219,6 +231,7 @@ given-in letters b f r =
       opportunities-fit = r .opportunities-fit;
       network-fits = r .network-fits;
       hit-fits = f;
+      cycle-fits = r .cycle-fits;
       eight = r .eight;
       terminals-fit = r .terminals-fit;
     }
@@ -233,6 +246,7 @@ network-in number b r =
           rw (network-does-called (b .periods) (r .periods-fit) number (b .network) (r .network-fits)) at
           (network-kept.requested-in-range (atPeriod (b .periods)) (b .network) (r .network-fits) (cond (eqb number AR) Table63.AR-ROW Table63.DR-ROW));
       hit-fits = r .hit-fits;
+      cycle-fits = r .cycle-fits;
       eight = r .eight;
       terminals-fit = r .terminals-fit;
     }
@@ -245,6 +259,7 @@ changed-in unit number value b f r =
       opportunities-fit = r .opportunities-fit;
       network-fits = r .network-fits;
       hit-fits = r .hit-fits;
+      cycle-fits = r .cycle-fits;
       eight = length-change (stationAfter number value (b .periods)) (unit - 1) (b .stations) ∙ r .eight;
       terminals-fit = each-change Fit (stationAfter number value (b .periods)) (unit - 1) (b .stations) f (r .terminals-fit);
     }
@@ -281,12 +296,14 @@ all-fresh (suc n) zero = terminal-kept.fresh-in-range
 all-fresh (suc n) (suc i) = all-fresh n i
 
 pub fresh-in : InRange freshBus
+unfolding fits within
 fresh-in =
     record {
       periods-fit = omega arith;
       opportunities-fit = omega arith;
       network-fits = network-kept.fresh-in-range;
       hit-fits = refl;
+      cycle-fits = refl;
       eight = refl;
       terminals-fit = all-fresh terminals;
     }

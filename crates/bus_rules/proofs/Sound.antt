@@ -74,6 +74,7 @@ sound-counted b periods opportunities p o s =
             opportunities-fit = o;
             network-fits = r .network-fits;
             hit-fits = r .hit-fits;
+            cycle-fits = r .cycle-fits;
             eight = r .eight;
             terminals-fit = r .terminals-fit;
           };

@@ -2,7 +2,7 @@
 use mathlib.Core.Path.{_≡_, refl}
 use mathlib.Core.Bool.{Bool, true, false, cond}
 use mathlib.Core.List.{List, [], _∷_, _++_, map, append-assoc, append-nil}
-use Prim.Native.Nat.{ℕ, zero, suc, _+_, _<_}
+use Prim.Native.Nat.{ℕ, zero, suc, _+_, _-_, _<_}
 use native.Mathlib.Omega.{arith}
 use lib.Dec.{eqb}
 use lib.ListN.{getD}
@@ -23,8 +23,11 @@ use Rattle.terminal.proofs.Laws as terminal-laws
 use Rattle.terminal.proofs.Laws.{isTerminalNote}
 use Rattle.bus_rules.specs.Bus.{Station, Bus, Note, freshStation, notesOf}
 use Rattle.bus_rules.specs.Exchange.{Sender, Opportunity, stationsOf, doneOf, hearsE, eComes, sendersAfter, onward, asSender, begins, opportunitiesOf, exchanged, wholeDown, wholeUp}
-use Rattle.bus_rules.specs.Order.{unitByUnit}
-use Rattle.bus_rules.specs.Period.{networkHears, terminalHears, saidNotes, doneCodes, hearingCodes, timerCodes, heardBy, periodNotes}
+use Rattle.cycle.specs.Cycle.{noQ, qTold, sTold}
+use Rattle.cycle.specs.declared.record.Cycle.{Cycle}
+use Rattle.bus_rules.specs.Order.{noCycle, unitByUnit}
+use Rattle.bus_rules.specs.CycleNotes.{qNotes, sNotes, cycleNotes}
+use Rattle.bus_rules.specs.Period.{networkHears, terminalHears, saidNotes, doneCodes, hearingCodes, timerCodes, cycleAfter, heardBy, periodNotes}
 use Rattle.bus_rules.specs.TwoParts.{notesHeard, notesTimed, TwoParts}
 use Rattle.bus_rules.specs.Event.{stationOf, classOf, networkDoes, terminalDoes, eventNotes}
 use Rattle.notes_and_cells.specs.Events.{AR, HIT}
@@ -139,26 +142,51 @@ done-said v now (nothing ∷ ss) = done-said v now ss
 done-said v now (torn ∷ ss) = by-test (eqb 0 v) (λ t. rw t (done-said v now ss)) (λ t. rw t (done-said v now ss))
 done-said v now (heard body ∷ ss) = by-test (eqb 0 v) (λ t. rw t (done-said v now ss)) (λ t. rw t (done-said v now ss))
 
+-- ---- the notes of a cycle are neither
+record Neither (cycle : ℕ → List Note) : Type 0 where
+  heard-none : (u : ℕ) → heardIn (cycle u) ≡ []
+  done-none : (v u : ℕ) → doneNotesOf v (cycle u) ≡ []
+
+module _ (now : ℕ) (c : Cycle) where
+  heard-cycle : (u : ℕ) → heardIn (cycleNotes now c u) ≡ []
+  unfolding cycleNotes qNotes sNotes heardIn
+  heard-cycle u =
+      by-test (eqb u 0) (λ t. rw t (by-test (eqb (qTold c) noQ) (λ h. rw h) (λ h. rw h)))
+      (λ t. rw t (by-test (eqb (sTold (u - 1) c) 0) (λ h. rw h) (λ h. rw h)))
+
+  done-cycle : (v u : ℕ) → doneNotesOf v (cycleNotes now c u) ≡ []
+  unfolding cycleNotes qNotes sNotes doneNotesOf
+  done-cycle v u =
+      by-test (eqb u 0)
+      (λ t. rw t (by-test (eqb (qTold c) noQ) (λ h. rw h) (λ h. rw h (by-test (eqb 0 v) (λ w. rw w) (λ w. rw w)))))
+      (λ t. rw t (by-test (eqb (sTold (u - 1) c) 0) (λ h. rw h) (λ h. rw h (by-test (eqb u v) (λ w. rw w) (λ w. rw w)))))
+
+  cycle-neither : Neither (cycleNotes now c)
+  cycle-neither = record { heard-none = heard-cycle; done-none = done-cycle }
+
 -- ---- the terminals, from a unit on
-abbrev hearingNotes : List ℕ → ℕ → ℕ → List Sender → List Note
-hearingNotes down now u ss = unitByUnit now u (map (hearingCodes down now) ss)
+abbrev hearingNotes : (ℕ → List Note) → List ℕ → ℕ → ℕ → List Sender → List Note
+hearingNotes cycle down now u ss = unitByUnit now u cycle (map (hearingCodes down now) ss)
 
 abbrev timerNotes : ℕ → ℕ → List Station → List Note
-timerNotes now u ss = unitByUnit now u (map (timerCodes now) ss)
+timerNotes now u ss = unitByUnit now u noCycle (map (timerCodes now) ss)
 
-hearing-heard : (down : List ℕ) (now u : ℕ) (ss : List Sender) → heardIn (hearingNotes down now u ss) ≡ []
+hearing-heard : (cycle : ℕ → List Note) → Neither cycle → (down : List ℕ) (now u : ℕ) (ss : List Sender) → heardIn (hearingNotes cycle down now u ss) ≡ []
 unfolding heardIn unitByUnit
-hearing-heard down now u [] = refl
-hearing-heard down now u (s ∷ ss) =
+hearing-heard cycle n down now u [] = refl
+hearing-heard cycle n down now u (s ∷ ss) =
     let table = noted (terminalHears down now (s .station .terminal) .notes) in
+    let rest = hearingNotes cycle down now (suc u) ss in
     rw (
-      heard-append (notesOf now u (doneCodes (s .done) ++ table)) (hearingNotes down now (suc u) ss),
+      heard-append (notesOf now u (doneCodes (s .done) ++ table)) (cycle u ++ rest),
+      heard-append (cycle u) rest,
+      n .heard-none u,
       notes-of-append now u (doneCodes (s .done)) table,
       heard-append (notesOf now u (doneCodes (s .done))) (notesOf now u table),
       heard-done now u (s .done),
       heard-plain now u table (terminal-hears-plain down now (s .station .terminal)),
     )
-    (hearing-heard down now (suc u) ss)
+    (hearing-heard cycle n down now (suc u) ss)
 
 timer-heard : (now u : ℕ) (ss : List Station) → heardIn (timerNotes now u ss) ≡ []
 unfolding heardIn unitByUnit
@@ -177,38 +205,55 @@ timer-done v now u (s ∷ ss) =
     (timer-done v now (suc u) ss)
 
 -- units above have no note of this one
-hearing-below : (v : ℕ) (down : List ℕ) (now u : ℕ) (ss : List Sender) → v < u → doneNotesOf v (hearingNotes down now u ss) ≡ []
-unfolding doneNotesOf unitByUnit
-hearing-below v down now u [] h = refl
-hearing-below v down now u (s ∷ ss) h =
-    let codes = doneCodes (s .done) ++ noted (terminalHears down now (s .station .terminal) .notes) in
-    rw (done-append v (notesOf now u codes) (hearingNotes down now (suc u) ss), done-other v now u codes (λ e. omega arith))
-    (hearing-below v down now (suc u) ss (omega arith))
+module _ (cycle : ℕ → List Note) (n : Neither cycle) where
+  hearing-below : (v : ℕ) (down : List ℕ) (now u : ℕ) (ss : List Sender) → v < u → doneNotesOf v (hearingNotes cycle down now u ss) ≡ []
+  unfolding doneNotesOf unitByUnit
+  hearing-below v down now u [] h = refl
+  hearing-below v down now u (s ∷ ss) h =
+      let codes = doneCodes (s .done) ++ noted (terminalHears down now (s .station .terminal) .notes) in
+      let rest = hearingNotes cycle down now (suc u) ss in
+      rw (
+        done-append v (notesOf now u codes) (cycle u ++ rest),
+        done-append v (cycle u) rest,
+        n .done-none v u,
+        done-other v now u codes (λ e. omega arith),
+      )
+      (hearing-below v down now (suc u) ss (omega arith))
 
 abbrev donesOf : List Sender → List (List ℕ)
 donesOf ss = map (λ (s : Sender). s .done) ss
 
-hearing-done : (v : ℕ) (down : List ℕ) (now u : ℕ) (ss : List Sender) (i : ℕ) → v ≡ u + i → doneNotesOf v (hearingNotes down now u ss) ≡ doneCodes (getD (donesOf ss) i [])
+hearing-done : (cycle : ℕ → List Note) → Neither cycle → (v : ℕ) (down : List ℕ) (now u : ℕ) (ss : List Sender) (i : ℕ) → v ≡ u + i
+    → doneNotesOf v (hearingNotes cycle down now u ss) ≡ doneCodes (getD (donesOf ss) i [])
 unfolding doneNotesOf unitByUnit doneCodes
-hearing-done v down now u [] i e = refl
-hearing-done v down now u (s ∷ ss) zero e =
+hearing-done cycle n v down now u [] i e = refl
+hearing-done cycle n v down now u (s ∷ ss) zero e =
     let table = noted (terminalHears down now (s .station .terminal) .notes) in
+    let rest = hearingNotes cycle down now (suc u) ss in
     let same : v ≡ u = omega arith in
     rw (
       same,
-      done-append u (notesOf now u (doneCodes (s .done) ++ table)) (hearingNotes down now (suc u) ss),
+      done-append u (notesOf now u (doneCodes (s .done) ++ table)) (cycle u ++ rest),
+      done-append u (cycle u) rest,
+      n .done-none u u,
       notes-of-append now u (doneCodes (s .done)) table,
       done-append u (notesOf now u (doneCodes (s .done))) (notesOf now u table),
       done-done now u (s .done),
       done-plain u now u table (terminal-hears-plain down now (s .station .terminal)),
-      hearing-below u down now (suc u) ss (omega arith),
+      hearing-below cycle n u down now (suc u) ss (omega arith),
       append-nil (doneCodes (s .done) ++ []),
       append-nil (doneCodes (s .done)),
     )
-hearing-done v down now u (s ∷ ss) (suc i) e =
+hearing-done cycle n v down now u (s ∷ ss) (suc i) e =
     let codes = doneCodes (s .done) ++ noted (terminalHears down now (s .station .terminal) .notes) in
-    rw (done-append v (notesOf now u codes) (hearingNotes down now (suc u) ss), done-other v now u codes (λ o. omega arith))
-    (hearing-done v down now (suc u) ss i (omega arith))
+    let rest = hearingNotes cycle down now (suc u) ss in
+    rw (
+      done-append v (notesOf now u codes) (cycle u ++ rest),
+      done-append v (cycle u) rest,
+      n .done-none v u,
+      done-other v now u codes (λ o. omega arith),
+    )
+    (hearing-done cycle n v down now (suc u) ss i (omega arith))
 
 -- ---- the exchange
 dones-hear : (e : Bool) (ss : List Sender) (i : ℕ) → getD (donesOf (map (hearsE e) ss)) i [] ≡ getD (donesOf ss) i [] ++ doneOf e (getD (stationsOf ss) i freshStation)
@@ -275,18 +320,26 @@ module _ (m : Opportunity) (b : Bus) where
   abbrev table : List ℕ
   table = noted (networkHears (wholeUp m) (b .periods) (b .network) .notes)
 
+  abbrev cycle : ℕ → List Note
+  cycle = cycleNotes (b .periods) (cycleAfter m)
+
   abbrev units : List Note
-  units = hearingNotes (wholeDown m) (b .periods) 1 (m .senders)
+  units = hearingNotes cycle (wholeDown m) (b .periods) 1 (m .senders)
+
+  neither : Neither cycle
+  neither = cycle-neither (b .periods) (cycleAfter m)
 
   heard-heard : heardIn (notesHeard m b) ≡ spoken (m .saids)
   unfolding notesHeard
   heard-heard =
       rw (
-        heard-append said (notesOf (b .periods) 0 table ++ units),
-        heard-append (notesOf (b .periods) 0 table) units,
+        heard-append said (notesOf (b .periods) 0 table ++ (cycle 0 ++ units)),
+        heard-append (notesOf (b .periods) 0 table) (cycle 0 ++ units),
+        heard-append (cycle 0) units,
+        neither .heard-none 0,
         heard-said (b .periods) (m .saids),
         heard-plain (b .periods) 0 table (network-hears-plain (wholeUp m) (b .periods) (b .network)),
-        hearing-heard (wholeDown m) (b .periods) 1 (m .senders),
+        hearing-heard cycle neither (wholeDown m) (b .periods) 1 (m .senders),
       )
       (append-nil (spoken (m .saids)))
 
@@ -294,12 +347,14 @@ module _ (m : Opportunity) (b : Bus) where
   unfolding notesHeard
   done-heard i =
       rw (
-        done-append (suc i) said (notesOf (b .periods) 0 table ++ units),
-        done-append (suc i) (notesOf (b .periods) 0 table) units,
+        done-append (suc i) said (notesOf (b .periods) 0 table ++ (cycle 0 ++ units)),
+        done-append (suc i) (notesOf (b .periods) 0 table) (cycle 0 ++ units),
+        done-append (suc i) (cycle 0) units,
+        neither .done-none (suc i) 0,
         done-said (suc i) (b .periods) (m .saids),
         done-plain (suc i) (b .periods) 0 table (network-hears-plain (wholeUp m) (b .periods) (b .network)),
       )
-      (hearing-done (suc i) (wholeDown m) (b .periods) 1 (m .senders) i (omega arith))
+      (hearing-done cycle neither (suc i) (wholeDown m) (b .periods) 1 (m .senders) i (omega arith))
 
 pub two-parts : TwoParts
 unfolding periodNotes notesHeard notesTimed heardBy

@@ -1,14 +1,16 @@
 -- Rules: the bus (document 01, "Order inside a period" and "D access (6.1)"): one network end,
--- terminals 1 to 8, and what the record counts.
+-- terminals 1 to 8, what the record counts, and the cycle of Q and S bits (document 02, 2.1).
 -- Interface: `Station`, `Hit`, `Bus`, `terminals`, `freshStation`, `withTerminal`, `stationAt`,
--- `freshBus`, `withFields`, `withCounts`, `withNetwork`, `withHeardD`, `withHit`, `withStations`,
--- `Note`, `notesOf`. Assumes nothing.
+-- `freshBus`, `withFields`, `withCounts`, `withNetwork`, `withHeardD`, `withHit`, `withCycle`,
+-- `withStations`, `Note`, `notesOf`. Assumes nothing.
 use mathlib.Core.Bool.{Bool, true}
 use mathlib.Core.List.{List, [], _∷_}
 use Prim.Native.Nat.{ℕ}
 use lib.ListN.{getD, replicate}
 use Rattle.hdlc.specs.Image.{image}
 use Rattle.hdlc.specs.Reading.{Reading, cleared}
+use Rattle.cycle.specs.Cycle as cycle
+use Rattle.cycle.specs.declared.record.Cycle.{Cycle}
 use Rattle.network.specs.Network as network
 use Rattle.terminal.specs.Terminal as terminal
 use Rattle.network.specs.declared.Network.{Network}
@@ -37,6 +39,8 @@ pub record Bus : Type 0 where
   -- the last combined D that the network end heard
   pub heardD : Bool
   pub hit : Hit
+  -- the cycle of Q and S bits: nothing starts it yet
+  pub cycle : Cycle
   -- terminal 1 first
   pub stations : List Station
 
@@ -67,13 +71,14 @@ freshBus =
       reading = cleared;
       heardD = true;
       hit = Hit.none;
+      cycle = cycle.fresh;
       stations = replicate terminals freshStation;
     }
 
 -- A bus with these fields, and what else it has as it was. Every change of a bus is one of these: no
 -- rule but this one and `freshBus` names all fields.
-abbrev pub withFields : ℕ → ℕ → Network → Reading → Bool → Hit → List Station → Bus → Bus
-withFields periods opportunities network reading heardD hit stations b =
+abbrev pub withFields : ℕ → ℕ → Network → Reading → Bool → Hit → Cycle → List Station → Bus → Bus
+withFields periods opportunities network reading heardD hit cycle stations b =
     record {
       periods = periods;
       opportunities = opportunities;
@@ -81,33 +86,39 @@ withFields periods opportunities network reading heardD hit stations b =
       reading = reading;
       heardD = heardD;
       hit = hit;
+      cycle = cycle;
       stations = stations;
     }
 
 -- Other periods and D opportunities run; another network end, with its reader; another last D;
--- another hit; other terminals.
+-- another hit; another cycle; other terminals.
 abbrev pub withCounts : ℕ → ℕ → Bus → Bus
 withCounts periods opportunities b =
-    withFields periods opportunities (b .network) (b .reading) (b .heardD) (b .hit) (b .stations) b
+    withFields periods opportunities (b .network) (b .reading) (b .heardD) (b .hit) (b .cycle) (b .stations) b
 
 abbrev pub withNetwork : Network → Reading → Bus → Bus
 withNetwork network reading b =
-    withFields (b .periods) (b .opportunities) network reading (b .heardD) (b .hit) (b .stations) b
+    withFields (b .periods) (b .opportunities) network reading (b .heardD) (b .hit) (b .cycle) (b .stations) b
 
 abbrev pub withHeardD : Bool → Bus → Bus
 withHeardD heardD b =
-    withFields (b .periods) (b .opportunities) (b .network) (b .reading) heardD (b .hit) (b .stations) b
+    withFields (b .periods) (b .opportunities) (b .network) (b .reading) heardD (b .hit) (b .cycle) (b .stations) b
 
 abbrev pub withHit : Hit → Bus → Bus
-withHit hit b = withFields (b .periods) (b .opportunities) (b .network) (b .reading) (b .heardD) hit (b .stations) b
+withHit hit b =
+    withFields (b .periods) (b .opportunities) (b .network) (b .reading) (b .heardD) hit (b .cycle) (b .stations) b
+
+abbrev pub withCycle : Cycle → Bus → Bus
+withCycle cycle b =
+    withFields (b .periods) (b .opportunities) (b .network) (b .reading) (b .heardD) (b .hit) cycle (b .stations) b
 
 abbrev pub withStations : List Station → Bus → Bus
 withStations stations b =
-    withFields (b .periods) (b .opportunities) (b .network) (b .reading) (b .heardD) (b .hit) stations b
+    withFields (b .periods) (b .opportunities) (b .network) (b .reading) (b .heardD) (b .hit) (b .cycle) stations b
 
 -- A note: "The fields are the period, the unit, the note and its value." The note is its code, and
--- the value of MPH-II is in its code; the value of `heard` is the body, others have none. `refused`
--- is the book's: no call has a note of it.
+-- the value of MPH-II is in its code; the value of `heard` is the body, that of `q` and `s` a number
+-- as octets, low-order first; others have none. `refused` is the book's: no call has a note of it.
 pub record Note : Type 0 where
   pub period : ℕ
   pub unit : ℕ

@@ -13,6 +13,7 @@ use Rattle.hdlc.specs.Image.{image}
 use Rattle.dchannel.specs.Access.{normal1}
 use Rattle.hdlc.specs.Reading.{cleared}
 use Rattle.hdlc.specs.Reading.Said.{torn, heard}
+use Rattle.cycle.specs.Cycle as cycle
 use Rattle.bus_rules.specs.Bus.{Hit, Bus, freshBus}
 use Rattle.bus_rules.specs.Exchange.{Opportunity, saidTo}
 use Rattle.bus_rules.specs.Calls.{Call, afterAll, notesOfAll}
@@ -22,7 +23,8 @@ use Rattle.bus_rules.specs.Telling.{AllTell}
 
 -- what stands at a place past the end of a list of D opportunities
 abbrev pub nowhere : Opportunity
-nowhere = record { network = 0; hit = Hit.none; senders = []; es = []; heardD = true; reading = cleared; saids = [] }
+nowhere =
+    record { network = 0; hit = Hit.none; cycle = cycle.fresh; senders = []; es = []; heardD = true; reading = cleared; saids = [] }
 
 -- opportunity t of a list of them
 abbrev pub at : List Opportunity → ℕ → Opportunity

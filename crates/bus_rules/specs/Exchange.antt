@@ -1,20 +1,22 @@
--- Rules: the exchange of a period by lines (document 01, "The line" and "Order inside a period"). A
--- line is written from the bits that are known so far, with 1 for the rest; nothing later changes
--- what was taken from it (the law `as-taken`, Later.antt).
+-- Rules: the exchange of a period by lines (document 01, "The line" and "Order inside a period";
+-- document 02, 2.1). A line is written from the bits that are known so far, with 1 for the rest;
+-- nothing later changes what was taken from it (the law `as-taken`, Later.antt).
 -- Interface: `sentDown`, `anySends`, `anyInfo1`, `anyInfo3`, `Sender`, `stationsOf`, `Opportunity`,
 -- `inF7`, `accessStepOf`, `stationAfterE`, `dOf`, `doneOf`, `lineUp`, `eComes`, `dComes`, `saidTo`,
--- `onward`, `begins`, `opportunitiesOf`, `exchanged`, `wholeDown`, `wholeUp`. Assumes nothing.
+-- `onward`, `begins`, `opportunitiesOf`, `exchanged`, `wholeDown`, `faDown`, `faSent`, `wholeUp`.
+-- Assumes nothing.
 use mathlib.Core.Bool.{Bool, true, false, cond, _||_}
 use mathlib.Core.List.{List, [], _∷_, _++_, map}
-use Prim.Native.Nat.{ℕ}
+use Prim.Native.Nat.{ℕ, suc}
 use lib.Dec.{eqb}
 use lib.ListN.{length, getD}
 use Rattle.symbols.specs.Symbols.{levels}
 use Rattle.frame.specs.Four.{pick, filledWithOnes}
-use Rattle.frame.specs.Bits.{dBits}
+use Rattle.frame.specs.Bits.{dBits, faBit}
 use Rattle.frame.specs.Down.{eBits}
 use Rattle.frame.specs.declared.fields.Four.{Four}
-use Rattle.info.specs.Info.{info0, info2, info4}
+use Rattle.frame.specs.declared.fields.CycleBits.{CycleBits}
+use Rattle.info.specs.Info.{info0, info2With, info3Fields, info4With}
 use Rattle.combining.specs.Combine.{combined}
 use Rattle.combining.specs.Sent.{Sent, silent, calling, frame, sentLine}
 use Rattle.combining.specs.Hit.{hit}
@@ -27,21 +29,24 @@ use Rattle.dchannel.specs.Access.{normal1, normal2, accessStep}
 use Rattle.dchannel.specs.declared.access.AccessStep.{AccessStep}
 use Rattle.hdlc.specs.Reading.{Reading, Said, said, next}
 use Rattle.hdlc.specs.Reading.Said.{nothing}
+use Rattle.cycle.specs.Cycle.{taken, bitsAt, upFa}
+use Rattle.cycle.specs.declared.record.Cycle.{Cycle}
 use Rattle.terminal.specs.Terminal.{withAccess}
 use Rattle.bus_rules.specs.Bus.{Station, Hit, Bus, withTerminal}
 use Rattle.bus_rules.specs.Bus.Hit.{none, given}
 
--- The line that a network end sends in a state, with four E bits: INFO 0, 2 or 4.
-unfoldable pub sentDown : ℕ → Four → List ℕ
-sentDown state es =
+-- The line that a network end sends in a state, with the cycle's bits and four E bits: INFO 0, 2 or
+-- 4.
+unfoldable pub sentDown : CycleBits → ℕ → Four → List ℕ
+sentDown bits state es =
     let info = infoIn Table63.infoSent state in
-    cond (eqb info 4) (info4 es) (cond (eqb info 2) info2 info0)
+    cond (eqb info 4) (info4With bits es) (cond (eqb info 2) (info2With bits) info0)
 
--- What a terminal sends in a state, with its D bits so far: INFO 0, 1 or 3.
-unfoldable pub sentUp : ℕ → List Bool → Sent
-sentUp state ds =
+-- What a terminal sends in a state, with its FA and its D bits so far: INFO 0, 1 or 3.
+unfoldable pub sentUp : Bool → ℕ → List Bool → Sent
+sentUp fa state ds =
     let info = infoIn Table62.infoSent state in
-    cond (eqb info 3) (frame (filledWithOnes ds)) (cond (eqb info 1) calling silent)
+    cond (eqb info 3) (frame (info3Fields fa (filledWithOnes ds))) (cond (eqb info 1) calling silent)
 
 -- Who sends what: whether a terminal in any of some states sends the INFO of a number; whether any
 -- terminal sends INFO 1, and whether any sends INFO 3.
@@ -75,6 +80,8 @@ pub record Opportunity : Type 0 where
   -- the network end's state and the hit
   pub network : ℕ
   pub hit : Hit
+  -- the cycle, with the messages that it has taken
+  pub cycle : Cycle
   pub senders : List Sender
   -- the E bits so far; INFO 4 carries them, INFO 0 and INFO 2 do not
   pub es : List Bool
@@ -112,13 +119,14 @@ hearsE e s =
       done = s .done ++ doneOf e (s .station);
     }
 
+-- what it sends as a D is taken from the line, with 1 for FA: the whole line (`wholeUp`) has its FA
 unfoldable pub sentOf : Sender → Sent
-sentOf s = sentUp (s .station .terminal .state) (s .ds)
+sentOf s = sentUp true (s .station .terminal .state) (s .ds)
 
 -- The line that all powered terminals hear, with the E bits so far, and the line that all terminals
 -- give together.
-unfoldable pub lineDown : ℕ → Hit → List Bool → List ℕ
-lineDown network h es = struckBy h (sentDown network (filledWithOnes es))
+unfoldable pub lineDown : CycleBits → ℕ → Hit → List Bool → List ℕ
+lineDown bits network h es = struckBy h (sentDown bits network (filledWithOnes es))
 
 unfoldable pub lineUp : List Sender → List ℕ
 lineUp ss = combined (map sentLine (map sentOf ss))
@@ -126,7 +134,8 @@ lineUp ss = combined (map sentLine (map sentOf ss))
 -- "each E the last combined D that the network heard": the E that comes, at symbol level of the
 -- downward line after the hit
 unfoldable pub eComes : Opportunity → Bool
-eComes m = pick (length (m .es)) (eBits (levels (lineDown (m .network) (m .hit) (m .es ++ (m .heardD ∷ [])))))
+eComes m =
+    pick (length (m .es)) (eBits (levels (lineDown (bitsAt (m .cycle)) (m .network) (m .hit) (m .es ++ (m .heardD ∷ [])))))
 
 unfoldable pub sendersAfter : Opportunity → List Sender
 sendersAfter m = map (hearsE (eComes m)) (m .senders)
@@ -148,6 +157,7 @@ onward m =
     record {
       network = m .network;
       hit = m .hit;
+      cycle = m .cycle;
       senders = sendersAfter m;
       es = m .es ++ (m .heardD ∷ []);
       heardD = dComes m;
@@ -155,7 +165,8 @@ onward m =
       saids = m .saids ++ (saidTo m ∷ []);
     }
 
--- "What is sent follows the states before hearing": the exchange as E11 comes.
+-- "What is sent follows the states before hearing": the exchange as E11 comes. A cycle that begins
+-- has taken the messages that wait.
 unfoldable pub asSender : Station → Sender
 asSender s = record { station = s; ds = []; done = [] }
 
@@ -164,6 +175,7 @@ begins b =
     record {
       network = b .network .state;
       hit = b .hit;
+      cycle = taken (b .cycle);
       senders = map asSender (b .stations);
       es = [];
       heardD = b .heardD;
@@ -179,9 +191,23 @@ opportunitiesOf b = begins b ∷ onward (begins b) ∷ onward (onward (begins b)
 unfoldable pub exchanged : Bus → Opportunity
 exchanged b = onward (onward (onward (onward (begins b))))
 
--- the two lines when all bits are known
+-- the downward line when all bits are known
 unfoldable pub wholeDown : Opportunity → List ℕ
-wholeDown m = lineDown (m .network) (m .hit) (m .es)
+wholeDown m = lineDown (bitsAt (m .cycle)) (m .network) (m .hit) (m .es)
+
+-- "A terminal that hears FA at 1 .. (it hears 14 before it sends 14)": the downward FA after the hit,
+-- at symbol level, and the FA that the terminal at an index sends in INFO 3
+unfoldable pub faDown : Opportunity → Bool
+faDown m = faBit (levels (wholeDown m))
+
+unfoldable pub faSent : Opportunity → ℕ → Bool
+faSent m i = upFa (faDown m) i (m .cycle)
+
+-- what the terminals from an index on send, when all bits are known, and the line that all give
+-- together
+unfoldable pub sentFrom : (ℕ → Bool) → ℕ → List Sender → List Sent
+sentFrom fas i [] = []
+sentFrom fas i (s ∷ ss) = sentUp (fas i) (s .station .terminal .state) (s .ds) ∷ sentFrom fas (suc i) ss
 
 unfoldable pub wholeUp : Opportunity → List ℕ
-wholeUp m = lineUp (m .senders)
+wholeUp m = combined (map sentLine (sentFrom (faSent m) 0 (m .senders)))

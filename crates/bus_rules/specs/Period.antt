@@ -1,11 +1,16 @@
 -- Rules: a period (document 01, "Lists and stretches"): "exchange, hearing, then the timers due at
 -- the next one's start".
--- Interface: `readingAfter`, `networkNow`, `networkHears`, `stepped`, `doneCodes`, `heardBy`,
--- `periodRun`, `periodNotes`. Assumes nothing.
+-- Interface: `readingAfter`, `networkNow`, `networkHears`, `stepped`, `doneCodes`, `cycleAfter`,
+-- `heardBy`, `periodRun`, `periodNotes`. Assumes nothing.
 use mathlib.Core.Bool.{cond}
 use mathlib.Core.List.{List, [], _∷_, map}
-use Prim.Native.Nat.{ℕ, _+_}
+use Prim.Native.Nat.{ℕ, _+_, _*_}
 use lib.Dec.{eqb}
+use Rattle.symbols.specs.Symbols.{levels}
+use Rattle.frame.specs.Bits.{bit, faBit}
+use Rattle.frame.specs.Down.{sBit}
+use Rattle.cycle.specs.Cycle.{heardIn}
+use Rattle.cycle.specs.declared.record.Cycle.{Cycle}
 use Rattle.notes_and_cells.specs.Notes.{HEARD, TORN, DONE1, DONE2, noted}
 use Rattle.table_6_3.specs.Table63.{G3}
 use Rattle.hdlc.specs.Reading.{Reading, Said, cleared}
@@ -17,9 +22,11 @@ use Rattle.network.specs.declared.Network.{Network}
 use Rattle.network.specs.declared.NetworkStep.{NetworkStep}
 use Rattle.terminal.specs.declared.Terminal.{Terminal}
 use Rattle.terminal.specs.declared.TerminalStep.{TerminalStep}
-use Rattle.bus_rules.specs.Bus.{Station, Hit, Bus, Note, withTerminal, withCounts, withNetwork, withHeardD, withHit, withStations}
-use Rattle.bus_rules.specs.Order.{ByUnit, dFirst, periodInOrder}
-use Rattle.bus_rules.specs.Exchange.{Sender, Opportunity, stationsOf, exchanged, wholeDown, wholeUp}
+use Rattle.bus_rules.specs.Bus.{Station, Hit, Bus, Note, withTerminal, withCounts, withNetwork, withHeardD, withHit, withCycle}
+use Rattle.bus_rules.specs.Bus.{withStations}
+use Rattle.bus_rules.specs.Order.{ByUnit, dFirst, noCycle, periodInOrder}
+use Rattle.bus_rules.specs.Exchange.{Sender, Opportunity, stationsOf, inF7, inG3, exchanged, wholeDown, wholeUp}
+use Rattle.bus_rules.specs.CycleNotes.{cycleNotes}
 
 -- "Leaving G3 clears the reader silently."
 unfoldable pub readingAfter : ℕ → ℕ → Reading → Reading
@@ -61,6 +68,18 @@ hearingCodes down now s = dFirst (doneCodes (s .done)) (noted (terminalHears dow
 abbrev pub timerCodes : ℕ → Station → List ℕ
 timerCodes now s = noted (terminal.timer now (s .terminal) .notes)
 
+-- ---- The cycle after the exchange m: from the upward FA and the downward S as they are heard, and
+-- from who is in G3 and in F7 at the exchange.
+
+-- which of some terminals are in F7, the first the lowest bit
+unfoldable pub f7Of : List Station → ℕ
+f7Of [] = 0
+f7Of (s ∷ ss) = bit (inF7 s) + 2 * f7Of ss
+
+unfoldable pub cycleAfter : Opportunity → Cycle
+cycleAfter m =
+    heardIn (faBit (levels (wholeUp m))) (sBit (levels (wholeDown m))) (inG3 m) (f7Of (stationsOf (m .senders))) (m .cycle)
+
 -- ---- Hearing, unit 0 first, after the exchange m. "The record counts periods run and D
 -- opportunities run, four for each period whose lines leave the network end in G3": the book's
 -- lines, which come before the exchange.
@@ -69,7 +88,7 @@ heardBy m b =
     withCounts (b .periods + 1) (b .opportunities + cond (eqb (b .network .state) G3) 4 0)
     (networkNow (networkHears (wholeUp m) (b .periods) (b .network) .network) (m .reading)
     (withStations (map (stepped (terminalHears (wholeDown m) (b .periods))) (stationsOf (m .senders)))
-    (withHeardD (m .heardD) (withHit Hit.none b))))
+    (withHeardD (m .heardD) (withHit Hit.none (withCycle (cycleAfter m) b)))))
 
 abbrev pub heardByUnit : Opportunity → Bus → ByUnit
 heardByUnit m b =
@@ -77,6 +96,7 @@ heardByUnit m b =
       reader = saidNotes (b .periods) (m .saids);
       network = noted (networkHears (wholeUp m) (b .periods) (b .network) .notes);
       terminals = map (hearingCodes (wholeDown m) (b .periods)) (m .senders);
+      cycle = cycleNotes (b .periods) (cycleAfter m);
     }
 
 -- ---- "Timers that are due (unit 0, then 1 to 8)", at the start of the period that comes.
@@ -91,6 +111,7 @@ timedByUnit b =
       reader = [];
       network = noted (network.timers (b .periods) (b .network) .notes);
       terminals = map (timerCodes (b .periods)) (b .stations);
+      cycle = noCycle;
     }
 
 -- ---- The whole.

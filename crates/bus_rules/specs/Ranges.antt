@@ -9,6 +9,7 @@ use lib.Dec.{eqb}
 use lib.ListN.{length, getD}
 use Rattle.symbols.specs.Symbols.{lineLength, fits}
 use Rattle.combining.specs.Hit.{noneLetter}
+use Rattle.cycle.specs.Cycle.{cycleInRange}
 use Rattle.table_6_3.specs.Table63.{G3}
 use Rattle.timing.specs.Counts.{mostPeriods}
 use Rattle.network.specs.Calls.{networkInRange}
@@ -30,6 +31,7 @@ pub record InRange (b : Bus) : Type 0 where
   pub opportunities-fit : b .opportunities ≤ 4 * b .periods
   pub network-fits : networkInRange (b .network) ≡ true
   pub hit-fits : hitInRange (b .hit) ≡ true
+  pub cycle-fits : cycleInRange (b .cycle) ≡ true
   pub eight : length (b .stations) ≡ terminals
   -- by index: past the last stands a fresh one, which is in range
   pub terminals-fit : (i : ℕ) → terminalInRange (getD (b .stations) i freshStation .terminal) ≡ true

@@ -21,6 +21,7 @@ use Rattle.hdlc.specs.Bits as octets
 use Rattle.hdlc.specs.Image as images
 use Rattle.hdlc.specs.Reading.{cleared}
 use Rattle.hdlc.specs.Reading as reader
+use Rattle.cycle.specs.Cycle as cycle
 use Rattle.dchannel.specs.Access as access
 use Rattle.dchannel.specs.Handing as handing
 use Rattle.dchannel.specs.declared.access.Access.{Access}
@@ -44,9 +45,10 @@ use Rattle.bus_rules.specs.Bus.{withCounts, withNetwork, withStations}
 use Rattle.bus_rules.specs.Order.{unitByUnit}
 use Rattle.bus_rules.specs.Exchange.{Opportunity, sentDown, sentUp, accessStepOf, stationAfterE, dOf, doneOf, hearsE, sentOf}
 use Rattle.bus_rules.specs.Exchange.{lineDown, lineUp, eComes, sendersAfter, dComes, saidTo, onward, asSender, begins}
-use Rattle.bus_rules.specs.Exchange.{opportunitiesOf, exchanged, wholeDown, wholeUp}
+use Rattle.bus_rules.specs.Exchange.{opportunitiesOf, exchanged, wholeDown, faDown, faSent, sentFrom, wholeUp}
+use Rattle.bus_rules.specs.CycleNotes.{qNotes, sNotes, cycleNotes}
 use Rattle.bus_rules.specs.Period.{readingAfter, networkHears, terminalHears, stepped, saidNotes, doneCodes, heardBy}
-use Rattle.bus_rules.specs.Period.{timed, periodRun, periodNotes}
+use Rattle.bus_rules.specs.Period.{f7Of, cycleAfter, timed, periodRun, periodNotes}
 use Rattle.bus_rules.specs.TwoParts.{notesHeard, notesTimed}
 use Rattle.bus_rules.specs.Event.{classOf, eventFor, barsNetwork, barsTerminal, bars, callReasons, stateReasons, reasons}
 use Rattle.bus_rules.specs.Event.{firstHolding, refusal, networkDoes, networkDone, hitGiven, terminalDoes, withFrame}
@@ -98,7 +100,8 @@ unfolding within fits tabulate sameSymbols bits.octetBits bits.zeros polarity.al
     barsTerminal bars callReasons stateReasons reasons firstHolding refusal networkDoes networkDone hitGiven terminalDoes withFrame
     stationAfter stationDone eventDone eventNotes reply does tells after notes afterAll opportunitiesOfCall opportunitiesIn stationThen
     buses powered poweredFrom poweredIn longestOf longestIn network.bars terminal.bars unitByUnit notesOfAll runGoesOn runCalls runReply
-    runNotes runLeaves
+    runNotes runLeaves faDown faSent sentFrom qNotes sNotes cycleNotes f7Of cycleAfter cycle.taken cycle.bitsAt cycle.upFa cycle.heardIn
+    cycle.qTold cycle.sTold
 handedBack b calls = reportFrom b calls
 
 -- ---- Lists of calls from the fresh bus.

@@ -1,4 +1,5 @@
--- Rules: the notes of document 01, "Bench book and report", each with a code.
+-- Rules: the notes of document 01, "Bench book and report", and of document 02, 2.1, each with a
+-- code.
 -- Interface: every name. Assumes nothing.
 use mathlib.Core.List.{List, [], _∷_}
 use Prim.Native.Nat.{ℕ}
@@ -58,6 +59,14 @@ DROPPED2 = 15
 -- A call of the book that was turned down.
 abbrev pub REFUSED : ℕ
 REFUSED = 16
+
+-- What a cycle of Q and S bits has received: the network end the four Q bits, a terminal the twenty S
+-- bits. No bus has these notes yet.
+abbrev pub Q : ℕ
+Q = 17
+
+abbrev pub S : ℕ
+S = 18
 
 -- A call's notes: how many, and the codes in their order. A place that has none is 0. There are four
 -- places: no cell, and no two that act in one call, have more.
