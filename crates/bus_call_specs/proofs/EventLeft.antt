@@ -95,6 +95,7 @@ module _ (k : Kept) (b : Bus) (c : Carries k b) where
         record-is = ap (withHit (Hit.given (takenOver value (k .letters)))) (c .record-is) ∙ rw (taken value h);
         terminals-are = c .terminals-are;
         images-are = c .images-are;
+        cycle-rests = c .cycle-rests;
         reader-is = c .reader-is;
         reader-fits = c .reader-fits;
         images-fit = c .images-fit;
@@ -119,6 +120,7 @@ module _ (k : Kept) (b : Bus) (c : Carries k b) where
           record-is = ap (withNetwork (asked number (k .bus) .network) cleared) (c .record-is) ∙ rw asked-is;
           terminals-are = c .terminals-are;
           images-are = c .images-are;
+          cycle-rests = c .cycle-rests;
           reader-is = rw (asked-is, network-of (c .record-is)) (stands-once (k .bus .reader) (k .octets) (b .reading) (c .reader-is) _ _);
           reader-fits = reader-fits-on _ (k .bus .reader) (c .reader-fits);
           images-fit = c .images-fit;
@@ -177,6 +179,7 @@ module _ (k : Kept) (b : Bus) (c : Carries k b) (unit : ℕ) where
               (λ x h. h)
               (λ x h. rw (station-power x) (has-stepped (imageOf (k .images) i) (terminalDoes number (b .periods)) (does-by-state number (b .periods)) x h))
               (unit - 1) (b .stations) i (f .in-order i, c .images-are i) .1;
+          cycle-rests = c .cycle-rests;
           reader-is = c .reader-is;
           reader-fits = c .reader-fits;
           images-fit = c .images-fit;
@@ -267,6 +270,7 @@ module _ (k : Kept) (b : Bus) (c : Carries k b) (f : Fit b) (unit number : ℕ) 
             (ap (λ (s : Station). set (map (λ (s : Station). s .terminal) (b .stations)) (unit - 1) (s .terminal)) (sym (station-framed (stationOf b unit)))
             ∙ set-changed (stationAfter number value (b .periods)) (unit - 1) (b .stations));
         images-are = frame-bits;
+        cycle-rests = c .cycle-rests;
         reader-is = c .reader-is;
         reader-fits = c .reader-fits;
         images-fit = put-length (unit - 1) value (k .images) is-there here (c .images-fit);

@@ -3,6 +3,7 @@ use mathlib.Core.Bool.{Bool}
 use mathlib.Core.Path.{_≡_, ap}
 use Prim.Native.Nat.{ℕ}
 use Rattle.network.specs.declared.Network.{Network}
+use Rattle.cycle.specs.declared.record.Cycle.{Cycle}
 use Rattle.bus_rules.specs.Bus.{Hit, Bus}
 
 module _ {x y : Bus} (h : x ≡ y) where
@@ -20,3 +21,6 @@ module _ {x y : Bus} (h : x ≡ y) where
 
   pub hit-of : x .hit ≡ y .hit
   hit-of = ap (λ (b : Bus). b .hit) h
+
+  pub cycle-of : x .cycle ≡ y .cycle
+  cycle-of = ap (λ (b : Bus). b .cycle) h

@@ -51,6 +51,7 @@ module _ (k : Kept) (b : Bus) (c : Carries k b) (f : Fit b) where
         periods-fit = rw (periods-of (c .record-is)) (r .periods-fit);
         opportunities-fit = rw (periods-of (c .record-is), opportunities-of (c .record-is)) (r .opportunities-fit);
         reader-fits = c .reader-fits;
+        cycle-rests = c .cycle-rests;
         images-fit = c .images-fit;
         octets-fit = c .octets-fit;
         notes-fit = c .notes-fit;

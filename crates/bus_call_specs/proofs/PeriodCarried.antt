@@ -2,6 +2,7 @@
 -- after it.
 use mathlib.Core.Path.{_≡_, refl, sym, ap, _∙_}
 use mathlib.Core.Bool.{true, false}
+use mathlib.Core.List.{map}
 use Prim.Native.Nat.{ℕ, _+_, _≤_}
 use native.Mathlib.Omega.{arith}
 use lib.Dec.{eqb, leb}
@@ -15,23 +16,25 @@ use Rattle.d_reader.specs.StandsFor.{StandsFor}
 use Rattle.d_reader.specs.Calls as reader
 use Rattle.d_reader.proofs.ReadingKept.{stands-after}
 use Rattle.d_reader.proofs.AnswerLaws.{answers-say, one-speaks}
-use Rattle.bus_rules.specs.Bus.{Bus, freshStation}
+use Rattle.cycle.specs.declared.record.Cycle.{Cycle}
+use Rattle.bus_rules.specs.Bus.{Bus, freshStation, withCycle}
 use Rattle.bus_rules.specs.Exchange.{exchanged, opportunitiesOf, wholeDown}
-use Rattle.bus_rules.specs.Period.{heardBy, timed, saidNotes, periodRun, periodNotes}
+use Rattle.bus_rules.specs.Period.{hearingCodes, heardBy, timed, saidNotes, periodRun, periodNotes}
 use Rattle.bus_rules.specs.Calls as bus
 use Rattle.bus_rules.specs.Calls.Call.{period}
 use Rattle.bus_rules.proofs.OneDone.{exchangedAt}
+use Rattle.bus_rules.proofs.Off.{period-off, told-off, units-off}
 use Rattle.exchange.specs.Part.{imageOf}
 use Rattle.bus_record.specs.NetworkSide.{refusedRun}
 use Rattle.bus_record.specs.declared.side.RunAnswer.{RunAnswer}
 use Rattle.bus_call_specs.specs.Kept.{Kept}
 use Rattle.bus_record.specs.Echo.{hitIn}
-use Rattle.bus_call_specs.specs.Shown.{busIn}
+use Rattle.bus_call_specs.specs.Shown.{recordShown, busIn}
 use Rattle.bus_call_specs.specs.Period.{dRead, leftG3, readerRun, octetsRun, noteOf, bodyOf, answersIn, doneMask, networkNotes, terminalsNotes, periodAnswer, keptRun}
 use Rattle.bus_call_specs.specs.Ready.{runReply, runGoesOn}
 use Rattle.bus_call_specs.specs.Run.{SinglePeriod, answerOn, keptOn, notYet, runAnswer, keptAfter}
 use Rattle.bus_call_specs.specs.Lists.{Carries, called, replied, notesTold, readerTold, periodTold}
-use Rattle.bus_call_specs.proofs.Fields.{periods-of}
+use Rattle.bus_call_specs.proofs.Fields.{periods-of, cycle-of}
 use Rattle.bus_call_specs.proofs.SameExchange.{SameBus, period-same, terminals-same, has-period}
 use Rattle.bus_call_specs.proofs.ReaderCarried.{stands-left, reading-exchanged, said-exchanged, note-said}
 use Rattle.bus_call_specs.proofs.SameNotes.{read-same, left-same, mask-same, network-notes-same, terminals-notes-same, done-notes, hearing-told, timers-told}
@@ -65,13 +68,22 @@ module _ (k : Kept) (b : Bus) (c : Carries k b) (f : Fit b) where
   unfolding octetsRun
   octets-long = rw (read-same (busIn k) b same) (read .1)
 
+  -- ---- no cycle runs
+  no-cycle : busIn k .cycle .running ≡ false
+  unfolding busIn
+  no-cycle = rw (c .cycle-rests)
+
+  none-runs : b .cycle .running ≡ false
+  none-runs = rw (← cycle-of (c .record-is), c .cycle-rests)
+
   -- ---- what it leaves
   pub run-carried : Carries (keptRun k) (periodRun b)
   unfolding keptRun periodAnswer busIn hitIn periodRun timed heardBy
   run-carried =
       let p = period-same (busIn k) b same in
       record {
-        record-is = p .bare-same;
+        record-is = ap (λ (x : Cycle). withCycle x (recordShown (periodAnswer k .bus) (k .letters))) (sym (period-off (busIn k) no-cycle)) ∙ p .bare-same;
+        cycle-rests = c .cycle-rests;
         terminals-are = terminals-same _ _ p;
         images-are = λ i. has-period (imageOf (k .images) i) i b (f .in-order i, c .images-are i) .1;
         reader-is = reader-stands;
@@ -104,6 +116,8 @@ module _ (k : Kept) (b : Bus) (c : Carries k b) (f : Fit b) where
             (λ j. let z : 0 + j ≡ j = omega arith in rw (z, one, two) (done-notes b (f .in-range) j)),
         timers-told (wholeDown (exchanged b)) (b .periods) (exchanged b .senders),
         n,
+        told-off b none-runs 0,
+        units-off _ (told-off b none-runs) (b .periods) 1 (map (hearingCodes (wholeDown (exchanged b)) (b .periods)) (exchanged b .senders)),
       )
 
   pub run-told : periodTold (k .bus .periods .0) (periodAnswer k) (keptRun k .notes) (keptRun k .octets) ≡ periodNotes b

@@ -56,6 +56,7 @@ order-kept k o e =
       periods-fit = p .periods-fit;
       opportunities-fit = p .opportunities-fit;
       reader-fits = reader-run k (o .reader-fits);
+      cycle-rests = o .cycle-rests;
       images-fit = o .images-fit;
       octets-fit = rw (length-octets (dRead (busIn k)) (k .bus .reader) (k .octets)) (o .octets-fit);
       notes-fit = length-notes (busIn k) ∙ r .eight;

@@ -3,7 +3,7 @@
 use mathlib.Core.Path.{_≡_, refl, _∙_, ap}
 use mathlib.Core.Bool.{Bool, true, cond}
 use mathlib.Core.List.{List, map}
-use Prim.Native.Nat.{ℕ, _+_, _≤_, _<_}
+use Prim.Native.Nat.{ℕ, suc, _+_, _≤_, _<_}
 use native.Mathlib.Omega.{arith}
 use lib.Dec.{eqb}
 use lib.ListN.{length, getD}
@@ -22,13 +22,13 @@ use Rattle.terminal.specs.Terminal as terminal
 use Rattle.terminal.specs.declared.Terminal.{Terminal}
 use Rattle.terminal.specs.declared.TerminalStep.{TerminalStep}
 use Rattle.terminal.proofs.Laws.{AccessByState, hears-access, timer-access}
-use Rattle.bus_rules.specs.Bus.{Station, Hit, Bus, stationAt, withCounts, withNetwork, withHeardD, withHit}
-use Rattle.bus_rules.specs.Exchange.{Sender, Opportunity, inF7, accessStepOf, stationAfterE, dOf, doneOf, hearsE, sentOf, lineUp, eComes, sendersAfter, dComes, onward, asSender, begins, opportunitiesOf, exchanged, wholeDown, wholeUp}
-use Rattle.bus_rules.specs.Period.{networkHears, terminalHears, stepped, heardBy, timed, periodRun}
+use Rattle.bus_rules.specs.Bus.{Station, Hit, Bus, stationAt, withCounts, withNetwork, withHeardD, withHit, withCycle}
+use Rattle.bus_rules.specs.Exchange.{Sender, Opportunity, inF7, accessStepOf, stationAfterE, dOf, doneOf, hearsE, sentOf, lineUp, eComes, sendersAfter, dComes, onward, asSender, begins, opportunitiesOf, exchanged, stationsOf, wholeDown, faDown, faSent, sentFrom, wholeUp}
+use Rattle.bus_rules.specs.Period.{networkHears, terminalHears, stepped, f7Of, cycleAfter, heardBy, timed, periodRun}
 use Rattle.bus_rules.proofs.Stations.{station-begins, station-onward, station-heard, station-timed}
 use Rattle.bus_call_specs.specs.Shown.{bare}
-use Rattle.bus_call_specs.proofs.Fields.{periods-of, opportunities-of, network-of, heard-of, hit-of}
-use Rattle.bus_call_specs.proofs.Pairs.{Both, both-map, both-equal}
+use Rattle.bus_call_specs.proofs.Fields.{periods-of, opportunities-of, network-of, heard-of, hit-of, cycle-of}
+use Rattle.bus_call_specs.proofs.Pairs.{Both, none, one, both-map, both-equal}
 
 -- ---- the frame held
 
@@ -160,14 +160,26 @@ sender-sends : (s t : Sender) → SameSender s t → sentOf s ≡ sentOf t
 unfolding sentOf
 sender-sends s t h = rw (h .station .terminal-is, h .ds-are)
 
+-- what all send, each with its FA
+sent-same : (f g : ℕ → Bool) → ((i : ℕ) → f i ≡ g i) → {ss ts : List Sender} → Both SameSender ss ts → (i : ℕ) → sentFrom f i ss ≡ sentFrom g i ts
+unfolding sentFrom
+sent-same f g e none i = refl
+sent-same f g e (one h more) i = rw (e i, h .station .terminal-is, h .ds-are, sent-same f g e more (suc i))
+
 line-up-same : {ss ts : List Sender} → Both SameSender ss ts → lineUp ss ≡ lineUp ts
 unfolding lineUp
 line-up-same h = rw (both-equal SameSender sentOf sentOf sender-sends h)
+
+f7-of-same : {ss ts : List Sender} → Both SameSender ss ts → f7Of (stationsOf ss) ≡ f7Of (stationsOf ts)
+unfolding f7Of
+f7-of-same none = refl
+f7-of-same (one h more) = rw (h .station .terminal-is, f7-of-same more)
 
 -- ---- the exchange as an E comes
 pub record SameOpportunity (m n : Opportunity) : Type 0 where
   pub network-is : m .network ≡ n .network
   pub hit-is : m .hit ≡ n .hit
+  pub cycle-is : m .cycle ≡ n .cycle
   pub senders : Both SameSender (m .senders) (n .senders)
   pub es-are : m .es ≡ n .es
   pub heard-is : m .heardD ≡ n .heardD
@@ -175,7 +187,7 @@ pub record SameOpportunity (m n : Opportunity) : Type 0 where
 module _ (m n : Opportunity) (h : SameOpportunity m n) where
   e-same : eComes m ≡ eComes n
   unfolding eComes
-  e-same = rw (h .network-is, h .hit-is, h .es-are, h .heard-is)
+  e-same = rw (h .network-is, h .hit-is, h .cycle-is, h .es-are, h .heard-is)
 
   after-same : Both SameSender (sendersAfter m) (sendersAfter n)
   unfolding sendersAfter
@@ -191,6 +203,7 @@ module _ (m n : Opportunity) (h : SameOpportunity m n) where
       record {
         network-is = h .network-is;
         hit-is = h .hit-is;
+        cycle-is = h .cycle-is;
         senders = after-same;
         es-are = rw (h .es-are, h .heard-is);
         heard-is = d-same;
@@ -198,11 +211,22 @@ module _ (m n : Opportunity) (h : SameOpportunity m n) where
 
   pub down-same : wholeDown m ≡ wholeDown n
   unfolding wholeDown
-  down-same = rw (h .network-is, h .hit-is, h .es-are)
+  down-same = rw (h .network-is, h .hit-is, h .cycle-is, h .es-are)
+
+  fa-same : (i : ℕ) → faSent m i ≡ faSent n i
+  unfolding faSent faDown
+  fa-same i = rw (down-same, h .cycle-is)
 
   up-same : wholeUp m ≡ wholeUp n
   unfolding wholeUp
-  up-same = line-up-same (h .senders)
+  up-same = rw (sent-same (faSent m) (faSent n) fa-same (h .senders) 0)
+
+  f7-same-all : f7Of (stationsOf (m .senders)) ≡ f7Of (stationsOf (n .senders))
+  f7-same-all = f7-of-same (h .senders)
+
+  cycle-after-same : cycleAfter m ≡ cycleAfter n
+  unfolding cycleAfter
+  cycle-after-same = rw (up-same, down-same, h .network-is, f7-same-all, h .cycle-is)
 
 -- ---- two buses that differ only there
 pub record SameBus (b c : Bus) : Type 0 where
@@ -229,6 +253,7 @@ module _ (b c : Bus) (h : SameBus b c) where
       record {
         network-is = rw network-same;
         hit-is = hit-of (h .bare-same);
+        cycle-is = rw (cycle-of (h .bare-same));
         senders = both-map SameStation SameSender asSender asSender sender-stationed (h .stations);
         es-are = refl;
         heard-is = heard-of (h .bare-same);
@@ -263,8 +288,8 @@ module _ (b c : Bus) (h : SameBus b c) where
       let step = terminalHears (wholeDown (exchanged c)) (c .periods) in
       record {
         bare-same =
-            ap (λ (x : Bus). withCounts (b .periods + 1) (b .opportunities + cond (eqb (b .network .state) G3) 4 0) (withNetwork (networkHears (wholeUp (exchanged b)) (b .periods) (b .network) .network) cleared (withHeardD (exchanged b .heardD) (withHit Hit.none x)))) (h .bare-same)
-            ∙ rw (network-hears-same, exchanged-same .heard-is, network-same, periods-same, opportunities-of (h .bare-same));
+            ap (λ (x : Bus). withCounts (b .periods + 1) (b .opportunities + cond (eqb (b .network .state) G3) 4 0) (withNetwork (networkHears (wholeUp (exchanged b)) (b .periods) (b .network) .network) cleared (withHeardD (exchanged b .heardD) (withHit Hit.none (withCycle (cycleAfter (exchanged b)) x))))) (h .bare-same)
+            ∙ rw (cycle-after-same _ _ exchanged-same, network-hears-same, exchanged-same .heard-is, network-same, periods-same, opportunities-of (h .bare-same));
         stations =
             rw (down-same _ _ exchanged-same, periods-same)
             (both-map SameStation SameStation (stepped step) (stepped step) (station-stepped step (hears-by-state _ _))

@@ -10,6 +10,7 @@ use Rattle.test_lemmas.proofs.ByCases.{by-test}
 use Rattle.symbols.specs.Symbols.{isLine}
 use Rattle.frame.specs.Four.{filledWithOnes}
 use Rattle.frame.specs.declared.fields.Four.{Four}
+use Rattle.info.specs.Info.{unset}
 use Rattle.info.proofs.Laws.{line-info0, line-info2, line-info4}
 use Rattle.notes_and_cells.specs.Cells.{infoIn}
 use Rattle.table_6_3.specs.Table63.{G3}
@@ -25,12 +26,13 @@ use Rattle.network.specs.Network as network
 use Rattle.terminal.specs.declared.Terminal.{Terminal}
 use Rattle.d_reader.specs.Calls as reader
 use Rattle.bus_rules.specs.Bus.{Bus}
-use Rattle.bus_rules.specs.Exchange.{Sender, Opportunity as Lines, stationsOf, anyInfo1, anyInfo3, dComes, sendersAfter, eComes, onward, begins, opportunitiesOf, exchanged, sentDown, lineDown, lineUp, wholeDown, wholeUp}
+use Rattle.bus_rules.specs.Exchange.{Sender, Opportunity as Lines, stationsOf, anyInfo1, anyInfo3, dComes, sendersAfter, eComes, onward, begins, opportunitiesOf, exchanged, sentDown, lineDown, wholeDown, wholeUp}
 use Rattle.bus_rules.specs.Period.{networkHears, terminalHears, heardBy, timed, periodRun}
 use Rattle.bus_rules.specs.Quick.{shownFrom}
 use Rattle.bus_rules.specs.Stretch.{stationThen}
 use Rattle.bus_rules.specs.Ranges.{InRange}
 use Rattle.bus_rules.proofs.Quick.{info1-hears, info3-hears, up-shown, down-shown}
+use Rattle.bus_rules.proofs.Off.{still-off, line-off}
 use Rattle.bus_rules.proofs.Stations.{stations-stationed}
 use Rattle.bus_rules.proofs.Ranges.{PeriodCalled, exchanged-in, period-called}
 use Rattle.exchange.specs.Opportunities.{tallyAfterFour}
@@ -54,29 +56,25 @@ use Rattle.bus_call_specs.proofs.ReadFour.{read-in, octets-in}
 use Rattle.bus_call_specs.proofs.InOrder.{InOrder, in-order, one-left, all-fit, bus-in-range}
 
 -- ---- What the terminals hear.
-line-sent : (state : ℕ) (es : Four) → isLine (sentDown state es) ≡ true
+line-sent : (state : ℕ) (es : Four) → isLine (sentDown unset state es) ≡ true
 unfolding sentDown
 line-sent state es =
     by-test (eqb (infoIn Table63.infoSent state) 4)
-    (λ t. rw t (line-info4 es))
-    (λ t. by-test (eqb (infoIn Table63.infoSent state) 2) (λ u. rw (t, u) line-info2) (λ u. rw (t, u) line-info0))
+    (λ t. rw t (line-info4 unset es))
+    (λ t. by-test (eqb (infoIn Table63.infoSent state) 2) (λ u. rw (t, u) (line-info2 unset)) (λ u. rw (t, u) line-info0))
 
 heard-down : (bus : BusRecord) (ds : Four) (es : List Bool) (letters : List ℕ) → areLetters letters ≡ true → sentEs bus ds ≡ filledWithOnes es →
-    heardDown bus ds letters ≡ shownDown (lineDown (bus .network .state) (hitIn (bus .hit) letters) es)
+    heardDown bus ds letters ≡ shownDown (lineDown unset (bus .network .state) (hitIn (bus .hit) letters) es)
 unfolding heardDown lineDown hitIn
 heard-down bus ds es letters fit sent =
     by-test (bus .hit)
     (λ t. rw (t, sent, line-sent (bus .network .state) (filledWithOnes es), fit))
-    (λ t. rw t (sym (down-shown (bus .network .state) (filledWithOnes es))))
+    (λ t. rw t (sym (down-shown unset (bus .network .state) (filledWithOnes es))))
 
 -- the E that are sent: the D heard before each
 es-sent : (bus : BusRecord) (b : Bus) → bus .echo ≡ b .heardD → sentEs bus (filledWithOnes (map dComes (opportunitiesOf b))) ≡ filledWithOnes (exchanged b .es)
 unfolding filledWithOnes opportunitiesOf exchanged onward begins
 es-sent bus b e = rw e
-
-down-is : (b : Bus) → wholeDown (exchanged b) ≡ lineDown (b .network .state) (b .hit) (exchanged b .es)
-unfolding wholeDown exchanged onward begins
-down-is b = refl
 
 -- ---- Whether they have a note.
 told-noted : (line : Downward) (now : Periods) (i : ℕ) (told : Bool) (ts : List Terminal) →
@@ -93,15 +91,36 @@ notes-of down now [] = refl
 notes-of down now (s ∷ ss) = rw (notes-of down now ss)
 
 -- ---- What the network end hears: the states do not change in the exchange.
-up-onward : (m : Lines) → shownUp (lineUp (onward m .senders)) ≡ shownUp (lineUp (m .senders))
+info1-onward : (m : Lines) → anyInfo1 (stationsOf (onward m .senders)) ≡ anyInfo1 (stationsOf (m .senders))
 unfolding onward sendersAfter
-up-onward m = up-shown (onward m .senders) ∙ rw (info1-hears (eComes m) (m .senders), info3-hears (eComes m) (m .senders)) (sym (up-shown (m .senders)))
+info1-onward m = info1-hears (eComes m) (m .senders)
 
-up-is : (b : Bus) → shownUp (wholeUp (exchanged b)) ≡ shownFrom (anyInfo1 (b .stations)) (anyInfo3 (b .stations))
-unfolding wholeUp exchanged begins
-up-is b =
-    up-onward (onward (onward (onward (begins b)))) ∙ up-onward (onward (onward (begins b))) ∙ up-onward (onward (begins b)) ∙ up-onward (begins b)
-    ∙ up-shown (begins b .senders) ∙ rw (stations-stationed (b .stations))
+info3-onward : (m : Lines) → anyInfo3 (stationsOf (onward m .senders)) ≡ anyInfo3 (stationsOf (m .senders))
+unfolding onward sendersAfter
+info3-onward m = info3-hears (eComes m) (m .senders)
+
+begins-stations : (b : Bus) → stationsOf (begins b .senders) ≡ b .stations
+unfolding begins
+begins-stations b = stations-stationed (b .stations)
+
+up-is : (b : Bus) → b .cycle .running ≡ false → shownUp (wholeUp (exchanged b)) ≡ shownFrom (anyInfo1 (b .stations)) (anyInfo3 (b .stations))
+unfolding exchanged
+up-is b h =
+    let one = begins b in
+    let two = onward one in
+    let three = onward two in
+    up-shown (exchanged b) (still-off b h)
+    ∙ rw (
+      info1-onward (onward three),
+      info1-onward three,
+      info1-onward two,
+      info1-onward one,
+      info3-onward (onward three),
+      info3-onward three,
+      info3-onward two,
+      info3-onward one,
+      begins-stations b,
+    )
 
 -- ---- Whether there is a note, in the two orders.
 two-orders : (h i t s a b : Bool) → (((((t || s) || a) || b) || h) || i) ≡ (((((h || i) || t) || s) || a) || b)
@@ -122,6 +141,11 @@ module _ (k : Kept) (o : InOrder k) (l : k .bus .periods .0 < mostPeriods) where
 
   in-range : InRange b
   in-range = bus-in-range k o
+
+  -- no cycle runs
+  no-cycle : b .cycle .running ≡ false
+  unfolding busIn
+  no-cycle = rw (o .cycle-rests)
 
   -- the exchange
   shown : Exchanges (k .images) b (k .terminals)
@@ -151,7 +175,7 @@ module _ (k : Kept) (o : InOrder k) (l : k .bus .periods .0 < mostPeriods) where
   line-is : stepLine (k .bus) (k .terminals) (k .images) (k .letters) ≡ shownDown down
   unfolding stepLine busIn
   line-is =
-      rw (tally-is, shown .ds, down-is b)
+      rw (tally-is, shown .ds, line-off b no-cycle)
       (heard-down (k .bus) (filledWithOnes (map dComes (opportunitiesOf b))) (exchanged b .es) (k .letters) (o .letters-fit) (es-sent (k .bus) b refl))
 
   terminals-are : stepTerminals (k .bus) (k .terminals) (k .images) (k .letters) ≡ keptRun k .terminals
@@ -196,7 +220,7 @@ module _ (k : Kept) (o : InOrder k) (l : k .bus .periods .0 < mostPeriods) where
 
   hears-is : side.hearingStep line-up (k .bus .periods) (k .bus .network) ≡ networkHears (wholeUp (exchanged b)) now (b .network)
   unfolding side.hearingStep busIn
-  hears-is = rw (shown .info1, shown .info3, ← up-is b) (called .network-hears)
+  hears-is = rw (shown .info1, shown .info3, ← up-is b no-cycle) (called .network-hears)
 
   timers-is : side.timerStep line-up (k .bus .periods) (k .bus .network) ≡ network.timers (now + 1) (heardBy (exchanged b) b .network)
   unfolding side.timerStep heardBy busIn

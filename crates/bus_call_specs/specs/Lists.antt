@@ -16,13 +16,14 @@ use Rattle.dchannel.specs.Ranges.{accessInRange}
 use Rattle.hdlc.specs.Bits.{bitOf}
 use Rattle.hdlc.specs.Image.{longestBody}
 use Rattle.timing.specs.Counts.{mostPeriods}
+use Rattle.cycle.specs.Cycle as cycle
 use Rattle.terminal.specs.Terminal as terminal
 use Rattle.terminal.specs.Calls as terminalCalls
 use Rattle.terminal.specs.declared.Terminal.{Terminal}
 use Rattle.d_reader.specs.ReaderRange.{readerInRange}
 use Rattle.d_reader.specs.StandsFor.{StandsFor}
 use Rattle.bus_rules.specs.Bus.{Station, Bus, Note, terminals, freshBus, notesOf, stationAt}
-use Rattle.bus_rules.specs.Order.{ByUnit, dFirst, unitByUnit, periodInOrder}
+use Rattle.bus_rules.specs.Order.{ByUnit, dFirst, noCycle, unitByUnit, periodInOrder}
 use Rattle.bus_rules.specs.Calls as rules
 use Rattle.bus_rules.specs.Calls.{Call, reply, notes, after, notesOfAll}
 use Rattle.bus_rules.specs.Calls.Call.{event, period}
@@ -80,23 +81,24 @@ terminalsHeard r i (n ∷ ns) =
 abbrev pub terminalsTimed : List UnitNotes → List (List ℕ)
 terminalsTimed ns = map (λ (n : UnitNotes). noted (n .timers)) ns
 
--- the two parts of a period's notes, by who notes them: what is heard, and what comes of the timers
+-- the two parts of a period's notes, by who notes them: what is heard, and what comes of the timers;
+-- no cycle runs, so that none ends
 abbrev pub heardTold : ℕ → RunAnswer → List UnitNotes → List ℕ → ByUnit
 heardTold now r ns octets =
-    record { reader = readerTold now r octets; network = noted (r .network .hearing); terminals = terminalsHeard r 0 ns }
+    record { reader = readerTold now r octets; network = noted (r .network .hearing); terminals = terminalsHeard r 0 ns; cycle = noCycle }
 
 abbrev pub timedTold : UnitNotes → List UnitNotes → ByUnit
-timedTold network ns = record { reader = []; network = noted (network .timers); terminals = terminalsTimed ns }
+timedTold network ns = record { reader = []; network = noted (network .timers); terminals = terminalsTimed ns; cycle = noCycle }
 
 unfoldable pub periodTold : ℕ → RunAnswer → List UnitNotes → List ℕ → List Note
 periodTold now r ns octets = periodInOrder now (heardTold now r ns octets) (timedTold (r .network) ns)
 
 -- the notes of the terminals alone, from index i on: their hearing, and their timers
 abbrev pub terminalsTold : ℕ → RunAnswer → ℕ → List UnitNotes → List Note
-terminalsTold now r i ns = unitByUnit now (suc i) (terminalsHeard r i ns)
+terminalsTold now r i ns = unitByUnit now (suc i) noCycle (terminalsHeard r i ns)
 
 abbrev pub timersTold : ℕ → ℕ → List UnitNotes → List Note
-timersTold now i ns = unitByUnit now (suc i) (terminalsTimed ns)
+timersTold now i ns = unitByUnit now (suc i) noCycle (terminalsTimed ns)
 
 unfoldable pub notesTold : Kept → Call → List Note
 notesTold k (event unit number value) =
@@ -108,6 +110,8 @@ notesTold k period =
 pub record Carries (k : Kept) (b : Bus) : Type 0 where
   -- every field of the bus but its reader and its terminals
   pub record-is : recordShown (k .bus) (k .letters) ≡ bare b
+  -- the cycle of Q and S bits rests: these calls neither start one nor run one
+  pub cycle-rests : k .bus .cycle ≡ cycle.fresh
   pub terminals-are : k .terminals ≡ map (λ (s : Station). s .terminal) (b .stations)
   -- the octets of a held frame's image have its bits
   pub images-are : (i j : ℕ) → 1 ≤ stationAt i b .terminal .access .held → j < stationAt i b .terminal .access .length

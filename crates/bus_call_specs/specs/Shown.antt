@@ -21,6 +21,7 @@ recordShown r letters =
       reading = cleared;
       heardD = r .echo;
       hit = hitIn (r .hit) letters;
+      cycle = r .cycle;
       stations = [];
     }
 

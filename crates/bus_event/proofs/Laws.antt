@@ -14,6 +14,7 @@ use Rattle.hdlc.proofs.ImageLaws.{image-most}
 use Rattle.timing.specs.Calls.{periodsInRange, opportunitiesInRange}
 use Rattle.network.specs.Calls.{networkInRange}
 use Rattle.network.proofs.RangesKept as network
+use Rattle.cycle.specs.Rest.{rests}
 use Rattle.d_reader.specs.ReaderRange.{readerInRange}
 use Rattle.d_reader.proofs.RangesKept as reader
 use Rattle.table_6_3.specs.Table63 as Table63
@@ -72,7 +73,8 @@ pub event-record-kept : EventRecordKept
 unfolding networkTold networkAsked asked told recordInRange
 event-record-kept event r h =
     let others : Bool = (networkInRange (r .network) && periodsInRange (r .periods)) && opportunitiesInRange (r .periods) (r .opportunities) in
-    let most = and-left others (readerInRange (r .reader)) h in
+    let parts = and-left (others && readerInRange (r .reader)) (rests (r .cycle)) h in
+    let most = and-left others (readerInRange (r .reader)) parts in
     let counts = and-left (networkInRange (r .network) && periodsInRange (r .periods)) (opportunitiesInRange (r .periods) (r .opportunities)) most in
     by-test (eqb event HIT)
     (λ t. rw t h)
@@ -81,8 +83,9 @@ event-record-kept event r h =
       network.requested-in-range (r .periods) (r .network) (and-left (networkInRange (r .network)) (periodsInRange (r .periods)) counts) (cond (eqb event AR) Table63.AR-ROW Table63.DR-ROW),
       and-right (networkInRange (r .network)) (periodsInRange (r .periods)) counts,
       and-right (networkInRange (r .network) && periodsInRange (r .periods)) (opportunitiesInRange (r .periods) (r .opportunities)) most,
+      reader-kept _ r (and-right others (readerInRange (r .reader)) parts),
     )
-    (reader-kept _ r (and-right others (readerInRange (r .reader)) h)))
+    (and-right (others && readerInRange (r .reader)) (rests (r .cycle)) h))
 
 frame-kept : (class : Class) (images : List ℕ) (i : ℕ) (body : List ℕ) (t : Terminal) → terminalInRange t ≡ true → terminalInRange (frameGiven class images i body t .terminal) ≡ true
 unfolding frameGiven

@@ -13,7 +13,7 @@ use Rattle.symbols.proofs.Lines.{line-small, line-by}
 use Rattle.symbols.proofs.Written.{left-written}
 use Rattle.frame.specs.declared.fields.Four.{Four}
 use Rattle.frame.proofs.Frames.{down-line}
-use Rattle.info.specs.Info.{info2Fields, info4Fields}
+use Rattle.info.specs.Info.{unset, info2Fields, info4Fields}
 use Rattle.combining.specs.Hit.{keepLetter, plusLetter, minusLetter, struck, hit}
 use Rattle.combining.specs.Calls.{hitFits}
 use Rattle.notes_and_cells.specs.Cells.{infoIn}
@@ -28,12 +28,12 @@ use Rattle.bus_record.specs.Echo.{builtDown, sentEs, heardDown}
 use Rattle.bus_record.specs.declared.record.BusRecord.{BusRecord}
 
 -- INFO 0, 2 and 4 are lines
-line-for : (state : ℕ) (es : Four) → isLine (sentDown state es) ≡ true
+line-for : (state : ℕ) (es : Four) → isLine (sentDown unset state es) ≡ true
 unfolding sentDown tabulate
 line-for state es =
     by-test (eqb (infoIn infoSent state) 4)
-    (λ t. simp t (down-line (info4Fields es)))
-    (λ t. by-test (eqb (infoIn infoSent state) 2) (λ u. simp (t, u) (down-line info2Fields)) (λ u. simp (t, u) (line-by (λ i. none) (λ i. omega arith))))
+    (λ t. simp t (down-line (info4Fields unset es)))
+    (λ t. by-test (eqb (infoIn infoSent state) 2) (λ u. simp (t, u) (down-line (info2Fields unset))) (λ u. simp (t, u) (line-by (λ i. none) (λ i. omega arith))))
 
 struck-small : (letter s : ℕ) → s ≤ minus → struck letter s ≤ minus
 struck-small letter s h =
@@ -56,7 +56,7 @@ pub heard-under : (bus : BusRecord) (ds : Four) (letters start built after : Lis
     → sensedDown after ≡ SensedDown.Line (heardDown bus ds letters)
 unfolding sensedDown heardDown builtDown
 heard-under bus ds letters start built after struck long b a =
-    let l : List ℕ = sentDown (bus .network .state) (sentEs bus ds) in
+    let l : List ℕ = sentDown unset (bus .network .state) (sentEs bus ds) in
     let is : built ≡ l = left-written l start long b in
     let e : after ≡ leaves (hitFits letters l) (hit letters l) l = rw is at a in
     rw e (simp (struck-line letters l (line-for (bus .network .state) (sentEs bus ds)), struck))

@@ -15,6 +15,8 @@ use Rattle.heard_line.specs.declared.heard.Upward.{Upward}
 use Rattle.network.specs.Calls.{networkInRange, hearCall}
 use Rattle.network.specs.declared.Network.{Network}
 use Rattle.network.proofs.RangesKept.{timer-due-in-range, heard-in-range}
+use Rattle.symbols.specs.Symbols.{sameSymbols}
+use Rattle.cycle.specs.Rest.{rests}
 use Rattle.d_reader.specs.Counters.{readBit}
 use Rattle.d_reader.specs.ReaderRange.{readerInRange}
 use Rattle.d_reader.specs.declared.Reader.{Reader}
@@ -36,6 +38,7 @@ pub record RecordFits (bus : BusRecord) : Type 0 where
   pub periods-fit : periodsInRange (bus .periods) ≡ true
   pub opportunities-fit : opportunitiesInRange (bus .periods) (bus .opportunities) ≡ true
   pub reader-fits : readerInRange (bus .reader) ≡ true
+  pub cycle-rests : rests (bus .cycle) ≡ true
 
 pub record-fits : (bus : BusRecord) → recordInRange bus ≡ true → RecordFits bus
 unfolding recordInRange
@@ -43,18 +46,21 @@ record-fits bus h =
     let n : Bool = networkInRange (bus .network) in
     let p : Bool = periodsInRange (bus .periods) in
     let o : Bool = opportunitiesInRange (bus .periods) (bus .opportunities) in
-    let a : ((n && p) && o) ≡ true = and-left ((n && p) && o) (readerInRange (bus .reader)) h in
+    let d : Bool = readerInRange (bus .reader) in
+    let f : (((n && p) && o) && d) ≡ true = and-left (((n && p) && o) && d) (rests (bus .cycle)) h in
+    let a : ((n && p) && o) ≡ true = and-left ((n && p) && o) d f in
     let b : (n && p) ≡ true = and-left (n && p) o a in
     record {
       network-fits = and-left n p b;
       periods-fit = and-right n p b;
       opportunities-fit = and-right (n && p) o a;
-      reader-fits = and-right ((n && p) && o) (readerInRange (bus .reader)) h;
+      reader-fits = and-right ((n && p) && o) d f;
+      cycle-rests = and-right (((n && p) && o) && d) (rests (bus .cycle)) h;
     }
 
 pub fits-record : (bus : BusRecord) → RecordFits bus → recordInRange bus ≡ true
 unfolding recordInRange
-fits-record bus f = simp (f .network-fits, f .periods-fit, f .opportunities-fit, f .reader-fits)
+fits-record bus f = simp (f .network-fits, f .periods-fit, f .opportunities-fit, f .reader-fits, f .cycle-rests)
 
 -- ---- The reader.
 said-reader : (x : ReaderAnswer) (r : Reader) (s : Spoken) → saidWith x r s .reader ≡ r
@@ -96,7 +102,7 @@ counted-fits state p o r h =
     by-test (eqb state G3) (λ t. rw t (four-more-in-range p o r h)) (λ t. rw t (none-more-in-range p o r h))
 
 pub fresh-in-range : FreshInRange
-unfolding recordInRange networkInRange readerInRange
+unfolding recordInRange networkInRange readerInRange rests sameSymbols
 fresh-in-range = refl
 
 pub period-keeps : PeriodKeeps
@@ -108,4 +114,5 @@ period-keeps bus m buf told h r =
       periods-fit = next-in-range (bus .periods) (f .periods-fit);
       opportunities-fit = counted-fits (bus .network .state) (bus .periods) (bus .opportunities) r (f .opportunities-fit);
       reader-fits = reader-after-fits _ _ (read-fits (bus .network .state) (m .ds) buf (bus .reader) (f .reader-fits));
+      cycle-rests = f .cycle-rests;
     })

@@ -1,9 +1,12 @@
--- Calls: the bus record (document 01, "Order inside a period" and "D access (6.1)").
+-- Calls: the bus record (document 01, "Order inside a period" and "D access (6.1)"; document 02,
+-- 2.1, for the cycle of Q and S bits).
 -- Interface: every name. Assumes nothing.
 use mathlib.Core.Bool.{Bool, true, false, _&&_}
 use Rattle.timing.specs.Calls.{atPeriod, periodsInRange, opportunitiesInRange}
 use Rattle.network.specs.Calls.{networkInRange}
 use Rattle.network.specs.Network as network
+use Rattle.cycle.specs.Cycle as cycle
+use Rattle.cycle.specs.Rest.{rests}
 use Rattle.d_reader.specs.Counters.{freshReader}
 use Rattle.d_reader.specs.ReaderRange.{readerInRange}
 use Rattle.timing.specs.declared.counts.Periods.{Periods}
@@ -20,6 +23,7 @@ freshRecord =
       periods = atPeriod 0;
       opportunities = record { 0 = 0 };
       reader = freshReader;
+      cycle = cycle.fresh;
       echo = true;
       hit = false;
     }
@@ -29,7 +33,15 @@ freshRecord =
 -- fields.
 abbrev pub withFields : Network → Periods → Opportunities → Reader → Bool → Bool → BusRecord → BusRecord
 withFields network periods opportunities reader echo hit r =
-    record { network = network; periods = periods; opportunities = opportunities; reader = reader; echo = echo; hit = hit }
+    record {
+      network = network;
+      periods = periods;
+      opportunities = opportunities;
+      reader = reader;
+      cycle = r .cycle;
+      echo = echo;
+      hit = hit;
+    }
 
 -- Other periods and D opportunities run; another network end, with its reader; another last D;
 -- whether a hit is pending.
@@ -45,8 +57,10 @@ withEcho echo r = withFields (r .network) (r .periods) (r .opportunities) (r .re
 abbrev pub withHit : Bool → BusRecord → BusRecord
 withHit hit r = withFields (r .network) (r .periods) (r .opportunities) (r .reader) (r .echo) hit r
 
--- Refusal 1: "A field of the bus record lies outside its range".
+-- Refusal 1: "A field of the bus record lies outside its range". While no call starts the cycle, a
+-- cycle that does not rest is out of its range.
 unfoldable pub recordInRange : BusRecord → Bool
 recordInRange r =
-    ((networkInRange (r .network) && periodsInRange (r .periods)) && opportunitiesInRange (r .periods) (r .opportunities))
-    && readerInRange (r .reader)
+    (((networkInRange (r .network) && periodsInRange (r .periods)) && opportunitiesInRange (r .periods) (r .opportunities))
+    && readerInRange (r .reader))
+    && rests (r .cycle)

@@ -1,6 +1,7 @@
 // The bus record.
 ghost use mathlib.Core.Path.{_≡_};
 ghost use Rattle.bus_record.specs.Record as spec;
+use cycle::record::Cycle;
 use d_reader::Reader;
 use network::Network;
 use timing::counts::Opportunities;
@@ -12,6 +13,8 @@ pub struct BusRecord {
     pub periods: Periods,
     pub opportunities: Opportunities,
     pub reader: Reader,
+    // The cycle of Q and S bits: nothing starts it yet.
+    pub cycle: Cycle,
     // The last combined D that the network end heard, which the next E echoes.
     pub echo: bool,
     // Whether a hit is given for the coming exchange; its letters are lent.
@@ -28,6 +31,7 @@ impl BusRecord {
             periods: Periods(0),
             opportunities: Opportunities(0),
             reader: Reader::fresh(),
+            cycle: Cycle::fresh(),
             echo: true,
             hit: false,
         }
@@ -79,6 +83,7 @@ impl BusRecord {
         let periods = self.periods.in_range();
         let opportunities = self.opportunities.in_range(self.periods);
         let reader = self.reader.in_range();
-        network & periods & opportunities & reader
+        let cycle = self.cycle.rests();
+        network & periods & opportunities & reader & cycle
     }
 }

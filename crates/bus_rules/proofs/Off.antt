@@ -19,6 +19,7 @@ use Rattle.notes_and_cells.specs.Events.{HIT}
 use Rattle.table_6_2.specs.Table62 as Table62
 use Rattle.bus_rules.specs.Bus.{Hit, Bus, Note}
 use Rattle.bus_rules.specs.Exchange.{Sender, Opportunity, struckBy, sentDown, sentUp, lineDown, onward, begins, exchanged, wholeDown, faSent, faDown, sentFrom, wholeUp}
+use Rattle.bus_rules.specs.Order.{noCycle, unitByUnit}
 use Rattle.bus_rules.specs.CycleNotes.{qNotes, sNotes, cycleNotes}
 use Rattle.bus_rules.specs.Period.{cycleAfter, heardBy, timed, periodRun}
 use Rattle.bus_rules.specs.Event.{networkDone, hitGiven, stationDone, eventDone}
@@ -81,6 +82,10 @@ down-off : (m : Opportunity) → m .cycle .running ≡ false → wholeDown m ≡
 unfolding wholeDown lineDown sentDown
 down-off m h = rw (bits-off (m .cycle) h)
 
+pub line-off : (b : Bus) → b .cycle .running ≡ false → wholeDown (exchanged b) ≡ lineDown unset (b .network .state) (b .hit) (exchanged b .es)
+unfolding wholeDown exchanged onward begins
+line-off b h = rw (bits-off (exchanged b .cycle) (still-off b h))
+
 sent-off : (fas : ℕ → Bool) → ((i : ℕ) → fas i ≡ false) → (i : ℕ) (ss : List Sender) → map sentLine (sentFrom fas i ss) ≡ map upOff ss
 unfolding sentFrom sentUp
 sent-off fas h i [] = refl
@@ -102,6 +107,12 @@ untold now unit c h =
 
 pub told-off : (b : Bus) → b .cycle .running ≡ false → (unit : ℕ) → cycleNotes (b .periods) (cycleAfter (exchanged b)) unit ≡ []
 told-off b h unit = rw (after-off b h) (untold (b .periods) unit (b .cycle) h)
+
+pub units-off : (cycle : ℕ → List Note) → ((unit : ℕ) → cycle unit ≡ []) → (now unit : ℕ) (codes : List (List ℕ))
+    → unitByUnit now unit cycle codes ≡ unitByUnit now unit noCycle codes
+unfolding unitByUnit
+units-off cycle h now unit [] = refl
+units-off cycle h now unit (cs ∷ more) = rw (h unit, units-off cycle h now (suc unit) more)
 
 pub off-lines : off.OffLines
 unfolding exchanged onward begins

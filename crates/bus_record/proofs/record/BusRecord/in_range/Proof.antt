@@ -16,9 +16,14 @@ in-range-requires-3 c κs = search needs
 in-range-requires-4 : tie.Need-in-range-requires-4
 in-range-requires-4 c κs = search needs
 
+rests-requires : tie.Need-rests-requires
+rests-requires c κs = search needs
+
 returns : tie.Need-returns
 unfolding recordInRange
-returns c = simp (c .before .before .before .in-range .ensures, c .before .before .in-range2 .ensures, c .before .in-range3 .ensures, c .in-range4 .ensures)
+returns c =
+    let at = c .before in
+    simp (at .before .before .before .in-range .ensures, at .before .before .in-range2 .ensures, at .before .in-range3 .ensures, at .in-range4 .ensures, c .rests .ensures)
 
 pub in-range-spec : {M : Type 1} → statement M
 in-range-spec =
@@ -28,4 +33,5 @@ in-range-spec =
     in-range-requires-2
     in-range-requires-3
     in-range-requires-4
+    rests-requires
     returns)
