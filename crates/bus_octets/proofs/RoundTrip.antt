@@ -49,6 +49,7 @@ record-back k o rest =
       word-back (r .opportunities .0) (omega (arith, o .periods-fit, o .opportunities-fit)),
       word-back (r .network .t1) (omega (arith, n .t1-fits)),
       word-back (r .network .t2) (omega (arith, n .t2-fits)),
+      o .cycle-rests,
       half-back (r .reader .bits) (omega (arith, bits-most (r .reader) (o .reader-fits))),
       flag-back (r .network .alignment .aligned),
       flag-back (r .reader .opened),

@@ -21,6 +21,7 @@ use Rattle.hdlc.specs.Image.{longestBody}
 use Rattle.symbols.specs.Symbols.{lineLength, sameSymbols}
 use Rattle.timing.specs.Calls.{atPeriod}
 use Rattle.dchannel.specs.declared.access.Access.{Access}
+use Rattle.cycle.specs.Cycle as cycle
 use Rattle.d_reader.specs.declared.Reader.{Reader}
 use Rattle.network.specs.declared.Network.{Network}
 use Rattle.terminal.specs.declared.Terminal.{Terminal}
@@ -81,7 +82,8 @@ networkFields n = word (n .t1) ++ word (n .t2) ++ (n .state ∷ flag (n .alignme
 abbrev pub readerFields : Reader → List ℕ
 readerFields r = half (r .bits) ++ (r .ones ∷ r .octet ∷ flag (r .opened) ∷ flag (r .zero) ∷ [])
 
--- The record: these, the last D heard, whether a hit is pending.
+-- The record: these, the last D heard, whether a hit is pending. Its cycle of Q and S bits rests, and
+-- has no octets yet.
 abbrev pub recordFields : BusRecord → List ℕ
 recordFields r =
     countsFields (r .periods .0) (r .opportunities .0)
@@ -138,6 +140,7 @@ recordIn s =
       opportunities = record { 0 = wordAt s 9 };
       network = networkIn s;
       reader = readerIn s;
+      cycle = cycle.fresh;
       echo = flagAt s 30;
       hit = flagAt s 31;
     }

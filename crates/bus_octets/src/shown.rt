@@ -15,6 +15,7 @@ use super::numbers::octet_at;
 use super::numbers::word_at;
 use alignment::Alignment;
 use bus_record::record::BusRecord;
+use cycle::record::Cycle;
 use d_reader::Reader;
 use dchannel::access::Access;
 use hdlc::LONGEST_BODY;
@@ -53,7 +54,7 @@ fn reader_in(s: &[u8]) -> Reader
     }
 }
 
-// Reads the record.
+// Reads the record. Its cycle of Q and S bits rests: it has no octets yet.
 pub fn record_in(s: &[u8]) -> BusRecord
     ensures { λ r. ⌜ r ≡ recordIn (now (s .entry)) ⌝ }
 {
@@ -62,6 +63,7 @@ pub fn record_in(s: &[u8]) -> BusRecord
         periods: Periods(word_at(s, 5)),
         opportunities: Opportunities(word_at(s, 9)),
         reader: reader_in(s),
+        cycle: Cycle::fresh(),
         echo: flag_at(s, 30),
         hit: flag_at(s, 31),
     }

@@ -50,6 +50,15 @@ module _ (images : List ℕ) (a : Alone) (g : goesAlone images a ≡ true) where
   unfolding aloneAfter answerAfter answerWith nextPeriod
   next-period os = rw (goes-facts images a g .more)
 
+-- a period more is run, and is not refused
+over-after : (images : List ℕ) (a : Alone) (os : List ℕ) → aloneAfter images a os .over ≡ a .over + 1
+unfolding aloneAfter
+over-after images a os = refl
+
+reply-after : (images : List ℕ) (a : Alone) (os : List ℕ) → aloneAfter images a os .answer .reply ≡ 0
+unfolding aloneAfter answerAfter answerWith
+reply-after images a os = refl
+
 -- ---- The run, from what was found.
 module _ (images letters : List ℕ) (ended : RunAnswer) (end : Kept) (ts : List Terminal) (total : ℕ) (rest : allHearAlike ts ≡ true) where
   abbrev none-noted : List UnitNotes
@@ -78,25 +87,39 @@ module _ (images letters : List ℕ) (ended : RunAnswer) (end : Kept) (ts : List
 
   -- and so many; n0 periods from period now0 on no timer is due, and k of them have been run
   module _ (now0 n0 : ℕ) (c : AllClear now0 n0 ts) where
-    on-alone : (n k : ℕ) (a : Alone) (os : List ℕ) → GoesAt a os none-noted → Stands a → a .answer .reply ≡ 0 → a .answer .bus .periods .0 ≡ now0 + k → k + n ≤ n0 → a .over + n ≤ total
-        → GoesAt (aloneOn images n a os) (octetsOn images n a os) none-noted × (aloneOn images n a os .answer .reply ≡ 0) × (aloneOn images n a os .over ≤ total)
-    unfolding aloneOn octetsOn aloneAfter answerAfter answerWith
-    on-alone zero k a os i s z p l m = (i, z, omega arith)
-    on-alone (suc n) k a os i s z p l m =
+    -- the next n periods, after k of them
+    abbrev Result : ℕ → Alone → List ℕ → Type 0
+    Result n a os = GoesAt (aloneOn images n a os) (octetsOn images n a os) none-noted × (aloneOn images n a os .answer .reply ≡ 0) × (aloneOn images n a os .over ≤ total)
+
+    abbrev From : ℕ → ℕ → Alone → List ℕ → Type 0
+    From n k a os = GoesAt a os none-noted → Stands a → a .answer .reply ≡ 0 → a .answer .bus .periods .0 ≡ now0 + k → k + n ≤ n0 → a .over + n ≤ total → Result n a os
+
+    none-on : (k : ℕ) (a : Alone) (os : List ℕ) → From zero k a os
+    unfolding aloneOn octetsOn
+    none-on k a os i s z p l m = (i, z, omega arith)
+
+    one-on : (n k : ℕ) (a : Alone) (os : List ℕ) → From n (suc k) (aloneAfter images a os) (octetsThen images a os) → From (suc n) k a os
+    unfolding aloneOn octetsOn
+    one-on n k a os more i s z p l m =
         by-test (goesAlone images a)
         (λ g.
         let clear-here : AllClear (a .answer .bus .periods .0) 1 ts = rw p (clear-on now0 n0 k ts (omega arith) c) in
         let j = one-period a os none-noted i s g clear-here (omega arith) in
         let q : aloneAfter images a os .answer .bus .periods .0 ≡ now0 + suc k = next-period images a g os ∙ rw p (omega arith) in
         let t = stands-on a os s in
-        rw g (on-alone n (suc k) (aloneAfter images a os) (octetsThen images a os) j t refl q (omega arith) (omega arith)))
+        let over = over-after images a os in
+        rw g (more j t (reply-after images a os) q (omega arith) (omega (arith, over))))
         (λ g. rw g (i, z, omega arith))
+
+    on-alone : (n k : ℕ) (a : Alone) (os : List ℕ) → From n k a os
+    on-alone zero k a os = none-on k a os
+    on-alone (suc n) k a os = one-on n k a os (on-alone n (suc k) (aloneAfter images a os) (octetsThen images a os))
 
   -- from the first, where one is run at least
   module _ (now0 n0 : ℕ) (c : AllClear now0 n0 ts) (few : n0 ≤ total) where
     first-alone : (n : ℕ) → n ≤ n0 → (a : Alone) (os : List ℕ) (ns : List UnitNotes) → GoesAt a os ns → Stands a → a .over ≡ 0 → a .answer .bus .periods .0 ≡ now0 → 0 < aloneOn images n a os .over
         → GoesAt (aloneOn images n a os) (octetsOn images n a os) none-noted × (aloneOn images n a os .answer .reply ≡ 0) × (aloneOn images n a os .over ≤ total)
-    unfolding aloneOn octetsOn aloneAfter answerAfter answerWith
+    unfolding aloneOn octetsOn
     first-alone zero m a os ns i s z p some = absurd (omega (arith, z))
     first-alone (suc n) m a os ns i s z p some =
         by-test (goesAlone images a)
@@ -106,7 +129,8 @@ module _ (images letters : List ℕ) (ended : RunAnswer) (end : Kept) (ts : List
         let j = one-period a os ns i s g clear-here (omega (arith, z)) in
         let q : aloneAfter images a os .answer .bus .periods .0 ≡ now0 + 1 = next-period images a g os ∙ rw p in
         let t = stands-on a os s in
-        rw g (on-alone now0 n0 c n 1 (aloneAfter images a os) (octetsThen images a os) j t refl q (omega arith) (omega (arith, z))))
+        let over = over-after images a os in
+        rw g (on-alone now0 n0 c n 1 (aloneAfter images a os) (octetsThen images a os) j t (reply-after images a os) q (omega arith) (omega (arith, z, over))))
         (λ g. let none : 0 < a .over = rw g at some in absurd (omega (arith, z)))
 
 -- ---- Nothing run leaves the octets as they were.

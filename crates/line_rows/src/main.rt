@@ -9,6 +9,7 @@ use combining::hit::KEEP_LETTER;
 use combining::hit::NONE_LETTER;
 use combining::hit::PLUS_LETTER;
 use combining::hit::apply_hit;
+use frame::fields::CycleBits;
 use frame::fields::DownFields;
 use frame::fields::Four;
 use frame::fields::UpFields;
@@ -17,8 +18,11 @@ use frame::write::write_up;
 use info::info::info0;
 use info::info::info1;
 use info::info::info2;
+use info::info::info2_with;
 use info::info::info3;
+use info::info::info3_with;
 use info::info::info4;
+use info::info::info4_with;
 use libc::STDOUT_FILENO;
 use symbols::LINE_LENGTH;
 use symbols::MINUS;
@@ -82,7 +86,19 @@ fn infos() {
     show(b"INFO 4 E 0110    ", &mut line);
 }
 
-// Prints frames with other B octets. FA at 1 makes N 0.
+// Gives the fields of an upward frame with other B octets.
+fn up_frame(fa: bool) -> UpFields {
+    UpFields {
+        b1first: 0xa5,
+        b2first: 0x07,
+        b1second: 0x80,
+        b2second: 0x00,
+        d: four(false, true, true, false),
+        fa: fa,
+    }
+}
+
+// Prints frames with other B octets. FA at 1 makes N 0 downward, and its L 1 upward.
 fn frames() {
     let mut line = [NONE; LINE_LENGTH];
     let down = DownFields {
@@ -99,15 +115,28 @@ fn frames() {
     };
     write_down(down, &mut line);
     show(b"down a5 0f 01 ff ", &mut line);
-    let up = UpFields {
-        b1first: 0xa5,
-        b2first: 0x07,
-        b1second: 0x80,
-        b2second: 0x00,
-        d: four(false, true, true, false),
-    };
-    write_up(up, &mut line);
+    write_up(up_frame(false), &mut line);
     show(b"up   a5 07 80 00 ", &mut line);
+    write_up(up_frame(true), &mut line);
+    show(b".. with FA 1     ", &mut line);
+}
+
+// Prints INFO 2, INFO 3 and INFO 4 as a cycle of Q and S bits sets them in its first period: FA, M
+// and S at 1.
+fn cycle_infos() {
+    let bits = CycleBits {
+        fa: true,
+        m: true,
+        s: true,
+    };
+    let ones = four(true, true, true, true);
+    let mut line = [NONE; LINE_LENGTH];
+    info2_with(bits, &mut line);
+    show(b"INFO 2 FA M S 1  ", &mut line);
+    info3_with(true, ones, &mut line);
+    show(b"INFO 3 FA 1      ", &mut line);
+    info4_with(bits, ones, &mut line);
+    show(b"INFO 4 FA M S 1  ", &mut line);
 }
 
 // Puts INFO 1 in the place of terminal 8 among the eight lines.
@@ -186,6 +215,7 @@ fn main() {
     );
     infos();
     frames();
+    cycle_infos();
     combined();
     hit_line();
 }

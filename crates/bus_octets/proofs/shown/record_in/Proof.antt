@@ -16,6 +16,9 @@ word-at-requires-2 c κs = search needs
 reader-in-requires : tie.Need-reader-in-requires
 reader-in-requires c κs = search needs
 
+fresh-requires : tie.Need-fresh-requires
+fresh-requires c κs = search needs
+
 flag-at-requires : tie.Need-flag-at-requires
 flag-at-requires c κs = search needs
 
@@ -27,7 +30,8 @@ unfolding recordIn
 returns c =
     let hit = c in
     let echo = hit .before in
-    let reader = echo .before in
+    let cycle = echo .before in
+    let reader = cycle .before in
     let opportunities = reader .before in
     let periods = opportunities .before in
     let network = periods .before in
@@ -36,6 +40,7 @@ returns c =
       periods .word-at .ensures,
       opportunities .word-at2 .ensures,
       reader .reader-in .ensures,
+      cycle .fresh .ensures,
       echo .flag-at .ensures,
       hit .flag-at2 .ensures,
     )
@@ -48,6 +53,7 @@ record-in-spec =
     word-at-requires
     word-at-requires-2
     reader-in-requires
+    fresh-requires
     flag-at-requires
     flag-at-requires-2
     returns)
