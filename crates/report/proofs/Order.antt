@@ -192,6 +192,7 @@ order-settled k o =
       periods-fit = o .periods-fit;
       opportunities-fit = o .opportunities-fit;
       reader-fits = o .reader-fits;
+      cycle-rests = o .cycle-rests;
       images-fit = o .images-fit;
       octets-fit = o .octets-fit;
       notes-fit = refl;
