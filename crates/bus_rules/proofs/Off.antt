@@ -12,7 +12,7 @@ use Rattle.combining.specs.Combine.{combined}
 use Rattle.combining.specs.Sent.{sentLine}
 use Rattle.cycle.specs.Cycle.{taken, bitsAt, heardIn}
 use Rattle.cycle.specs.declared.record.Cycle.{Cycle}
-use Rattle.cycle.specs.Laws as cycles
+use Rattle.cycle.specs.Periods as cycles
 use Rattle.cycle.proofs.Laws.{not-running}
 use Rattle.notes_and_cells.specs.Cells.{infoIn}
 use Rattle.notes_and_cells.specs.Events.{HIT}

@@ -27,7 +27,7 @@ use Rattle.timing.specs.declared.counts.Periods.{Periods}
 use Rattle.timing.specs.Calls.{atPeriod}
 use Rattle.contention.proofs.Change.{length-change}
 use Rattle.cycle.specs.Cycle.{cycleInRange}
-use Rattle.cycle.specs.Laws as cycles
+use Rattle.cycle.specs.Periods as cycles
 use Rattle.cycle.proofs.Laws.{period-kept}
 use Rattle.heard_line.specs.Sensing.{shownUp, shownDown}
 use Rattle.network.specs.Network as network

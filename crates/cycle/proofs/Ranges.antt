@@ -2,22 +2,22 @@
 use mathlib.Core.Path.{_≡_, refl, sym, _∙_}
 use mathlib.Core.Bool.{Bool, true, false, cond, _&&_}
 use mathlib.Core.List.{List, [], _∷_}
-use Prim.Native.Nat.{ℕ, zero, suc, _+_, _%_, _<_, _≤_}
+use Prim.Native.Nat.{ℕ, zero, suc, _<_, _≤_}
 use native.Mathlib.Omega.{arith}
-use borrow.Author.Tests.{ltb-true, lt-ltb, leb-true, le-leb, ltb-false}
-use lib.Dec.{ltb, leb}
+use borrow.Author.Tests.{ltb-true, lt-ltb, leb-true, le-leb}
+use lib.Bits.{bitAnd}
+use lib.Dec.{eqb, ltb, leb}
 use lib.ListN.{length, set, length-set}
 use Rattle.test_lemmas.proofs.ByCases.{by-test, both, and-left, and-right}
 use Rattle.symbols.specs.Symbols.{within, fits}
 use Rattle.symbols.proofs.Lines.{fits-length, fits-within, fits-is}
-use Rattle.frame.specs.Bits.{bit}
 use Rattle.frame.proofs.Bits.{bit-lt}
-use Rattle.cycle.specs.Cycle.{terminals, lastPlace, noQ, noMessages, sMessages, sTop, cycleInRange, startPlace, qGiven, sGiven, atStart, begun, taken, isQ, sShifted, qShifted, qAfter, nextPlace, movedOn, heardIn}
-use Rattle.cycle.specs.Laws.{Heard, period}
+use Rattle.cycle.specs.Cycle.{terminals, lastPlace, noQ, noMessages, sMessages, fresh, cycleInRange, startPlace, qGiven, sGiven, atStart, begun, taken, isQ, sShifted, qShifted, qAfter, sAfter, nextPlace, movedOn, heardIn}
+use Rattle.cycle.specs.Periods.{Heard, period}
 use Rattle.cycle.specs.declared.record.Cycle.{Cycle}
 
 -- The range, field by field.
-record Ranged (c : Cycle) : Type 0 where
+pub record Ranged (c : Cycle) : Type 0 where
   pub qwaiting : fits terminals noQ (c .qwaiting) ≡ true
   pub qsent : fits terminals noQ (c .qsent) ≡ true
   pub swaiting : c .swaiting < sMessages
@@ -26,7 +26,7 @@ record Ranged (c : Cycle) : Type 0 where
   pub qheard : c .qheard ≤ noQ
   pub place : c .place ≤ lastPlace
 
-ranged : (c : Cycle) → cycleInRange c ≡ true → Ranged c
+pub ranged : (c : Cycle) → cycleInRange c ≡ true → Ranged c
 ranged c e =
     let qw = fits terminals noQ (c .qwaiting) in
     let qs = fits terminals noQ (c .qsent) in
@@ -73,7 +73,7 @@ none-fit = refl
 begun-ranged : (c : Cycle) → Ranged c → Ranged (begun c)
 unfolding begun
 begun-ranged c r = record {
-  qwaiting = none-fit;
+  qwaiting = search none-fit;
   qsent = r .qwaiting;
   swaiting = omega arith;
   ssent = r .swaiting;
@@ -90,6 +90,10 @@ s-below : (n : ℕ) (b : Bool) → sShifted n b < sMessages
 unfolding sShifted
 s-below n b = omega (arith, bit-lt b)
 
+s-kept : (f7 n : ℕ) (b : Bool) → n < sMessages → sAfter f7 n b < sMessages
+unfolding sAfter
+s-kept f7 n b h = by-test (eqb f7 0) (λ t. rw t h) (λ t. rw t (s-below n b))
+
 q-below : (p n : ℕ) (b : Bool) → n ≤ noQ → qAfter p n b ≤ noQ
 unfolding qAfter qShifted
 q-below p n b h = by-test (isQ p) (λ t. rw t (omega (arith, bit-lt b))) (λ t. rw t h)
@@ -105,7 +109,7 @@ moved-ranged fa s g3 f7 c r = record {
   qsent = r .qsent;
   swaiting = r .swaiting;
   ssent = s-below (c .ssent) false;
-  sheard = s-below (c .sheard) s;
+  sheard = s-kept (bitAnd (c .f7) f7) (c .sheard) s (r .sheard);
   qheard = q-below (c .place) (c .qheard) fa (r .qheard);
   place = next-below (c .place);
 }
@@ -124,6 +128,9 @@ start-below : (c : Cycle) → Ranged c → startPlace c ≤ lastPlace
 start-below c r = by-test (c .running) (λ t. rw t (r .place)) (λ t. rw t (omega arith))
 
 -- ---- The laws.
+pub fresh-in-range : cycleInRange fresh ≡ true
+fresh-in-range = rw none-fit
+
 pub taken-kept : (c : Cycle) → cycleInRange c ≡ true → cycleInRange (taken c) ≡ true
 taken-kept c e = in-range (taken c) (taken-ranged c (ranged c e))
 
