@@ -70,7 +70,7 @@ static bool print_fields(uint32_t up, const uint8_t *fields)
         return false;
     }
     if (up != SBUS_DOWN) {
-        return true;
+        return printf(" FA %u", fields[SBUS_FA]) >= 0;
     }
     return print_bits("E", fields + SBUS_E11)
            && printf(" A %u FA %u M %u S %u", fields[SBUS_A], fields[SBUS_FA], fields[SBUS_M], fields[SBUS_S]) >= 0;

@@ -74,7 +74,7 @@ enum sbus_refusal {
 enum sbus_symbol { SBUS_NONE = 0, SBUS_PLUS = 1, SBUS_MINUS = 2 };
 
 // The fields of a frame. The B octets go over the line with their high-order bit first; every other field is one bit, 0 or 1.
-// An upward frame has the B and D fields alone: from SBUS_E11 on its fields are 0.
+// An upward frame has the B and D fields and SBUS_FA: its E, A, M and S are 0.
 enum sbus_field {
     SBUS_B1_FIRST = 0,
     SBUS_B2_FIRST = 1,
@@ -102,7 +102,7 @@ enum sbus_direction { SBUS_DOWN = 0, SBUS_UP = 1 };
 uint32_t sbus_read_frame(uint32_t up, const uint8_t *symbols, size_t symbols_length, uint8_t *fields, size_t fields_length);
 
 // Writes a frame: the 48 symbols that have these fields.
-// 0; 2: a length other than 16 or 48, a bit above 1, or an upward field from SBUS_E11 on that is not 0.
+// 0; 2: a length other than 16 or 48, a bit above 1, or an upward E, A, M or S that is not 0.
 uint32_t sbus_write_frame(uint32_t up, const uint8_t *fields, size_t fields_length, uint8_t *symbols, size_t symbols_length);
 
 // ---- A bus -----------------------------------------------------------------------------------------------------------------------------

@@ -40,7 +40,7 @@ static int field_at(char letter, unsigned seen[256], unsigned *bit)
     }
 }
 
-// The symbols of a frame. An upward FA is 0, and so is its field. The L at 48, or of a group, makes the number of 0s since the last L even.
+// The symbols of a frame. The L at 48, or of a group, makes the number of 0s since the last L even.
 static void table_writes(uint32_t up, const uint8_t *fields, uint8_t *symbols)
 {
     const char *layout = layouts[up != 0];
@@ -80,9 +80,6 @@ static bool table_has(uint32_t up, const uint8_t *symbols)
     uint8_t fields[SBUS_FIELDS_LENGTH];
     uint8_t again[SBUS_SYMBOLS_LENGTH];
     table_reads(up, symbols, fields);
-    if (up != 0 && fields[SBUS_FA] != 0) {
-        return false;
-    }
     table_writes(up, fields, again);
     return memcmp(again, symbols, sizeof again) == 0;
 }
@@ -119,12 +116,18 @@ static void read_any(struct tests *t, uint32_t up, const uint8_t *symbols)
     }
 }
 
+// Whether a frame of a direction has a field: upward there is no E, A, M or S.
+static bool has_field(uint32_t up, size_t field)
+{
+    return up == 0 || field < SBUS_E11 || field == SBUS_FA;
+}
+
 // Random fields of a direction.
 static void some_fields(struct random *r, uint32_t up, uint8_t *fields)
 {
     random_fill(r, fields, SBUS_FIELDS_LENGTH);
     for (size_t i = SBUS_D12; i < SBUS_FIELDS_LENGTH; i++) {
-        fields[i] = up != 0 && i >= SBUS_E11 ? 0 : fields[i] & 1;
+        fields[i] = has_field(up, i) ? fields[i] & 1 : 0;
     }
 }
 
@@ -139,12 +142,13 @@ static void test_bits(struct tests *t)
         there_and_back(t, SBUS_DOWN, fields);
     }
     end(t);
-    begin(t, "upward frames with every D");
-    for (unsigned bits = 0; bits < 16; bits++) {
+    begin(t, "upward frames with every D and FA");
+    for (unsigned bits = 0; bits < 32; bits++) {
         uint8_t fields[SBUS_FIELDS_LENGTH] = {0xa5, 0x07, 0x80, 0x00, 0};
         for (unsigned i = 0; i < 4; i++) {
             fields[SBUS_D12 + i] = bits >> i & 1;
         }
+        fields[SBUS_FA] = bits >> 4 & 1;
         there_and_back(t, SBUS_UP, fields);
     }
     end(t);
@@ -240,6 +244,8 @@ static void test_rows(struct tests *t)
     static const uint8_t d_1001[SBUS_FIELDS_LENGTH] = {255, 255, 255, 255, 1, 0, 0, 1, 0};
     static const uint8_t octets_down[SBUS_FIELDS_LENGTH] = {0x80, 255, 255, 0x01, 1, 1, 1, 1, 1, 1, 1, 1, 1, 1, 1, 1};
     static const uint8_t octets_up[SBUS_FIELDS_LENGTH] = {0x80, 255, 255, 0x01, 1, 1, 1, 1, 0};
+    static const uint8_t fa_up[SBUS_FIELDS_LENGTH] = {0x80, 255, 255, 0x01, 1, 1, 1, 1, 0, 0, 0, 0, 0, 1, 0, 0};
+    static const uint8_t info_3_fa[SBUS_FIELDS_LENGTH] = {255, 255, 255, 255, 1, 1, 1, 1, 0, 0, 0, 0, 0, 1, 0, 0};
     test_row(t, "INFO 2", SBUS_DOWN, info_2, "+--+-+-+-+-+-+0-+-+-+-+-+-+-+-+-+-+-+-+-+-+-+-+0");
     test_row(t, "INFO 4, E 1111", SBUS_DOWN, info_4, "+-00000000000-00000000000+0000000000-0000000000+");
     test_row(t, "INFO 4, E 0110", SBUS_DOWN, echo_0110, "+-00000000-00+00000000000-0000000000+00000000-0+");
@@ -247,6 +253,8 @@ static void test_rows(struct tests *t)
     test_row(t, "INFO 3, D 1001", SBUS_UP, d_1001, "+-00000000000-+000000000-+000000000-+00000000000");
     test_row(t, "B1 80 ff and B2 ff 01 down", SBUS_DOWN, octets_down, "+-0-+-+-+-0000+0000000000000000000000-+-+-+-000+");
     test_row(t, "B1 80 ff and B2 ff 01 up", SBUS_UP, octets_up, "+-0-+-+-+-+00-+0000000000000000000000-+-+-+-0+00");
+    test_row(t, "B1 80 ff and B2 ff 01 up, FA 1", SBUS_UP, fa_up, "+-0-+-+-+-+00000000000000000000000000-+-+-+-0+00");
+    test_row(t, "INFO 3, D 1111, FA 1", SBUS_UP, info_3_fa, "+-0000000000000000000000000000000000000000000000");
 }
 
 // INFO 0 and INFO 1 are no frames, and an upward frame is none downward.
@@ -316,13 +324,13 @@ static void test_symbols(struct tests *t, uint32_t up)
 static void test_wrong_bits(struct tests *t)
 {
     uint8_t symbols[SBUS_SYMBOLS_LENGTH] = {0};
-    begin(t, "refusal 2: a bit above 1, an upward field from E11 on");
+    begin(t, "refusal 2: a bit above 1, an upward E, A, M or S");
     for (size_t i = SBUS_D12; i < SBUS_FIELDS_LENGTH; i++) {
         for (unsigned value = 0; value < 256; value++) {
             uint8_t fields[SBUS_FIELDS_LENGTH] = {0};
             fields[i] = (uint8_t)value;
             bool down = value <= 1;
-            bool up = i < SBUS_E11 ? value <= 1 : value == 0;
+            bool up = has_field(SBUS_UP, i) ? value <= 1 : value == 0;
             CHECK(t, try_write_frame(t, SBUS_DOWN, fields, sizeof fields, symbols, sizeof symbols) == (down ? SBUS_OK : SBUS_WRONG_SLICE));
             CHECK(t, try_write_frame(t, SBUS_UP, fields, sizeof fields, symbols, sizeof symbols) == (up ? SBUS_OK : SBUS_WRONG_SLICE));
         }

@@ -1,7 +1,6 @@
 -- The lengths of the parts (Lengths), the terminals as octets (Laying).
 pub mod Lengths
 pub mod Laying
-pub mod Comparing
 pub mod Eight
 pub mod Exact
 pub mod RoundTrip

@@ -1,6 +1,5 @@
 // Whether octets are a bus.
 ghost use mathlib.Core.Path.{_≡_};
-ghost use Rattle.symbols.specs.Symbols.{sameSymbols};
 ghost use Rattle.bus_call_specs.specs.Ready.{eightInRange};
 ghost use Rattle.bus_octets.specs.Layout.{isBus, isHead};
 use super::laid::put_head;
@@ -13,6 +12,7 @@ use bus_record::record::BusRecord;
 use combining::hit::NONE_LETTER;
 use symbols::LINE_LENGTH;
 use symbols::fits;
+use symbols::same_symbols;
 use terminal::Terminal;
 
 // Tests whether all terminals are in their range.
@@ -29,30 +29,13 @@ fn all_in_range(terminals: [Terminal; 8]) -> bool
     ok
 }
 
-// Tests whether octets are the same. It goes to their end wherever they differ: they nearly always
-// are the same, and without a way out at each octet the loop takes sixteen octets at a time.
-fn same_octets(a: &[u8], b: &[u8]) -> bool
-    ensures { λ r. ⌜ r ≡ sameSymbols (now (a .entry)) (now (b .entry)) ⌝ }
-{
-    if a.len() != b.len() {
-        return false;
-    }
-    let mut ok = true;
-    let mut i: usize = 0;
-    while i < a.len() {
-        ok = ok & (a[i] == b[i]);
-        i += 1;
-    }
-    ok
-}
-
 // Tests whether a record and terminals are written as the octets given.
 fn is_head(bus: BusRecord, terminals: [Terminal; 8], octets: &[u8]) -> bool
     ensures { λ r. ⌜ r ≡ isHead bus terminals (now (octets .entry)) ⌝ }
 {
     let mut back = [0u8; LETTERS_AT];
     put_head(&mut back, bus, terminals);
-    same_octets(&back, octets)
+    same_symbols(&back, octets)
 }
 
 // Tests whether octets are a bus: as many as one has, written as the records that they stand for

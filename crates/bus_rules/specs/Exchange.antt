@@ -2,9 +2,9 @@
 -- document 02, 2.1). A line is written from the bits that are known so far, with 1 for the rest;
 -- nothing later changes what was taken from it (the law `as-taken`, Later.antt).
 -- Interface: `sentDown`, `anySends`, `anyInfo1`, `anyInfo3`, `Sender`, `stationsOf`, `Opportunity`,
--- `inF7`, `accessStepOf`, `stationAfterE`, `dOf`, `doneOf`, `lineUp`, `eComes`, `dComes`, `saidTo`,
--- `onward`, `begins`, `opportunitiesOf`, `exchanged`, `wholeDown`, `faDown`, `faSent`, `wholeUp`.
--- Assumes nothing.
+-- `inF7`, `accessStepOf`, `stationAfterE`, `dOf`, `doneOf`, `sentOf`, `lineUp`, `eComes`, `dComes`,
+-- `inG3`, `saidTo`, `onward`, `begins`, `opportunitiesOf`, `exchanged`, `wholeDown`, `faDown`,
+-- `faSent`, `wholeUp`. Assumes nothing.
 use mathlib.Core.Bool.{Bool, true, false, cond, _||_}
 use mathlib.Core.List.{List, [], _∷_, _++_, map}
 use Prim.Native.Nat.{ℕ, suc}

@@ -16,7 +16,7 @@ use Rattle.frame.specs.Groups.{groupSymbols, upGroups, laidOut}
 use Rattle.frame.specs.declared.fields.Four.{Four}
 use Rattle.frame.specs.declared.fields.UpFields.{UpFields}
 use Rattle.frame.proofs.Laws.{groups-up, pick-and, pick-ones}
-use Rattle.info.specs.Info.{info3Fields}
+use Rattle.info.specs.Info.{info3, info3Fields}
 use Rattle.combining.specs.Combine.{column, combinedOver, combined}
 use Rattle.combining.specs.Groups.{Combines, allOf, ofSender}
 use Rattle.combining.specs.Groups.Combines.{end, group}
@@ -122,5 +122,23 @@ module _ (f : UpFields) (fs : List UpFields) where
       end))))))))))
       ∙ sym (groups-up (jointFields (f ∷ fs)))
 
-  pub combined-info3 : allOf isIdle (f ∷ fs) ≡ true → combined (map upLine (f ∷ fs)) ≡ upLine (jointFields (f ∷ fs))
-  combined-info3 e = ap combined (all-idle (f ∷ fs) e) ∙ joint-idle
+  pub combined-idle : allOf isIdle (f ∷ fs) ≡ true → combined (map upLine (f ∷ fs)) ≡ upLine (jointFields (f ∷ fs))
+  combined-idle e = ap combined (all-idle (f ∷ fs) e) ∙ joint-idle
+
+-- INFO 3 where no cycle runs: FA is 0 of each, and so of all.
+abbrev offFields : Four → UpFields
+offFields d = info3Fields false d
+
+off-idle : (ds : List Four) → allOf isIdle (map offFields ds) ≡ true
+unfolding allOf
+off-idle [] = refl
+off-idle (d ∷ ds) = off-idle ds
+
+off-d : (ds : List Four) → map (λ (f : UpFields). f .d) (map offFields ds) ≡ ds
+off-d [] = refl
+off-d (d ∷ ds) = rw (off-d ds)
+
+pub combined-info3 : (d : Four) (ds : List Four) → combined (map info3 (d ∷ ds)) ≡ info3 (andAll (d ∷ ds))
+unfolding allOf
+combined-info3 d ds =
+    rw (map-map upLine offFields (d ∷ ds), off-d ds) at (combined-idle (offFields d) (map offFields ds) (off-idle (d ∷ ds)))

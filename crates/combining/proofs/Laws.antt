@@ -78,6 +78,9 @@ group-alike X = columns.combined-alike
 pub group-of-one : Laws.GroupOfOne
 group-of-one X = columns.combined-of-one
 
+pub combined-idle : Laws.CombinedIdle
+combined-idle = by-group.combined-idle
+
 pub combined-info3 : Laws.CombinedInfo3
 combined-info3 = by-group.combined-info3
 

@@ -23,7 +23,7 @@ use Rattle.combining.specs.Sent.{Sent, sentLine}
 use Rattle.combining.specs.SentD.{sentD, sentFa, isCalling, anyCalling, frames, isIdle, framesLine, heardWithInfo1}
 use Rattle.combining.specs.Sent.Sent.{silent, calling, frame}
 use Rattle.combining.proofs.Columns.{combined-at, combined-silent, de-morgan}
-use Rattle.combining.proofs.ByGroup.{combined-info3}
+use Rattle.combining.proofs.ByGroup.{combined-idle}
 
 pub combined-info0 : (ls ms : List (List ℕ)) → combined (ls ++ (info0 ∷ ms)) ≡ combined (ls ++ ms)
 unfolding combined
@@ -42,7 +42,7 @@ only-frames fs (frame f ∷ xs) h =
 pub of-frames : (fs : List UpFields) → allOf isIdle fs ≡ true → combined (map upLine fs) ≡ framesLine fs
 unfolding combined isSent tabulate
 of-frames [] i = refl
-of-frames (f ∷ fs) i = combined-info3 f fs i
+of-frames (f ∷ fs) i = combined-idle f fs i
 
 pub combined-sent : (xs : List Sent) → allOf isIdle (frames xs) ≡ true → anyCalling xs ≡ false → combined (map sentLine xs) ≡ framesLine (frames xs)
 combined-sent xs i h = only-frames [] xs h ∙ of-frames (frames xs) i

@@ -17,13 +17,14 @@ use Rattle.frame.specs.declared.fields.Four.{Four}
 use Rattle.frame.specs.declared.fields.DownFields.{DownFields}
 use Rattle.frame.specs.declared.fields.UpFields.{UpFields}
 use Rattle.framed.specs.Framed.{framedUp, hasPulse}
-use Rattle.info.specs.Info.{info0, info1, info3With, isInfo1}
+use Rattle.info.specs.Info.{info0, info1, info3With, info3, isInfo1}
 use Rattle.combining.specs.Combine.{combinedOver, combined}
 use Rattle.combining.specs.Calls.{terminals, linesLength, rows, laid, combineFits, combinedReply, eight}
 use Rattle.combining.specs.declared.combine.Combined.{Combined}
 use Rattle.combining.specs.Groups.{Combines, allOf, ofSender}
 use Rattle.combining.specs.Sent.{Sent, sentLine}
-use Rattle.combining.specs.SentD.{howManySend, sentD, sentFa, anyCalling, frames, isIdle, jointFields, framesLine, heardWithInfo1, allOnes}
+use Rattle.combining.specs.SentD.{howManySend, sentD, sentFa, anyCalling, frames, isIdle, jointFields, framesLine}
+use Rattle.combining.specs.SentD.{heardWithInfo1, allOnes}
 use Rattle.combining.specs.Sent.Sent.{silent}
 use Rattle.combining.specs.Sending.{isSending, sending, linesTaken}
 use Rattle.combining.specs.Hit.{keepLetter, plusLetter, minusLetter, noneLetter, struck, hit}
@@ -69,21 +70,29 @@ GroupOfOne = (X : Type 0) (n : ℕ) (g : X → List ℕ) (x : X) (before after :
     → map g before ≡ replicate (length before) (replicate n none) → map g after ≡ replicate (length after) (replicate n none)
     → combinedOver n (map g (before ++ (x ∷ after))) ≡ g x
 
--- ---- INFO 3 together are INFO 3 with the ANDs.
-abbrev pub CombinedInfo3 : Type 0
-CombinedInfo3 = (f : UpFields) (fs : List UpFields) → allOf isIdle (f ∷ fs) ≡ true → combined (map upLine (f ∷ fs)) ≡ upLine (jointFields (f ∷ fs))
+-- ---- INFO 3 together are INFO 3 with the ANDs; so they are where no cycle runs and FA is 0.
+abbrev pub CombinedIdle : Type 0
+CombinedIdle =
+    (f : UpFields) (fs : List UpFields) → allOf isIdle (f ∷ fs) ≡ true
+    → combined (map upLine (f ∷ fs)) ≡ upLine (jointFields (f ∷ fs))
 
--- The D bits of upward frames together are the ANDs, whatever the B octets are.
+abbrev pub CombinedInfo3 : Type 0
+CombinedInfo3 = (d : Four) (ds : List Four) → combined (map info3 (d ∷ ds)) ≡ info3 (andAll (d ∷ ds))
+
+-- The D bits of upward frames together are the ANDs, whatever the B octets and FA are.
 abbrev pub CombinedD : Type 0
 CombinedD = (fs : List UpFields) → dBits (levels (combined (map upLine fs))) ≡ andAll (map (λ (f : UpFields). f .d) fs)
 
 -- Terminals that send INFO 0 or INFO 3: INFO 3 with the ANDs of those that send it, or INFO 0.
 abbrev pub CombinedSent : Type 0
-CombinedSent = (xs : List Sent) → allOf isIdle (frames xs) ≡ true → anyCalling xs ≡ false → combined (map sentLine xs) ≡ framesLine (frames xs)
+CombinedSent =
+    (xs : List Sent) → allOf isIdle (frames xs) ≡ true → anyCalling xs ≡ false → combined (map sentLine xs) ≡ framesLine (frames xs)
 
 -- Where any sends INFO 1: INFO 1 beside that line.
 abbrev pub CombinedCalling : Type 0
-CombinedCalling = (xs : List Sent) → allOf isIdle (frames xs) ≡ true → anyCalling xs ≡ true → combined (map sentLine xs) ≡ combined (info1 ∷ framesLine (frames xs) ∷ [])
+CombinedCalling =
+    (xs : List Sent) → allOf isIdle (frames xs) ≡ true → anyCalling xs ≡ true
+    → combined (map sentLine xs) ≡ combined (info1 ∷ framesLine (frames xs) ∷ [])
 
 -- INFO 1 beside INFO 3 is no frame. It is INFO 1 itself exactly where that INFO 3 has FA and all D at
 -- 1: then F and its L, which both have, are its only pulses.

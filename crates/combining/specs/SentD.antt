@@ -1,7 +1,7 @@
 -- Laws: the terms of the laws about what several terminals send: how many send other than INFO 0,
 -- their D bits and FA, whether one sends INFO 1, the upward frames among them, and the D that are
 -- heard where INFO 1 is on the line.
--- Interface: none but for laws and proofs. Assumes nothing.
+-- Interface: `sentD`, `allOnes`. Assumes nothing.
 use mathlib.Core.Bool.{Bool, true, false, not, cond, _&&_, _||_}
 use mathlib.Core.List.{List, [], _∷_, map}
 use Prim.Native.Nat.{ℕ, suc}

@@ -1,7 +1,7 @@
 -- Rules: the INFO signals as lines (document 01, "The line": INFO 0 to INFO 4).
 -- FA, M and S are as the 20-period cycle of Q and S bits sets them (document 02, 2.1).
--- Interface: `info0`, `repeated`, `info1`, `unset`, `info2With`, `info2`, `info3With`, `info3`,
--- `info4With`, `info4`, `isInfo1`. Assumes nothing.
+-- Interface: `info0`, `repeated`, `info1`, `unset`, `info2With`, `info2`, `info3Fields`,
+-- `info3With`, `info3`, `info4With`, `info4`, `isInfo1`. Assumes nothing.
 use mathlib.Core.Bool.{Bool, true, false}
 use mathlib.Core.List.{List, [], _∷_, _++_}
 use Prim.Native.Nat.{ℕ, zero, suc}

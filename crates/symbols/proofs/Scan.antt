@@ -46,30 +46,7 @@ module _ {F : List ℕ → Bool} {s : List ℕ} {i : ℕ} {ok : Bool} (r : Teste
   pub tested-done : F [] ≡ true → length s ≤ i → F s ≡ ok
   tested-done e h = rw (r .rest, drop-of-length-le s h, e) (and-true ok)
 
--- The same for two lists that are compared.
-pub record SameRest (xs ys : List ℕ) (i : ℕ) : Type 0 where
-  pub long : length xs ≡ length ys
-  pub low : i ≤ length xs
-  pub rest : sameSymbols xs ys ≡ sameSymbols (drop i xs) (drop i ys)
-
-module _ {xs ys : List ℕ} {i : ℕ} (r : SameRest xs ys i) where
-  same-rest-here : i < length xs → sameSymbols xs ys ≡ cond (eqb (getD xs i 0) (getD ys i 0)) (sameSymbols (drop (suc i) xs) (drop (suc i) ys)) false
-  unfolding sameSymbols
-  same-rest-here h = rw (r .rest, drop-cons xs i 0 h, drop-cons ys i 0 (omega (arith, r .long)))
-
-  pub same-rest-next : i < length xs → getD xs i 0 ≡ getD ys i 0 → SameRest xs ys (i + 1)
-  same-rest-next h e =
-      record { long = r .long; low = omega arith; rest = rw add-one (same-rest-here h ∙ rw (eq-eqb (getD xs i 0) (getD ys i 0) e)) }
-
-  pub same-rest-fails : i < length xs → (getD xs i 0 ≡ getD ys i 0 → ⊥) → sameSymbols xs ys ≡ false
-  same-rest-fails h e = same-rest-here h ∙ rw (ne-eqb (getD xs i 0) (getD ys i 0) e)
-
-  pub same-rest-done : length xs ≤ i → sameSymbols xs ys ≡ true
-  unfolding sameSymbols
-  same-rest-done h =
-      let k : length ys ≤ i = omega (arith, r .long) in
-      rw (r .rest, drop-of-length-le xs h, drop-of-length-le ys k)
-
+-- Lists of other lengths are not the same.
 pub same-symbols-short : (xs ys : List ℕ) → (length xs ≡ length ys → ⊥) → sameSymbols xs ys ≡ false
 unfolding sameSymbols
 same-symbols-short [] [] h = absurd (h refl)

@@ -12,18 +12,18 @@ slice-aggregate-put-head c = search needs
 put-head-requires : tie.Need-put-head-requires
 put-head-requires c κs = search needs
 
-slice-aggregate-same-octets : tie.Need-slice-aggregate-same-octets
-slice-aggregate-same-octets c = search needs
+slice-aggregate-same-symbols : tie.Need-slice-aggregate-same-symbols
+slice-aggregate-same-symbols c = search needs
 
-same-octets-requires : tie.Need-same-octets-requires
-same-octets-requires c κs = search needs
+same-symbols-requires : tie.Need-same-symbols-requires
+same-symbols-requires c κs = search needs
 
 returns : tie.Need-returns
 unfolding isHead
 returns c =
     let after-head = c .before .before .before in
     let start = after-head .before .before .before in
-    c .same-octets .ensures ∙ rw (after-head .put-head .ensures .room-is, head-back (start .args .bus) (start .args .terminals) (start .good .1 .0 .1 .0 .1))
+    c .same-symbols .ensures ∙ rw (after-head .put-head .ensures .room-is, head-back (start .args .bus) (start .args .terminals) (start .good .1 .0 .1 .0 .1))
 
 pub is-head-spec : {M : Type 1} → statement M
 is-head-spec =
@@ -31,6 +31,6 @@ is-head-spec =
     (tie.spec
     slice-aggregate-put-head
     put-head-requires
-    slice-aggregate-same-octets
-    same-octets-requires
+    slice-aggregate-same-symbols
+    same-symbols-requires
     returns)

@@ -1,4 +1,4 @@
--- Two lists compared element by element to their end, as the loop of `same_octets` does it.
+-- Two lists compared element by element to their end, as the loop of `same_symbols` does it.
 use mathlib.Core.Path.{_≡_, refl, ap, _∙_}
 use mathlib.Core.Bool.{Bool, true, false, cond, _&&_, and-true, and-assoc}
 use mathlib.Core.List.{List, [], _∷_}
