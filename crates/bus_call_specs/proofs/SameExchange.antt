@@ -24,7 +24,7 @@ use Rattle.terminal.specs.declared.TerminalStep.{TerminalStep}
 use Rattle.terminal.proofs.Laws.{AccessByState, hears-access, timer-access}
 use Rattle.bus_rules.specs.Bus.{Station, Hit, Bus, stationAt, withCounts, withNetwork, withHeardD, withHit, withCycle}
 use Rattle.bus_rules.specs.Exchange.{Sender, Opportunity, inF7, accessStepOf, stationAfterE, dOf, doneOf, hearsE, sentOf, lineUp, eComes, sendersAfter, dComes, onward, asSender, begins, opportunitiesOf, exchanged, stationsOf, wholeDown, faDown, faSent, sentFrom, wholeUp}
-use Rattle.bus_rules.specs.Period.{networkHears, terminalHears, stepped, f7Of, cycleAfter, heardBy, timed, periodRun}
+use Rattle.bus_rules.specs.Period.{networkHears, terminalHears, stepped, cycleAfter, heardBy, timed, periodRun}
 use Rattle.bus_rules.proofs.Stations.{station-begins, station-onward, station-heard, station-timed}
 use Rattle.bus_call_specs.specs.Shown.{bare}
 use Rattle.bus_call_specs.proofs.Fields.{periods-of, opportunities-of, network-of, heard-of, hit-of, cycle-of}
@@ -170,10 +170,9 @@ line-up-same : {ss ts : List Sender} → Both SameSender ss ts → lineUp ss ≡
 unfolding lineUp
 line-up-same h = rw (both-equal SameSender sentOf sentOf sender-sends h)
 
-f7-of-same : {ss ts : List Sender} → Both SameSender ss ts → f7Of (stationsOf ss) ≡ f7Of (stationsOf ts)
-unfolding f7Of
-f7-of-same none = refl
-f7-of-same (one h more) = rw (h .station .terminal-is, f7-of-same more)
+f7-all-same : {ss ts : List Sender} → Both SameSender ss ts → map inF7 (stationsOf ss) ≡ map inF7 (stationsOf ts)
+f7-all-same none = refl
+f7-all-same (one h more) = rw (h .station .terminal-is, f7-all-same more)
 
 -- ---- the exchange as an E comes
 pub record SameOpportunity (m n : Opportunity) : Type 0 where
@@ -221,12 +220,9 @@ module _ (m n : Opportunity) (h : SameOpportunity m n) where
   unfolding wholeUp
   up-same = rw (sent-same (faSent m) (faSent n) fa-same (h .senders) 0)
 
-  f7-same-all : f7Of (stationsOf (m .senders)) ≡ f7Of (stationsOf (n .senders))
-  f7-same-all = f7-of-same (h .senders)
-
   cycle-after-same : cycleAfter m ≡ cycleAfter n
   unfolding cycleAfter
-  cycle-after-same = rw (up-same, down-same, h .network-is, f7-same-all, h .cycle-is)
+  cycle-after-same = rw (up-same, down-same, h .network-is, f7-all-same (h .senders), h .cycle-is)
 
 -- ---- two buses that differ only there
 pub record SameBus (b c : Bus) : Type 0 where

@@ -52,7 +52,7 @@ pub period-off : (b : Bus) → b .cycle .running ≡ false → periodRun b .cycl
 unfolding periodRun timed heardBy
 period-off b h = after-off b h
 
-event-off : (unit number : ℕ) (value : List ℕ) (b : Bus) → eventDone unit number value b .cycle ≡ b .cycle
+pub event-off : (unit number : ℕ) (value : List ℕ) (b : Bus) → eventDone unit number value b .cycle ≡ b .cycle
 unfolding eventDone hitGiven networkDone stationDone
 event-off unit number value b =
     by-test (eqb unit 0) (λ t. rw t (by-test (eqb number HIT) (λ u. rw u) (λ u. rw u))) (λ t. rw t)

@@ -23,7 +23,7 @@ use Rattle.info.proofs.Laws.{e-info0, e-info2, e-info4, fa-info0, fa-info2, fa-
 use Rattle.combining.specs.Combine.{combined}
 use Rattle.combining.specs.Groups.{allOf}
 use Rattle.combining.specs.Sent.{Sent}
-use Rattle.combining.specs.SentD.{sentD, sentFa, anyCalling, frames, isIdle, framesLine}
+use Rattle.combining.specs.SentD.{sentD, sentFa, anyCalling, frames, isInfo3, framesLine}
 use Rattle.combining.specs.Sent.Sent.{silent, calling, frame}
 use Rattle.combining.proofs.Laws.{combined-one, combined-info0, combined-sent, combined-calling, combined-sent-d, combined-sent-fa, beside-info3, pick-heard, e-hit, fa-hit, s-hit, pick-struck-e}
 use Rattle.cycle.specs.Cycle.{bitsAt}
@@ -222,7 +222,7 @@ module _ (fas : ℕ → Bool) where
       (by-test (eqb (infoOf (s .station)) 3) (λ t. rw (t, eqb-true (infoOf (s .station)) 3 t))
       (λ t. rw t (by-test (eqb (infoOf (s .station)) 1) (λ u. rw u) (λ u. rw u))))
 
-  idle-all : (i : ℕ) (ss : List Sender) → allOf isIdle (frames (sentFrom fas i ss)) ≡ true
+  idle-all : (i : ℕ) (ss : List Sender) → allOf isInfo3 (frames (sentFrom fas i ss)) ≡ true
   unfolding allOf frames sentFrom sentUp
   idle-all i [] = refl
   idle-all i (s ∷ ss) =

@@ -1,7 +1,7 @@
 -- The bus, in document 01's order: the record, the order of notes, a period, an event, a list of
 -- calls, the ranges; then the words of "Lists and stretches" and demand 3; the D channel of a bus,
--- sound buses, and demand 3 from each of them; then what is on the line without building it, the bus
--- without a cycle, scenes by computation, and what holds of every list of calls.
+-- sound buses, and demand 3 from each of them; then what is on the line without building it, the
+-- cycle on the bus, the bus without one, scenes by computation, and what holds of every list of calls.
 pub mod Bus
 pub mod Order
 pub mod Exchange
@@ -17,6 +17,7 @@ pub mod Claims
 pub mod BusChannel
 pub mod Sound
 pub mod Quick
+pub mod CycleOnBus
 pub mod Off
 pub mod Later
 pub mod Scenes

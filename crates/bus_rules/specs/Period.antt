@@ -1,18 +1,19 @@
 -- Rules: a period (document 01, "Lists and stretches"): "exchange, hearing, then the timers due at
 -- the next one's start".
--- Interface: `readingAfter`, `networkNow`, `networkHears`, `stepped`, `doneCodes`, `cycleAfter`,
--- `heardBy`, `periodRun`, `periodNotes`. Assumes nothing.
-use mathlib.Core.Bool.{cond}
+-- Interface: `readingAfter`, `networkNow`, `networkHears`, `stepped`, `doneCodes`, `maskOf`,
+-- `cycleAfter`, `heardBy`, `periodRun`, `periodNotes`. Assumes nothing.
+use mathlib.Core.Bool.{Bool, cond}
 use mathlib.Core.List.{List, [], _∷_, map}
-use Prim.Native.Nat.{ℕ, _+_, _*_}
+use Prim.Native.Nat.{ℕ, _+_}
 use lib.Dec.{eqb}
 use Rattle.symbols.specs.Symbols.{levels}
-use Rattle.frame.specs.Bits.{bit, faBit}
+use Rattle.frame.specs.Bits.{faBit}
 use Rattle.frame.specs.Down.{sBit}
 use Rattle.cycle.specs.Cycle.{heardIn}
 use Rattle.cycle.specs.declared.record.Cycle.{Cycle}
 use Rattle.notes_and_cells.specs.Notes.{HEARD, TORN, DONE1, DONE2, noted}
 use Rattle.table_6_3.specs.Table63.{G3}
+use Rattle.hdlc.specs.Bits.{numberLowFirst}
 use Rattle.hdlc.specs.Reading.{Reading, Said, cleared}
 use Rattle.hdlc.specs.Reading.Said.{nothing, torn, heard}
 use Rattle.heard_line.specs.Sensing.{shownUp, shownDown}
@@ -71,14 +72,13 @@ timerCodes now s = noted (terminal.timer now (s .terminal) .notes)
 -- ---- The cycle after the exchange m: from the upward FA and the downward S as they are heard, and
 -- from who is in G3 and in F7 at the exchange.
 
--- which of some terminals are in F7, the first the lowest bit
-unfoldable pub f7Of : List Station → ℕ
-f7Of [] = 0
-f7Of (s ∷ ss) = bit (inF7 s) + 2 * f7Of ss
+-- which of some terminals a test holds of, as a mask: the first is the lowest bit
+abbrev pub maskOf : (Station → Bool) → List Station → ℕ
+maskOf test ss = numberLowFirst (map test ss)
 
 unfoldable pub cycleAfter : Opportunity → Cycle
 cycleAfter m =
-    heardIn (faBit (levels (wholeUp m))) (sBit (levels (wholeDown m))) (inG3 m) (f7Of (stationsOf (m .senders))) (m .cycle)
+    heardIn (faBit (levels (wholeUp m))) (sBit (levels (wholeDown m))) (inG3 m) (maskOf inF7 (stationsOf (m .senders))) (m .cycle)
 
 -- ---- Hearing, unit 0 first, after the exchange m. "The record counts periods run and D
 -- opportunities run, four for each period whose lines leave the network end in G3": the book's

@@ -48,7 +48,7 @@ use Rattle.bus_rules.specs.Exchange.{lineDown, lineUp, eComes, sendersAf
 use Rattle.bus_rules.specs.Exchange.{opportunitiesOf, exchanged, wholeDown, faDown, faSent, sentFrom, wholeUp}
 use Rattle.bus_rules.specs.CycleNotes.{qNotes, sNotes, cycleNotes}
 use Rattle.bus_rules.specs.Period.{readingAfter, networkHears, terminalHears, stepped, saidNotes, doneCodes, heardBy}
-use Rattle.bus_rules.specs.Period.{f7Of, cycleAfter, timed, periodRun, periodNotes}
+use Rattle.bus_rules.specs.Period.{cycleAfter, timed, periodRun, periodNotes}
 use Rattle.bus_rules.specs.TwoParts.{notesHeard, notesTimed}
 use Rattle.bus_rules.specs.Event.{classOf, eventFor, barsNetwork, barsTerminal, bars, callReasons, stateReasons, reasons}
 use Rattle.bus_rules.specs.Event.{firstHolding, refusal, networkDoes, networkDone, hitGiven, terminalDoes, withFrame}
@@ -100,7 +100,7 @@ unfolding within fits tabulate sameSymbols bits.octetBits bits.zeros polarity.al
     barsTerminal bars callReasons stateReasons reasons firstHolding refusal networkDoes networkDone hitGiven terminalDoes withFrame
     stationAfter stationDone eventDone eventNotes reply does tells after notes afterAll opportunitiesOfCall opportunitiesIn stationThen
     buses powered poweredFrom poweredIn longestOf longestIn network.bars terminal.bars unitByUnit notesOfAll runGoesOn runCalls runReply
-    runNotes runLeaves faDown faSent sentFrom qNotes sNotes cycleNotes f7Of cycleAfter cycle.taken cycle.bitsAt cycle.upFa cycle.heardIn
+    runNotes runLeaves faDown faSent sentFrom qNotes sNotes cycleNotes cycleAfter cycle.taken cycle.bitsAt cycle.upFa cycle.heardIn
     cycle.qTold cycle.sTold
 handedBack b calls = reportFrom b calls
 

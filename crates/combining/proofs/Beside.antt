@@ -20,7 +20,7 @@ use Rattle.info.specs.Info.{info1, info3, info3With, isInfo1}
 use Rattle.combining.specs.Combine.{isSent, only, combinedSymbol, column, combined}
 use Rattle.combining.specs.Groups.{allOf}
 use Rattle.combining.specs.Sent.{Sent, sentLine}
-use Rattle.combining.specs.SentD.{anyCalling, frames, isIdle, framesLine, allOnes}
+use Rattle.combining.specs.SentD.{anyCalling, frames, isInfo3, framesLine, allOnes}
 use Rattle.combining.specs.Sent.Sent.{silent, calling, frame}
 use Rattle.combining.proofs.Columns.{combined-at}
 use Rattle.combining.proofs.ByGroup.{all-idle}
@@ -85,7 +85,7 @@ module _ (i : ℕ) (h : i < lineLength) where
   other-polarity t n w [] = refl
   other-polarity t n w (f ∷ fs) = rw (other-symbol (getD (idleLine f) i none) (getD widest i none) t (as-widest (f .fa) (f .d) i h) n w, other-polarity t n w fs)
 
-  shows : (fs : List UpFields) → allOf isIdle fs ≡ true
+  shows : (fs : List UpFields) → allOf isInfo3 fs ≡ true
       → (sentAt plus (map upLine fs) ≡ eqb (getD (framesLine fs) i none) plus) × (sentAt minus (map upLine fs) ≡ eqb (getD (framesLine fs) i none) minus)
   shows fs idle =
       rw (← of-frames fs idle, combined-at (map upLine fs) i h, all-idle fs idle)
@@ -116,7 +116,7 @@ module _ (i : ℕ) (h : i < lineLength) where
   or-false true = refl
   or-false false = refl
 
-  beside : (xs : List Sent) → allOf isIdle (frames xs) ≡ true → anyCalling xs ≡ true
+  beside : (xs : List Sent) → allOf isInfo3 (frames xs) ≡ true → anyCalling xs ≡ true
       → combinedSymbol (column i (map sentLine xs)) ≡ combinedSymbol (column i (info1 ∷ framesLine (frames xs) ∷ []))
   unfolding isSent
   beside xs idle c =
@@ -130,7 +130,7 @@ module _ (i : ℕ) (h : i < lineLength) where
         or-false (eqb (getD (framesLine (frames xs)) i none) minus),
       )
 
-pub combined-calling : (xs : List Sent) → allOf isIdle (frames xs) ≡ true → anyCalling xs ≡ true → combined (map sentLine xs) ≡ combined (info1 ∷ framesLine (frames xs) ∷ [])
+pub combined-calling : (xs : List Sent) → allOf isInfo3 (frames xs) ≡ true → anyCalling xs ≡ true → combined (map sentLine xs) ≡ combined (info1 ∷ framesLine (frames xs) ∷ [])
 unfolding combined
 combined-calling xs idle c = tabulate-ext lineLength _ _ (λ i h. beside i h xs idle c)
 

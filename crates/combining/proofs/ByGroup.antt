@@ -20,7 +20,7 @@ use Rattle.info.specs.Info.{info3, info3Fields}
 use Rattle.combining.specs.Combine.{column, combinedOver, combined}
 use Rattle.combining.specs.Groups.{Combines, allOf, ofSender}
 use Rattle.combining.specs.Groups.Combines.{end, group}
-use Rattle.combining.specs.SentD.{isIdle, jointFields}
+use Rattle.combining.specs.SentD.{isInfo3, jointFields}
 use Rattle.combining.proofs.Columns.{map-ext, combined-parts, combined-alike, combined-plus, combined-minus}
 
 laid-out : {X : Type 0} {xs : List X} {gs : List (X → List ℕ)} {n : ℕ} {l : List ℕ} → Combines xs gs n l → combinedOver n (map (laidOut gs) xs) ≡ l
@@ -67,7 +67,7 @@ all-and k (d ∷ ds) = rw (all-and k ds, ← pick-and k d (andAll ds))
 abbrev asIdle : UpFields → UpFields
 asIdle f = info3Fields (f .fa) (f .d)
 
-idle-is : (f : UpFields) → isIdle f ≡ true → f ≡ asIdle f
+idle-is : (f : UpFields) → isInfo3 f ≡ true → f ≡ asIdle f
 idle-is f e =
     let b1 = eqb (f .b1first) 255 in
     let b2 = eqb (f .b2first) 255 in
@@ -82,10 +82,10 @@ idle-is f e =
       eqb-true (f .b2second) 255 (and-right b3 b4 last),
     )
 
-pub all-idle : (fs : List UpFields) → allOf isIdle fs ≡ true → map upLine fs ≡ map (λ f. upLine (asIdle f)) fs
+pub all-idle : (fs : List UpFields) → allOf isInfo3 fs ≡ true → map upLine fs ≡ map (λ f. upLine (asIdle f)) fs
 unfolding allOf
 all-idle [] e = refl
-all-idle (f ∷ fs) e = rw (← idle-is f (and-left (isIdle f) (allOf isIdle fs) e), ← all-idle fs (and-right (isIdle f) (allOf isIdle fs) e))
+all-idle (f ∷ fs) e = rw (← idle-is f (and-left (isInfo3 f) (allOf isInfo3 fs) e), ← all-idle fs (and-right (isInfo3 f) (allOf isInfo3 fs) e))
 
 of-map : (k : ℕ) (fs : List UpFields) → allOf (λ (f : UpFields). pick k (f .d)) fs ≡ allOf (pick k) (map (λ (f : UpFields). f .d) fs)
 unfolding allOf
@@ -122,14 +122,14 @@ module _ (f : UpFields) (fs : List UpFields) where
       end))))))))))
       ∙ sym (groups-up (jointFields (f ∷ fs)))
 
-  pub combined-idle : allOf isIdle (f ∷ fs) ≡ true → combined (map upLine (f ∷ fs)) ≡ upLine (jointFields (f ∷ fs))
+  pub combined-idle : allOf isInfo3 (f ∷ fs) ≡ true → combined (map upLine (f ∷ fs)) ≡ upLine (jointFields (f ∷ fs))
   combined-idle e = ap combined (all-idle (f ∷ fs) e) ∙ joint-idle
 
 -- INFO 3 where no cycle runs: FA is 0 of each, and so of all.
 abbrev offFields : Four → UpFields
 offFields d = info3Fields false d
 
-off-idle : (ds : List Four) → allOf isIdle (map offFields ds) ≡ true
+off-idle : (ds : List Four) → allOf isInfo3 (map offFields ds) ≡ true
 unfolding allOf
 off-idle [] = refl
 off-idle (d ∷ ds) = off-idle ds

@@ -20,7 +20,7 @@ use Rattle.info.specs.Info.{info0, info1}
 use Rattle.combining.specs.Combine.{isSent, only, column, combined}
 use Rattle.combining.specs.Groups.{allOf}
 use Rattle.combining.specs.Sent.{Sent, sentLine}
-use Rattle.combining.specs.SentD.{sentD, sentFa, isCalling, anyCalling, frames, isIdle, framesLine, heardWithInfo1}
+use Rattle.combining.specs.SentD.{sentD, sentFa, isCalling, anyCalling, frames, isInfo3, framesLine, heardWithInfo1}
 use Rattle.combining.specs.Sent.Sent.{silent, calling, frame}
 use Rattle.combining.proofs.Columns.{combined-at, combined-silent, de-morgan}
 use Rattle.combining.proofs.ByGroup.{combined-idle}
@@ -39,12 +39,12 @@ only-frames fs (frame f ∷ xs) h =
     ap combined (simp (map-append, append-assoc))
     ∙ (only-frames (fs ++ (f ∷ [])) xs h ∙ ap (λ (l : List UpFields). combined (map upLine l)) (append-assoc fs (f ∷ []) (frames xs)))
 
-pub of-frames : (fs : List UpFields) → allOf isIdle fs ≡ true → combined (map upLine fs) ≡ framesLine fs
+pub of-frames : (fs : List UpFields) → allOf isInfo3 fs ≡ true → combined (map upLine fs) ≡ framesLine fs
 unfolding combined isSent tabulate
 of-frames [] i = refl
 of-frames (f ∷ fs) i = combined-idle f fs i
 
-pub combined-sent : (xs : List Sent) → allOf isIdle (frames xs) ≡ true → anyCalling xs ≡ false → combined (map sentLine xs) ≡ framesLine (frames xs)
+pub combined-sent : (xs : List Sent) → allOf isInfo3 (frames xs) ≡ true → anyCalling xs ≡ false → combined (map sentLine xs) ≡ framesLine (frames xs)
 combined-sent xs i h = only-frames [] xs h ∙ of-frames (frames xs) i
 
 -- What is heard where a plus is sent or not, and a minus where not all bits are 1.

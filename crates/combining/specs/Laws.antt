@@ -23,7 +23,7 @@ use Rattle.combining.specs.Calls.{terminals, linesLength, rows, laid, co
 use Rattle.combining.specs.declared.combine.Combined.{Combined}
 use Rattle.combining.specs.Groups.{Combines, allOf, ofSender}
 use Rattle.combining.specs.Sent.{Sent, sentLine}
-use Rattle.combining.specs.SentD.{howManySend, sentD, sentFa, anyCalling, frames, isIdle, jointFields, framesLine}
+use Rattle.combining.specs.SentD.{howManySend, sentD, sentFa, anyCalling, frames, isInfo3, jointFields, framesLine}
 use Rattle.combining.specs.SentD.{heardWithInfo1, allOnes}
 use Rattle.combining.specs.Sent.Sent.{silent}
 use Rattle.combining.specs.Sending.{isSending, sending, linesTaken}
@@ -70,10 +70,10 @@ GroupOfOne = (X : Type 0) (n : ℕ) (g : X → List ℕ) (x : X) (before after :
     → map g before ≡ replicate (length before) (replicate n none) → map g after ≡ replicate (length after) (replicate n none)
     → combinedOver n (map g (before ++ (x ∷ after))) ≡ g x
 
--- ---- INFO 3 together are INFO 3 with the ANDs; so they are where no cycle runs and FA is 0.
+-- ---- INFO 3 together are INFO 3 with the ANDs, of FA too; where no cycle runs FA is 0 of all.
 abbrev pub CombinedIdle : Type 0
 CombinedIdle =
-    (f : UpFields) (fs : List UpFields) → allOf isIdle (f ∷ fs) ≡ true
+    (f : UpFields) (fs : List UpFields) → allOf isInfo3 (f ∷ fs) ≡ true
     → combined (map upLine (f ∷ fs)) ≡ upLine (jointFields (f ∷ fs))
 
 abbrev pub CombinedInfo3 : Type 0
@@ -86,12 +86,12 @@ CombinedD = (fs : List UpFields) → dBits (levels (combined (map upLine fs))) �
 -- Terminals that send INFO 0 or INFO 3: INFO 3 with the ANDs of those that send it, or INFO 0.
 abbrev pub CombinedSent : Type 0
 CombinedSent =
-    (xs : List Sent) → allOf isIdle (frames xs) ≡ true → anyCalling xs ≡ false → combined (map sentLine xs) ≡ framesLine (frames xs)
+    (xs : List Sent) → allOf isInfo3 (frames xs) ≡ true → anyCalling xs ≡ false → combined (map sentLine xs) ≡ framesLine (frames xs)
 
 -- Where any sends INFO 1: INFO 1 beside that line.
 abbrev pub CombinedCalling : Type 0
 CombinedCalling =
-    (xs : List Sent) → allOf isIdle (frames xs) ≡ true → anyCalling xs ≡ true
+    (xs : List Sent) → allOf isInfo3 (frames xs) ≡ true → anyCalling xs ≡ true
     → combined (map sentLine xs) ≡ combined (info1 ∷ framesLine (frames xs) ∷ [])
 
 -- INFO 1 beside INFO 3 is no frame. It is INFO 1 itself exactly where that INFO 3 has FA and all D at

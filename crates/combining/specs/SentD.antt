@@ -51,8 +51,8 @@ frames (calling ∷ xs) = frames xs
 frames (frame f ∷ xs) = f ∷ frames xs
 
 -- A frame with B at 1 is INFO 3.
-abbrev pub isIdle : UpFields → Bool
-isIdle f = eqb (f .b1first) 255 && (eqb (f .b2first) 255 && (eqb (f .b1second) 255 && eqb (f .b2second) 255))
+abbrev pub isInfo3 : UpFields → Bool
+isInfo3 f = eqb (f .b1first) 255 && (eqb (f .b2first) 255 && (eqb (f .b1second) 255 && eqb (f .b2second) 255))
 
 -- Several INFO 3 together: INFO 3 with the ANDs. Their line, or INFO 0 where there is none.
 abbrev pub jointFields : List UpFields → UpFields

@@ -46,15 +46,15 @@ m-places : map (λ p. eqb p 0) (placesFrom 20 0) ≡ true ∷ replicate 19 false
 unfolding placesFrom nextPlace
 m-places = refl
 
-pub fa-down : Laws.FaDown
+pub fa-periods : Laws.FaPeriods
 unfolding bitsAt begun
-fa-down hs c w =
+fa-periods hs c w =
     whole hs c w .sends (λ d. bitsAt d .fa)
     ∙ (by-place (λ d. bitsAt d .fa) isQ (c .qwaiting) (λ d r q. rw r) hs (begun c) (w .running) refl ∙ rw (w .long, w .first) fa-places)
 
-pub m-down : Laws.MDown
+pub m-period : Laws.MPeriod
 unfolding bitsAt begun
-m-down hs c w =
+m-period hs c w =
     whole hs c w .sends (λ d. bitsAt d .m)
     ∙ (by-place (λ d. bitsAt d .m) (λ p. eqb p 0) (c .qwaiting) (λ d r q. rw r) hs (begun c) (w .running) refl ∙ rw (w .long, w .first) m-places)
 

@@ -1,3 +1,3 @@
--- A cycle of Q and S bits on a bus, computed by lines. It stands apart from the rules of the bus,
--- since it takes as long as all of theirs.
+-- A cycle of Q and S bits on a bus, computed by lines. It stands apart from the rules of the bus, whose
+-- must-fail edits would each compute it again.
 pub mod Scene

@@ -37,6 +37,10 @@ pub fa-down : Laws.FaDown
 unfolding downBits downBody octetBits
 fa-down f = rw (frames.down-levels f)
 
+pub m-down : Laws.MDown
+unfolding downBits downBody octetBits
+m-down f = rw (frames.down-levels f)
+
 pub s-down : Laws.SDown
 unfolding downBits downBody octetBits
 s-down f = rw (frames.down-levels f)

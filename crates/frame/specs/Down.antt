@@ -1,7 +1,7 @@
 -- Rules: the frame from the network to the terminals (document 01, "Network to terminals"; table
 -- 5-2).
--- Interface: `downBody`, `downBits`, `downLine`, `eBits`, `aBit`, `sBit`, `eIndex`, `aIndex`,
--- `sIndex`, `downFieldsOf`. Assumes nothing.
+-- Interface: `downBody`, `downBits`, `downLine`, `eBits`, `aBit`, `mBit`, `sBit`, `eIndex`,
+-- `aIndex`, `sIndex`, `downFieldsOf`. Assumes nothing.
 use mathlib.Core.Bool.{Bool, false, not}
 use mathlib.Core.List.{List, [], _∷_, _++_}
 use Prim.Native.Nat.{ℕ}
@@ -43,12 +43,15 @@ downBits f = false ∷ false ∷ balanced (downBody f)
 unfoldable pub downLine : DownFields → List ℕ
 downLine f = symbols (downBits f)
 
--- The four E bits, A and S, of a downward frame's bits.
+-- The four E bits, A, M and S, of a downward frame's bits.
 abbrev pub eBits : List Bool → Four
 eBits bits = fourAt 11 24 35 46 bits
 
 abbrev pub aBit : List Bool → Bool
 aBit bits = bitAtPosition 13 bits
+
+abbrev pub mBit : List Bool → Bool
+mBit bits = bitAtPosition 26 bits
 
 abbrev pub sBit : List Bool → Bool
 sBit bits = bitAtPosition 37 bits
@@ -75,7 +78,7 @@ downFields bits = record {
   d = dBits bits;
   a = aBit bits;
   fa = faBit bits;
-  m = bitAtPosition 26 bits;
+  m = mBit bits;
   s = sBit bits;
 }
 

@@ -10,7 +10,7 @@ use Rattle.symbols.specs.Symbols.{lineLength, none, minus, level, levels, isLin
 use Rattle.frame.specs.Four.{pick, filledWithOnes, allFour, andFour}
 use Rattle.frame.specs.Bits.{balanced, dBits, dIndex, faBit, faIndex}
 use Rattle.frame.specs.Polarity.{nextPulse}
-use Rattle.frame.specs.Down.{downBits, downLine, eBits, aBit, sBit, eIndex}
+use Rattle.frame.specs.Down.{downBits, downLine, eBits, aBit, mBit, sBit, eIndex}
 use Rattle.frame.specs.Up.{upBits, upLine}
 use Rattle.frame.specs.Groups.{groupSymbols, upGroups, laidOut}
 use Rattle.frame.specs.declared.fields.Four.{Four}
@@ -35,6 +35,9 @@ ADown = (f : DownFields) → aBit (levels (downLine f)) ≡ f .a
 
 abbrev pub FaDown : Type 0
 FaDown = (f : DownFields) → faBit (levels (downLine f)) ≡ f .fa
+
+abbrev pub MDown : Type 0
+MDown = (f : DownFields) → mBit (levels (downLine f)) ≡ f .m
 
 abbrev pub SDown : Type 0
 SDown = (f : DownFields) → sBit (levels (downLine f)) ≡ f .s

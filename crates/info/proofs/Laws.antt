@@ -11,7 +11,7 @@ use Rattle.symbols.specs.Symbols.{none, plus, minus, levels, within, fits}
 use Rattle.symbols.proofs.Lines.{same-symbols-true, same-symbols-self}
 use Rattle.frame.specs.Polarity.{alternate, symbols}
 use Rattle.frame.specs.Up.{upBits, upLine}
-use Rattle.frame.proofs.Laws.{levels-up, line-down, line-up, d-up, fa-up, e-down, a-down, fa-down, s-down}
+use Rattle.frame.proofs.Laws.{levels-up, line-down, line-up, d-up, fa-up, e-down, a-down, fa-down, m-down, s-down}
 use Rattle.frame.specs.declared.fields.UpFields.{UpFields}
 use Rattle.framed.specs.Framed.{firstPulse, framedIn, hasPulse}
 use Rattle.framed.proofs.Laws.{framed-down, framed-up, pulse-down, pulse-up}
@@ -128,6 +128,12 @@ fa-info3 fa d = fa-up (info3Fields fa d)
 
 pub fa-info4 : Laws.FaInfo4
 fa-info4 bits e = fa-down (info4Fields bits e)
+
+pub m-info2 : Laws.MInfo2
+m-info2 bits = m-down (info2Fields bits)
+
+pub m-info4 : Laws.MInfo4
+m-info4 bits e = m-down (info4Fields bits e)
 
 pub s-info0 : Laws.SInfo0
 s-info0 = refl

@@ -10,7 +10,7 @@ use lib.ListN.{length}
 use Rattle.symbols.specs.Symbols.{lineLength, levels, isLine}
 use Rattle.frame.specs.Four.{allFour}
 use Rattle.frame.specs.Bits.{dBits, faBit}
-use Rattle.frame.specs.Down.{eBits, aBit, sBit}
+use Rattle.frame.specs.Down.{eBits, aBit, mBit, sBit}
 use Rattle.frame.specs.Up.{upLine}
 use Rattle.frame.specs.declared.fields.Four.{Four}
 use Rattle.frame.specs.declared.fields.CycleBits.{CycleBits}
@@ -77,8 +77,7 @@ LineInfo3 = (fa : Bool) (d : Four) → isLine (info3With fa d) ≡ true
 abbrev pub LineInfo4 : Type 0
 LineInfo4 = (bits : CycleBits) (e : Four) → isLine (info4With bits e) ≡ true
 
--- What is taken from them at symbol level: E, A, FA and S downward, D and FA upward. INFO 0 counts
--- as 1s.
+-- What they hold at symbol level: E, A, FA, M and S downward, D and FA upward. INFO 0 counts as 1s.
 abbrev pub EInfo0 : Type 0
 EInfo0 = eBits (levels info0) ≡ allFour true
 
@@ -111,6 +110,12 @@ FaInfo3 = (fa : Bool) (d : Four) → faBit (levels (info3With fa d)) ≡ fa
 
 abbrev pub FaInfo4 : Type 0
 FaInfo4 = (bits : CycleBits) (e : Four) → faBit (levels (info4With bits e)) ≡ bits .fa
+
+abbrev pub MInfo2 : Type 0
+MInfo2 = (bits : CycleBits) → mBit (levels (info2With bits)) ≡ bits .m
+
+abbrev pub MInfo4 : Type 0
+MInfo4 = (bits : CycleBits) (e : Four) → mBit (levels (info4With bits e)) ≡ bits .m
 
 abbrev pub SInfo0 : Type 0
 SInfo0 = sBit (levels info0) ≡ true

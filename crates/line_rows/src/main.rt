@@ -121,13 +121,18 @@ fn frames() {
     show(b".. with FA 1     ", &mut line);
 }
 
-// Prints INFO 2, INFO 3 and INFO 4 as a cycle of Q and S bits sets them in its first period: FA, M
-// and S at 1.
+// Prints INFO 2, INFO 3 and INFO 4 as a cycle of Q and S bits sets them: in its first period, with S
+// at 1, and INFO 4 in its sixth, with S at 0.
 fn cycle_infos() {
     let bits = CycleBits {
         fa: true,
         m: true,
         s: true,
+    };
+    let sixth = CycleBits {
+        fa: true,
+        m: false,
+        s: false,
     };
     let ones = four(true, true, true, true);
     let mut line = [NONE; LINE_LENGTH];
@@ -137,6 +142,8 @@ fn cycle_infos() {
     show(b"INFO 3 FA 1      ", &mut line);
     info4_with(bits, ones, &mut line);
     show(b"INFO 4 FA M S 1  ", &mut line);
+    info4_with(sixth, ones, &mut line);
+    show(b"INFO 4 FA 1      ", &mut line);
 }
 
 // Puts INFO 1 in the place of terminal 8 among the eight lines.
