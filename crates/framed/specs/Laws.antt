@@ -15,7 +15,8 @@ use Rattle.framed.specs.Framed.{framedDown, framedUp, hasPulse}
 abbrev pub FramedDown : Type 0
 FramedDown = (f : DownFields) → framedDown (downLine f) ≡ true
 
--- Of an upward frame 3 to 14 are B1 with its L, D with its L, and FA: it is framed unless all of these are 1.
+-- Of an upward frame the positions 3 to 14 are B1 with its L, D with its L, and FA: it is framed
+-- unless all of these are 1.
 abbrev pub openUp : UpFields → Bool
 openUp f = eqb (f .b1first) 255 && (f .d .first && f .fa)
 
