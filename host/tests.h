@@ -77,6 +77,11 @@ uint32_t try_book_fresh(struct tests *t, uint8_t *book, size_t book_length);
 uint32_t try_book_go_on(struct tests *t, uint8_t *book, size_t book_length, const uint8_t *text, size_t text_length, uint32_t whole, uint8_t *report,
                         size_t report_length, uint8_t *went, size_t went_length);
 
+// ---- Frames (tests_frames.c)
+
+// Whether a frame of a direction has a field: upward there is no E, A, M or S.
+bool has_field(uint32_t up, size_t field);
+
 // ---- The layout of a bus (sbus.h, at its end)
 
 // How many octets the record and a terminal have, and how many of them are fields; where the terminals, the letters of the hit and the

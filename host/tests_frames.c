@@ -116,8 +116,7 @@ static void read_any(struct tests *t, uint32_t up, const uint8_t *symbols)
     }
 }
 
-// Whether a frame of a direction has a field: upward there is no E, A, M or S.
-static bool has_field(uint32_t up, size_t field)
+bool has_field(uint32_t up, size_t field)
 {
     return up == 0 || field < SBUS_E11 || field == SBUS_FA;
 }

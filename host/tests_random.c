@@ -48,7 +48,7 @@ static size_t some_symbols(struct random *r, struct tests *t, uint32_t up, uint8
     }
     random_fill(r, fields, sizeof fields);
     for (size_t i = SBUS_D12; i < sizeof fields; i++) {
-        fields[i] = up != 0 && i >= SBUS_E11 ? 0 : fields[i] & 1;
+        fields[i] = has_field(up, i) ? fields[i] & 1 : 0;
     }
     CHECK(t, try_write_frame(t, up, fields, sizeof fields, symbols, SBUS_SYMBOLS_LENGTH) == SBUS_OK);
     for (uint32_t n = how == 2 ? 0 : random_below(r, 4); n > 0; n--) {
@@ -88,8 +88,8 @@ static void try_fields(struct tests *t, struct random *r)
     uint32_t limit = random_below(r, 2) == 0 ? 2 : 3;
     random_fill(r, fields, sizeof fields);
     for (size_t i = SBUS_D12; i < SBUS_FIELDS_LENGTH; i++) {
-        fields[i] = up != 0 && i >= SBUS_E11 ? (uint8_t)(random_below(r, 40) == 0) : (uint8_t)random_below(r, limit);
-        fits = fits && fields[i] <= (up != 0 && i >= SBUS_E11 ? 0 : 1);
+        fields[i] = has_field(up, i) ? (uint8_t)random_below(r, limit) : (uint8_t)(random_below(r, 40) == 0);
+        fits = fits && fields[i] <= (has_field(up, i) ? 1 : 0);
     }
     CHECK(t, try_write_frame(t, up, fields, length, symbols, sizeof symbols) == (fits ? SBUS_OK : SBUS_WRONG_SLICE));
     if (fits) {
