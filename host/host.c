@@ -12,7 +12,6 @@
 //     on U, off U, ar U, dr U      power and requests at unit U
 //     d1 U BODY, d2 U BODY         a frame for terminal U, its body in hexadecimal; - is the empty body
 //     hit LETTERS                  48 letters k, p, m, n for the coming period's downward line
-//     q U NUMBER, s U NUMBER       a message on the Q bits for terminal U, on the S bits for unit 0, each in decimal
 //     period                       runs one period
 //     run N                        runs periods until N have been run
 //     unit U                       prints what unit U is doing
@@ -109,7 +108,7 @@ static bool frames(FILE *file, uint32_t up)
 
 // ---- Notes
 
-// The note of a code as a report has it. The values of `heard`, `q` and `s` follow their names.
+// The note of a code as a report has it. The value of `heard` follows its name.
 static const char *note_text(uint8_t code)
 {
     static const char *const texts[] = {
@@ -128,27 +127,16 @@ static const char *note_text(uint8_t code)
         [SBUS_DONE2] = "done2 -",
         [SBUS_DROPPED1] = "dropped1 -",
         [SBUS_DROPPED2] = "dropped2 -",
-        [SBUS_Q_RECEIVED] = "q ",
-        [SBUS_S_RECEIVED] = "s ",
     };
-    return code <= SBUS_S_RECEIVED && texts[code] != NULL ? texts[code] : "?";
-}
-
-// A note's value as a report has it: a number in decimal, a body in hexadecimal. Other notes have none.
-static bool print_value(uint8_t code, const uint8_t *value, size_t length)
-{
-    if (code == SBUS_Q_RECEIVED || code == SBUS_S_RECEIVED) {
-        return printf("%lu", (unsigned long)number(value, length)) >= 0;
-    }
-    return print_hex(value, length);
+    return code >= SBUS_PH_ACT && code <= SBUS_DROPPED2 ? texts[code] : "?";
 }
 
 // One note as a line of a report: period, unit, note and value.
 static bool print_note(const uint8_t *note, size_t value_length)
 {
     unsigned long period = (unsigned long)number(note + 4, 4);
-    return printf("%lu %u %s", period, note[1], note_text(note[0])) >= 0
-           && print_value(note[0], note + SBUS_NOTE_HEAD_LENGTH, value_length) && putchar('\n') != EOF;
+    return printf("%lu %u %s", period, note[1], note_text(note[0])) >= 0 && print_hex(note + SBUS_NOTE_HEAD_LENGTH, value_length)
+           && putchar('\n') != EOF;
 }
 
 // All notes of a call.
@@ -269,20 +257,6 @@ static enum outcome give_frame(struct bench *b, uint32_t event, const char *unit
     return read_body(digits, body, &length) ? give(b, event, unit, body, length) : NO_STEP;
 }
 
-// A message on the Q or S bits: four octets hold every number of a script, the low-order one first.
-static enum outcome give_message(struct bench *b, uint32_t event, const char *unit, const char *text)
-{
-    uint8_t value[4];
-    uint32_t message;
-    if (!read_number(text, &message)) {
-        return NO_STEP;
-    }
-    for (size_t i = 0; i < sizeof value; i++) {
-        value[i] = (uint8_t)(message >> 8 * i);
-    }
-    return give(b, event, unit, value, sizeof value);
-}
-
 static enum outcome give_hit(struct bench *b, const char *text)
 {
     uint8_t letters[VALUE_ROOM];
@@ -386,12 +360,6 @@ static enum outcome take_event(struct bench *b, const struct words *w)
     }
     if (is_step(w, "hit", 2)) {
         return give_hit(b, w->first);
-    }
-    if (is_step(w, "q", 3)) {
-        return give_message(b, SBUS_Q_MESSAGE, w->first, w->second);
-    }
-    if (is_step(w, "s", 3)) {
-        return give_message(b, SBUS_S_MESSAGE, w->first, w->second);
     }
     return NO_STEP;
 }

@@ -8,9 +8,8 @@
 // - The slices that one call is lent must not overlap. (So a body that stands in notes is copied before it is given as a value beside them.)
 // - A call reads and writes the lent octets and nothing else, and keeps no pointer to them. A pointer to const is only read through.
 //
-// REPLIES. A call returns 0, or the number of the refusal (enum sbus_refusal): then no lent octet is changed. The
-// checks run in the order in which that enum lists them, and the first that holds gives the number. Only the three
-// calls that tell a length return something else.
+// REPLIES. A call returns 0, or the number of the refusal (enum sbus_refusal): then no lent octet is changed. The checks run in the order of
+// their numbers, and the first that holds gives the number. Only the three calls that tell a length return something else.
 //
 // NO STATE. The library keeps nothing between calls, allocates nothing, reads and writes no file. A bus is its octets: a copy of them is another
 // bus, which goes on from the same moment. Any thread may call on its own octets. A call needs about 5 KB of stack, and does not recurse.
@@ -31,7 +30,7 @@ extern "C" {
 // ---- Lengths, in octets unless something else is said ----------------------------------------------------------------------------------
 
 #define SBUS_BUS_LENGTH 3194                    // a bus; sbus_bus_length()
-#define SBUS_NOTES_LENGTH 1076                  // the notes of any call at most, their end included; sbus_notes_length()
+#define SBUS_NOTES_LENGTH 979                   // the notes of any call at most, their end included; sbus_notes_length()
 #define SBUS_BOOK_LENGTH (SBUS_BUS_LENGTH + 3)  // a book, 3197; sbus_book_length()
 #define SBUS_SYMBOLS_LENGTH 48                  // a period's symbols, and the letters of a hit
 #define SBUS_FIELDS_LENGTH 16                   // the fields of a frame
@@ -40,11 +39,11 @@ extern "C" {
 #define SBUS_WENT_LENGTH 17                     // what sbus_book_go_on tells
 #define SBUS_NOTE_HEAD_LENGTH 8                 // a note without its value
 #define SBUS_BODY_MOST 266                      // the longest body; the shortest has 1
-#define SBUS_REPORT_ROOM 4626                   // with less room than this left for the report a book does not go on
+#define SBUS_REPORT_ROOM 4248                   // with less room than this left for the report a book does not go on
 #define SBUS_LINE_MOST 600                      // the longest line of a book, its LF included
 #define SBUS_TERMINALS 8                        // terminals are units 1 to 8
 #define SBUS_PERIODS_MOST 4000000               // periods that a bus runs at most
-#define SBUS_VERSION 3                          // of the layout at the end of this file
+#define SBUS_VERSION 2                          // of the layout at the end of this file
 
 // The same three lengths as the library has them: a program that was built with another header finds out here.
 size_t sbus_bus_length(void);
@@ -60,7 +59,6 @@ enum sbus_refusal {
     SBUS_WRONG_SLICE = 2,  // another slice is too short or of the wrong length, or holds a code that stands for nothing
     SBUS_NO_UNIT = 3,      // the unit is above 8
     SBUS_NOT_FOR_UNIT = 4, // the event is not one for this unit, or is none at all
-    SBUS_TOO_LARGE = 15,   // a message on the Q bits above 15, or one on the S bits above 1,048,575; checked here, after 4
     SBUS_BARRED = 5,       // the state bars it: on outside F1, off in F1, ar in F1, F2, F4, F5, F7, G2 or G3, dr in G1 or G4
     SBUS_OUTSIDE_F7 = 6,   // a frame for a terminal outside F7
     SBUS_BODY_LENGTH = 7,  // the body has no octet, or more than 266
@@ -120,41 +118,28 @@ enum sbus_event_number {
     SBUS_DR = 4,  // unit 0: deactivation is requested
     SBUS_D1 = 5,  // terminals: a frame of class 1 to send on D; the value is its body, 1 to 266 octets
     SBUS_D2 = 6,  // terminals: the same of class 2
-    SBUS_HIT = 7, // unit 0: the coming period's downward line is disturbed; the value is a letter for each of the 48 positions
-    // 8 is none: a book's `end`
-    SBUS_Q_MESSAGE = 9, // terminals: a message to send on the Q bits, in any state; the value is a number, 0 to 15
-    SBUS_S_MESSAGE = 10 // unit 0: a message to send on the S bits, in any state; the value is a number, 0 to 1,048,575
+    SBUS_HIT = 7  // unit 0: the coming period's downward line is disturbed; the value is a letter for each of the 48 positions
 };
-
-// Q AND S BITS. The first message starts a cycle of 20 periods with the coming one, and from then on cycle follows
-// cycle, whatever is powered or active. In a cycle's periods 1, 6, 11 and 16 the downward FA is 1, and a terminal that
-// hears it sends its four Q bits in place of the upward FA. The twenty S bits go down, one in each period. A message is
-// sent once, its first bit highest, in the first cycle that begins with the coming period or later; until then a second
-// one for the same unit replaces it. Without a message the Q bits are 1 and the S bits 0. The messages of several
-// terminals meet on the line: it has a Q bit at 1 only where all that send have it at 1. At a cycle's end the notes
-// SBUS_Q_RECEIVED and SBUS_S_RECEIVED tell what was received.
-// The value of such a message is a number of any number of octets: none is 0, and high octets of 0 change nothing.
 
 // The letters of a hit. They are not the codes of symbols: a hit that takes the pulse away is 3, and 0 leaves what is there.
 enum sbus_letter { SBUS_KEEP = 0, SBUS_PUT_PLUS = 1, SBUS_PUT_MINUS = 2, SBUS_PUT_NONE = 3 };
 
-// Gives a unit an event, before the coming period's frame is sent. The bus and the notes are written; the value is
-// looked at for SBUS_D1, SBUS_D2, SBUS_HIT, SBUS_Q_MESSAGE and SBUS_S_MESSAGE alone. A second hit before the period is
-// run replaces the first.
-// 0; 1: no bus; 2: notes under 1,076 octets, or a hit that is not 48 letters; 3, 4, 15, 5, 6, 7, 8: enum sbus_refusal.
+// Gives a unit an event, before the coming period's frame is sent. The bus and the notes are written; the value is looked at for SBUS_D1, SBUS_D2
+// and SBUS_HIT alone. A second hit before the period is run replaces the first.
+// 0; 1: no bus; 2: notes under 979 octets, or a hit that is not 48 letters; 3, 4, 5, 6, 7, 8: see enum sbus_refusal.
 uint32_t sbus_event(uint8_t *bus, size_t bus_length, uint8_t *notes, size_t notes_length, uint32_t unit, uint32_t event, const uint8_t *value,
                     size_t value_length);
 
 // Runs one period: the frame goes over the line, all units hear it, then come the timers due at the next period's start. The bus and the notes
 // are written.
-// 0; 1: no bus; 2: notes under 1,076 octets; 9: 4,000,000 periods have been run.
+// 0; 1: no bus; 2: notes under 979 octets; 9: 4,000,000 periods have been run.
 uint32_t sbus_period(uint8_t *bus, size_t bus_length, uint8_t *notes, size_t notes_length);
 
 // Runs periods until `until` have been run since the bus was fresh, or one hands back notes: what so many calls of sbus_period do, in less time.
 // `until` is not a number of periods to run but the number of the first that is not run. The notes are those of the last period run. Without notes
 // the bus has come to `until`, or to 4,000,000, past which none is run; with notes sbus_counts tells whether it has. A bus that is there already or
-// past it runs nothing and hands back no notes.
-// 0; 1: no bus; 2: notes under 1,076 octets; 9: `until` is above 4,000,000, and so many have been run.
+// past it runs nothing.
+// 0; 1: no bus; 2: notes under 979 octets; 9: `until` is above 4,000,000, and so many have been run.
 uint32_t sbus_run(uint8_t *bus, size_t bus_length, uint8_t *notes, size_t notes_length, uint32_t until);
 
 // Tells how far a bus is: octets 0 to 3 of `counts` are the periods run, which is the number of the coming period; 4 to 7 the D opportunities run,
@@ -176,8 +161,7 @@ uint32_t sbus_unit(const uint8_t *bus, size_t bus_length, uint32_t unit, uint8_t
 //     octet 1      its unit
 //     octets 2, 3  the number of octets of its value
 //     octets 4-7   its period; for a timer's note this is the period at whose start the timer was due: the one after the period run
-//     octets 8-    its value: of SBUS_HEARD the body, of SBUS_Q_RECEIVED a number of one octet, of SBUS_S_RECEIVED a
-//                  number of three; every other note has none
+//     octets 8-    its value: the body of SBUS_HEARD; every other note has none
 // An octet 0 in the place of a code ends them. Octets behind that are left as they were. A call that is not refused always writes that end.
 enum sbus_note {
     SBUS_NOTES_END = 0,
@@ -195,10 +179,7 @@ enum sbus_note {
     SBUS_DONE1 = 12,            // a terminal's frame of class 1 is completed
     SBUS_DONE2 = 13,            // of class 2
     SBUS_DROPPED1 = 14,         // a terminal has left F7 while it held a frame of class 1
-    SBUS_DROPPED2 = 15,         // of class 2
-    // 16 is none of these: a report's `refused`
-    SBUS_Q_RECEIVED = 17,       // unit 0: the four Q bits of a cycle, at all of whose exchanges it was in G3; not if they are 15
-    SBUS_S_RECEIVED = 18        // a terminal: the twenty S bits of a cycle, at all of whose exchanges it was in F7; not if they are 0
+    SBUS_DROPPED2 = 15          // of class 2
 };
 // A refusal is the call's reply, and never a note.
 
@@ -211,7 +192,7 @@ uint32_t sbus_book_fresh(uint8_t *book, size_t book_length);
 // Why sbus_book_go_on has stopped.
 enum sbus_stop {
     SBUS_NEEDS_TEXT = 1, // the text holds no further whole line, and is not said to be all
-    SBUS_NEEDS_ROOM = 2, // less than 4,626 octets of room are left
+    SBUS_NEEDS_ROOM = 2, // less than 4,248 octets of room are left
     SBUS_FINISHED = 3    // the report is finished
 };
 
@@ -228,7 +209,7 @@ enum sbus_stop {
 uint32_t sbus_book_go_on(uint8_t *book, size_t book_length, const uint8_t *text, size_t text_length, uint32_t whole, uint8_t *report,
                          size_t report_length, uint8_t *went, size_t went_length);
 
-// ---- The layout of a bus, version 3 ----------------------------------------------------------------------------------------------------
+// ---- The layout of a bus, version 2 ----------------------------------------------------------------------------------------------------
 
 // For whoever stores buses or looks into a dump. A host has no need of it, and nothing is promised of a bus that a host has written into: it is
 // refused with 1, or is a bus like any other. A bus of another version is refused with 1, too: later versions give reserved octets a
@@ -236,7 +217,7 @@ uint32_t sbus_book_go_on(uint8_t *book, size_t book_length, const uint8_t *text,
 //
 //     octets      range        what
 //     0-3         "SBUS"
-//     4           3            version
+//     4           2            version
 //     5-8         0-4000000    periods run
 //     9-12                     D opportunities run, at most four times the periods
 //     13-16       0-4120000    T1: the period at whose start it is due, 0 for none
@@ -251,17 +232,7 @@ uint32_t sbus_book_go_on(uint8_t *book, size_t book_length, const uint8_t *text,
 //     29          0-1          whether the last 0 counts among the bits
 //     30          0-1          the last D that the network end heard
 //     31          0-1          whether a hit is pending
-//     32-35       0-1048575    Q and S bits: the S message for the next cycle to begin, 0 for none
-//     36-39       0-1048575    what is left of this cycle's S message, as twenty bits with the next one highest
-//     40-43       0-1048575    the S bits heard in it, the last one lowest, while a terminal can be told of them
-//     44-51       0-15 each    the Q messages of terminals 1 to 8 for the next cycle to begin, 15 for none
-//     52-59       0-15 each    those of this cycle
-//     60          0-15         the Q bits heard in it, the last one lowest
-//     61          any          which terminals were in F7 at all its exchanges so far, terminal 1 the lowest bit
-//     62          0-19         the coming period's place in it
-//     63          0-1          whether there is a cycle
-//     64          0-1          whether the network end was in G3 at all its exchanges so far
-//     65-111      0            reserved
+//     32-111      0            reserved
 //     112-303                  terminals 1 to 8, 24 octets each; terminal u from 112 + 24 (u - 1) on:
 //       0-3       0-4120000      T3
 //       4-5       0-2569         bits of the held frame's image

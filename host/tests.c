@@ -57,7 +57,6 @@ int main(int argc, char **argv)
     test_frames(&t);
     test_bus(&t);
     test_scenes(&t);
-    test_cycle(&t);
     test_books(&t, argc - first, argv + first);
     test_random(&t, seed);
     if (!slots_close(&t)) {

@@ -49,7 +49,6 @@ void check_at(struct tests *t, bool holds, const char *what, const char *file, i
 void test_frames(struct tests *t);
 void test_bus(struct tests *t);
 void test_scenes(struct tests *t);
-void test_cycle(struct tests *t);
 void test_books(struct tests *t, int count, char **names);
 void test_random(struct tests *t, uint64_t seed);
 
@@ -86,22 +85,15 @@ bool has_field(uint32_t up, size_t field);
 // ---- The layout of a bus (sbus.h, at its end)
 
 // How many octets the record and a terminal have, and how many of them are fields; where the terminals, the letters of the hit and the
-// octets of the reader begin. Of the cycle of Q and S bits in the record: the S message that waits, the Q messages that
-// wait and those that are sent, the Q bits heard, the coming period's place, and whether there is a cycle.
+// octets of the reader begin.
 enum {
-    RECORD_FIELDS = 65,
+    RECORD_FIELDS = 32,
     RECORD_LENGTH = 112,
     TERMINAL_FIELDS = 16,
     TERMINAL_LENGTH = 24,
     TERMINALS_AT = 112,
     LETTERS_AT = 304,
-    OCTETS_AT = 352,
-    S_WAITING_AT = 32,
-    Q_WAITING_AT = 44,
-    Q_SENT_AT = 52,
-    Q_HEARD_AT = 60,
-    PLACE_AT = 62,
-    RUNNING_AT = 63
+    OCTETS_AT = 352
 };
 
 // ---- Numbers, notes and text (tests_text.c)
@@ -142,8 +134,6 @@ void scene_open(struct scene *s, struct tests *t);
 // Calls on it; their notes are added to what was told.
 uint32_t give(struct scene *s, uint32_t unit, uint32_t event);
 uint32_t give_value(struct scene *s, uint32_t unit, uint32_t event, const uint8_t *value, size_t length);
-// A message on the Q bits for a terminal, on the S bits for unit 0, in three octets.
-uint32_t give_message(struct scene *s, uint32_t unit, uint32_t message);
 uint32_t run_one(struct scene *s);
 // Runs until so many periods are run, through as many calls of sbus_run as it takes; the last reply.
 uint32_t run_to(struct scene *s, uint32_t until);

@@ -81,7 +81,7 @@ static void test_room(struct tests *t)
     uint8_t book[SBUS_BOOK_LENGTH];
     uint8_t went[SBUS_WENT_LENGTH] = {0};
     uint8_t report[SBUS_REPORT_ROOM] = {0};
-    begin(t, "with less than 4,626 octets of room a book does not go on");
+    begin(t, "with less than 4,248 octets of room a book does not go on");
     CHECK(t, try_book_fresh(t, fresh, sizeof fresh) == SBUS_OK);
     memcpy(book, fresh, sizeof book);
     for (size_t i = 0; i < sizeof rooms / sizeof rooms[0]; i++) {
@@ -244,7 +244,7 @@ static void test_stored(struct tests *t, const char *name, size_t part, size_t r
 
 static uint32_t event_of(const char *name)
 {
-    static const char *const names[] = {"", "on", "off", "ar", "dr", "d1", "d2", "hit", "end", "q", "s"};
+    static const char *const names[] = {"", "on", "off", "ar", "dr", "d1", "d2", "hit", "end"};
     for (uint32_t event = SBUS_ON; event < sizeof names / sizeof names[0]; event++) {
         if (strcmp(name, names[event]) == 0) {
             return event;
@@ -259,19 +259,6 @@ static uint8_t place(char c, const char *among)
     return at == NULL ? 255 : (uint8_t)(at - among);
 }
 
-// The octets of a number, as few as it has: a book gives its bus three, and the report is the same.
-static size_t message_of(const char *text, uint8_t *value)
-{
-    unsigned long message = strtoul(text, NULL, 10);
-    size_t length = 0;
-    while (message > 0) {
-        value[length] = (uint8_t)message;
-        message >>= 8;
-        length++;
-    }
-    return length;
-}
-
 // The octets that a value of right form says.
 static size_t value_of(uint32_t event, const char *text, uint8_t *value)
 {
@@ -281,9 +268,6 @@ static size_t value_of(uint32_t event, const char *text, uint8_t *value)
             value[i] = place(text[i], "kpmn");
         }
         return SBUS_SYMBOLS_LENGTH;
-    }
-    if (event == SBUS_Q_MESSAGE || event == SBUS_S_MESSAGE) {
-        return message_of(text, value);
     }
     size_t length = strcmp(text, "-") == 0 ? 0 : strlen(text) / 2;
     for (size_t i = 0; i < length; i++) {

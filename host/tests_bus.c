@@ -20,7 +20,7 @@ static size_t terminal_at(uint32_t unit)
     return TERMINALS_AT + TERMINAL_LENGTH * ((size_t)unit - 1);
 }
 
-// The octets of a fresh bus by the layout of version 3: what is not named here is 0.
+// The octets of a fresh bus by the layout of version 2: what is not named here is 0.
 static void fresh_by_layout(uint8_t *bus)
 {
     memset(bus, 0, SBUS_BUS_LENGTH);
@@ -29,9 +29,6 @@ static void fresh_by_layout(uint8_t *bus)
     bus[21] = 1; // G1
     bus[26] = 7; // no 0 has been read
     bus[30] = 1; // the last D heard
-    memset(bus + Q_WAITING_AT, 15, SBUS_TERMINALS); // no message on the Q bits: four 1s
-    memset(bus + Q_SENT_AT, 15, SBUS_TERMINALS);
-    bus[Q_HEARD_AT] = 15;
     for (uint32_t unit = 1; unit <= SBUS_TERMINALS; unit++) {
         bus[terminal_at(unit) + 12] = 1; // the bit that left last
         bus[terminal_at(unit) + 13] = 1; // F1
@@ -115,10 +112,9 @@ static void test_no_bus(struct tests *t)
     end(t);
 }
 
-// Fresh buses of earlier versions. Version 1 had no reserved octets: 3,050 octets, the terminals from 32 on, 16 each.
-// It is refused as it was stored, and with as many octets as a bus has now. Version 2 had 0 in the octets of the
-// cycle, where 0 is a message now. A bus that is as it must be but for the version is refused as well.
-static void test_old_versions(struct tests *t)
+// A fresh bus of version 1, which had no reserved octets: 3,050 octets, the terminals from 32 on, 16 each. It is refused as it was stored,
+// and with as many octets as a bus has now. A bus that is as it must be but for the version is refused as well.
+static void test_version_1(struct tests *t)
 {
     uint8_t bus[SBUS_BUS_LENGTH] = "SBUS\001";
     begin(t, "refusal 1 at every call: a bus of version 1");
@@ -132,21 +128,10 @@ static void test_old_versions(struct tests *t)
     all_calls_say(t, bus, 3050, SBUS_NO_BUS);
     all_calls_say(t, bus, sizeof bus, SBUS_NO_BUS);
     book_says(t, bus, SBUS_NO_BUS);
-    end(t);
-    begin(t, "refusal 1 at every call: a bus of version 2");
     fresh_by_layout(bus);
-    memset(bus + S_WAITING_AT, 0, RECORD_FIELDS - S_WAITING_AT);
-    bus[4] = 2;
+    bus[4] = 1;
     all_calls_say(t, bus, sizeof bus, SBUS_NO_BUS);
     book_says(t, bus, SBUS_NO_BUS);
-    end(t);
-    begin(t, "refusal 1 at every call: a bus of today but for its version");
-    for (uint8_t version = 0; version < SBUS_VERSION; version++) {
-        fresh_by_layout(bus);
-        bus[4] = version;
-        all_calls_say(t, bus, sizeof bus, SBUS_NO_BUS);
-        book_says(t, bus, SBUS_NO_BUS);
-    }
     end(t);
 }
 
@@ -168,17 +153,16 @@ static void reserved(struct tests *t, uint8_t *bus, size_t from, size_t to)
     book_says(t, bus, SBUS_OK);
 }
 
-// On a bus in work: all terminals active, each with a frame and a message on the Q bits, in mid-cycle.
+// On a bus in work: all terminals active, each with a frame.
 static void test_reserved(struct tests *t)
 {
     static const uint8_t body[] = {0xfc, 0xff, 0x03};
     struct scene s;
-    begin(t, "refusal 1: each of the 47 reserved octets of the record");
+    begin(t, "refusal 1: each of the 80 reserved octets of the record");
     scene_open(&s, t);
     activate(&s, SBUS_TERMINALS);
     for (uint32_t unit = 1; unit <= SBUS_TERMINALS; unit++) {
         CHECK(t, give_value(&s, unit, SBUS_D1, body, sizeof body) == SBUS_OK);
-        CHECK(t, give_message(&s, unit, unit) == SBUS_OK);
     }
     CHECK(t, run_to(&s, 30) == SBUS_OK);
     reserved(t, s.bus, RECORD_FIELDS, RECORD_LENGTH);
@@ -226,11 +210,6 @@ static void test_ranges(struct tests *t)
         {5, 4, 0, 4000000}, {13, 4, 0, 4120000}, {17, 4, 0, 4000200}, {21, 1, 1, 4}, {22, 1, 0, 1}, {23, 1, 0, 2},
         {24, 2, 0, 2136},   {26, 1, 0, 7},       {28, 1, 0, 1},       {29, 1, 0, 1}, {30, 1, 0, 1}, {31, 1, 0, 1},
     };
-    // the S messages and the S bits heard, the Q bits heard, the place, whether there is a cycle, whether it was G3
-    static const struct field of_cycle[] = {
-        {S_WAITING_AT, 4, 0, 1048575}, {36, 4, 0, 1048575}, {40, 4, 0, 1048575}, {Q_HEARD_AT, 1, 0, 15}, {PLACE_AT, 1, 0, 19},
-        {RUNNING_AT, 1, 0, 1},         {64, 1, 0, 1},
-    };
     static const struct field of_terminal[] = {
         {0, 4, 0, 4120000}, {4, 2, 0, 2569}, {6, 2, 0, 2569}, {8, 1, 0, 11}, {9, 1, 0, 2},  {10, 1, 0, 1},
         {11, 1, 0, 1},      {12, 1, 0, 1},   {13, 1, 1, 8},   {14, 1, 0, 1}, {15, 1, 0, 2},
@@ -241,19 +220,6 @@ static void test_ranges(struct tests *t)
     for (size_t i = 0; i < sizeof of_network / sizeof of_network[0]; i++) {
         test_field(t, bus, &of_network[i]);
     }
-    end(t);
-    begin(t, "refusal 1: the range of every field of the cycle of Q and S bits, at rest and running");
-    for (uint8_t running = 0; running <= 1; running++) {
-        bus[RUNNING_AT] = running;
-        for (size_t i = 0; i < sizeof of_cycle / sizeof of_cycle[0]; i++) {
-            test_field(t, bus, &of_cycle[i]);
-        }
-        for (size_t at = Q_WAITING_AT; at < Q_SENT_AT + SBUS_TERMINALS; at++) {
-            struct field f = {at, 1, 0, 15};
-            test_field(t, bus, &f);
-        }
-    }
-    bus[RUNNING_AT] = 0;
     end(t);
     for (uint32_t unit = 1; unit <= SBUS_TERMINALS; unit++) {
         begin(t, "refusal 1: the range of every field of terminal %u", (unsigned)unit);
@@ -272,7 +238,7 @@ static void test_ranges(struct tests *t)
     end(t);
 }
 
-// D opportunities are at most four times the periods; octets read, images, and who was in F7 are any octets.
+// D opportunities are at most four times the periods; octets read and images are any octets.
 static void test_free_fields(struct tests *t)
 {
     static const struct field opportunities = {9, 4, 0, 0};
@@ -290,7 +256,6 @@ static void test_free_fields(struct tests *t)
     begin(t, "octets of a bus that may be anything");
     fresh_by_layout(bus);
     bus[27] = 0xff;
-    bus[61] = 0xff;
     memset(bus + OCTETS_AT, 0xff, SBUS_BUS_LENGTH - OCTETS_AT);
     all_calls_say(t, bus, sizeof bus, SBUS_OK);
     end(t);
@@ -302,7 +267,7 @@ static void test_notes_room(struct tests *t)
 {
     struct scene s;
     uint8_t notes[SBUS_NOTES_LENGTH + 1];
-    begin(t, "refusal 2: notes under 1,076 octets");
+    begin(t, "refusal 2: notes under 979 octets");
     for (size_t n = 0; n <= SBUS_NOTES_LENGTH + 1; n += n == 0 ? SBUS_NOTES_LENGTH - 2 : 1) {
         uint32_t reply = n < SBUS_NOTES_LENGTH ? SBUS_WRONG_SLICE : SBUS_OK;
         memset(notes, 0xee, sizeof notes);
@@ -340,7 +305,7 @@ static void test_told_room(struct tests *t)
 // ---- Units and events
 
 static const uint32_t no_units[] = {9, 10, 255, 256, 257, 65536, 0x80000000u, UINT32_MAX};
-static const uint32_t no_events[] = {0, 8, 11, 16, 255, 256, 257, 259, 265, 266, 65537, 0x80000003u, 0x80000009u, UINT32_MAX};
+static const uint32_t no_events[] = {0, 8, 9, 255, 256, 257, 259, 65537, 0x80000003u, UINT32_MAX};
 
 static void test_units(struct tests *t)
 {
@@ -356,7 +321,7 @@ static void test_units(struct tests *t)
     }
     for (size_t i = 0; i < sizeof no_units / sizeof no_units[0]; i++) {
         CHECK(t, try_unit(t, s.bus, sizeof s.bus, no_units[i], seen, sizeof seen) == SBUS_NO_UNIT);
-        for (uint32_t event = 0; event <= SBUS_S_MESSAGE + 1; event++) {
+        for (uint32_t event = 0; event <= 8; event++) {
             static const uint8_t keep[SBUS_SYMBOLS_LENGTH] = {0};
             CHECK(t, give_value(&s, no_units[i], event, keep, sizeof keep) == SBUS_NO_UNIT);
         }
@@ -366,14 +331,13 @@ static void test_units(struct tests *t)
 
 static void test_events(struct tests *t)
 {
-    // the replies of a fresh bus to the events on, off, ar, dr, d1, d2, hit, to 8, which is none, and to q and s: for
-    // unit 0, and for a terminal
-    static const uint32_t replies[2][10] = {{4, 4, 0, 5, 4, 4, 0, 4, 4, 0}, {0, 5, 5, 4, 6, 6, 4, 4, 0, 4}};
+    // the replies of a fresh bus to the events on, off, ar, dr, d1, d2, hit, for unit 0 and for a terminal
+    static const uint32_t replies[2][7] = {{4, 4, 0, 5, 4, 4, 0}, {0, 5, 5, 4, 6, 6, 4}};
     static const uint8_t keep[SBUS_SYMBOLS_LENGTH] = {0};
     struct scene s;
     begin(t, "every event for every unit of a fresh bus");
     for (uint32_t unit = 0; unit <= SBUS_TERMINALS; unit++) {
-        for (uint32_t event = SBUS_ON; event <= SBUS_S_MESSAGE; event++) {
+        for (uint32_t event = SBUS_ON; event <= SBUS_HIT; event++) {
             scene_open(&s, t);
             CHECK(t, give_value(&s, unit, event, keep, sizeof keep) == replies[unit > 0][event - 1]);
             CHECK(t, s.told.length == 0);
@@ -546,15 +510,15 @@ static void test_order(struct tests *t)
     CHECK(t, try_counts(t, s.bus, 0, seen, 0) == SBUS_NO_BUS);
     CHECK(t, try_unit(t, s.bus, 0, 9, seen, 0) == SBUS_NO_BUS);
     CHECK(t, try_unit(t, s.bus, sizeof s.bus, 9, seen, 0) == SBUS_WRONG_SLICE);
-    CHECK(t, try_event(t, s.bus, sizeof s.bus, s.notes, SBUS_NOTES_LENGTH - 1, 9, SBUS_ON, NULL, 0) == SBUS_WRONG_SLICE);
+    CHECK(t, try_event(t, s.bus, sizeof s.bus, s.notes, 978, 9, SBUS_ON, NULL, 0) == SBUS_WRONG_SLICE);
     CHECK(t, give_value(&s, 9, SBUS_HIT, letters, sizeof letters) == SBUS_WRONG_SLICE);
     CHECK(t, give_value(&s, 1, SBUS_HIT, letters, sizeof letters) == SBUS_WRONG_SLICE);
     CHECK(t, give(&s, 9, 0) == SBUS_NO_UNIT);
     CHECK(t, give(&s, 9, SBUS_DR) == SBUS_NO_UNIT);
     CHECK(t, give(&s, 0, SBUS_OFF) == SBUS_NOT_FOR_UNIT);
     put_number(s.bus + 5, 4, SBUS_PERIODS_MOST);
-    CHECK(t, try_period(t, s.bus, sizeof s.bus, s.notes, SBUS_NOTES_LENGTH - 1) == SBUS_WRONG_SLICE);
-    CHECK(t, try_run(t, s.bus, sizeof s.bus, s.notes, SBUS_NOTES_LENGTH - 1, UINT32_MAX) == SBUS_WRONG_SLICE);
+    CHECK(t, try_period(t, s.bus, sizeof s.bus, s.notes, 978) == SBUS_WRONG_SLICE);
+    CHECK(t, try_run(t, s.bus, sizeof s.bus, s.notes, 978, UINT32_MAX) == SBUS_WRONG_SLICE);
     end(t);
 }
 
@@ -592,7 +556,7 @@ void test_bus(struct tests *t)
     test_length_calls(t);
     test_fresh(t);
     test_no_bus(t);
-    test_old_versions(t);
+    test_version_1(t);
     test_reserved(t);
     test_ranges(t);
     test_free_fields(t);

@@ -123,30 +123,17 @@ static void some_letters(struct random *r, uint8_t *letters)
     }
 }
 
-// A message on the Q or S bits: most of them in their range, the others around its end, in none to five octets.
-static size_t some_message(struct random *r, uint8_t *message, uint32_t messages)
-{
-    memset(message, 0, 5);
-    put_number(message, 4, random_below(r, 8) == 0 ? messages - 2 + random_below(r, 4) : random_below(r, messages));
-    message[4] = random_below(r, 16) == 0;
-    return random_below(r, 6);
-}
-
 // An event that a bench may give, or one with wrong numbers or a wrong value.
 static uint32_t some_event(struct tests *t, struct random *r, uint8_t *bus, uint8_t *notes)
 {
     uint8_t value[300] = {0};
-    uint32_t event = random_below(r, 50) == 0 ? (uint32_t)random_next(r) : random_below(r, SBUS_S_MESSAGE + 2);
+    uint32_t event = random_below(r, 50) == 0 ? (uint32_t)random_next(r) : random_below(r, 9);
     uint32_t unit = random_below(r, 50) == 0 ? (uint32_t)random_next(r) : random_below(r, 10);
     size_t length = some_body(r, value);
     if (event == SBUS_HIT) {
         some_letters(r, value);
         length = SBUS_SYMBOLS_LENGTH;
         unit = random_below(r, 4) == 0 ? unit : 0;
-    }
-    if (event == SBUS_Q_MESSAGE || event == SBUS_S_MESSAGE) {
-        length = some_message(r, value, event == SBUS_Q_MESSAGE ? 16 : 1048576);
-        unit = event == SBUS_S_MESSAGE && random_below(r, 4) != 0 ? 0 : unit;
     }
     if (random_below(r, 20) == 0) {
         random_fill(r, value, sizeof value);
@@ -155,8 +142,7 @@ static uint32_t some_event(struct tests *t, struct random *r, uint8_t *bus, uint
     return try_event(t, bus, SBUS_BUS_LENGTH, notes, SBUS_NOTES_LENGTH, unit, event, value, length);
 }
 
-// A bus that has gone through something: powered terminals, most of them active, frames held and under way, hits,
-// timers running, on half of them a cycle of Q and S bits.
+// A bus that has gone through something: powered terminals, most of them active, frames held and under way, hits, timers running.
 static void make_real(struct tests *t, struct random *r, uint8_t *bus)
 {
     uint8_t notes[SBUS_NOTES_LENGTH] = {0};
@@ -168,18 +154,11 @@ static void make_real(struct tests *t, struct random *r, uint8_t *bus)
     }
     CHECK(t, try_period(t, bus, SBUS_BUS_LENGTH, notes, sizeof notes) == SBUS_OK);
     CHECK(t, try_event(t, bus, SBUS_BUS_LENGTH, notes, sizeof notes, 0, SBUS_AR, NULL, 0) == SBUS_OK);
-    bool messages = random_below(r, 2) == 0;
     for (uint32_t n = 10 + random_below(r, 100); n > 0; n--) {
         uint32_t unit = 1 + random_below(r, SBUS_TERMINALS);
         uint8_t body[SBUS_BODY_MOST];
         size_t length = some_body(r, body);
         CHECK(t, try_event(t, bus, SBUS_BUS_LENGTH, notes, sizeof notes, unit, SBUS_D1 + random_below(r, 2), body, length) != SBUS_NO_BUS);
-        if (messages && random_below(r, 8) == 0) {
-            uint32_t to = random_below(r, SBUS_TERMINALS + 1);
-            uint32_t event = to == 0 ? SBUS_S_MESSAGE : SBUS_Q_MESSAGE;
-            put_number(body, 3, random_below(r, to == 0 ? 1048576 : 16));
-            CHECK(t, try_event(t, bus, SBUS_BUS_LENGTH, notes, sizeof notes, to, event, body, 3) == SBUS_OK);
-        }
         if (random_below(r, 40) == 0) {
             CHECK(t, some_event(t, r, bus, notes) != SBUS_NO_BUS);
         }
@@ -196,8 +175,7 @@ static void refused_by_all(struct tests *t, struct random *r, uint8_t *bus, size
     uint8_t told[SBUS_COUNTS_LENGTH] = {0};
     CHECK(t, try_period(t, bus, length, notes, sizeof notes) == SBUS_NO_BUS);
     CHECK(t, try_run(t, bus, length, notes, sizeof notes, random_below(r, 100)) == SBUS_NO_BUS);
-    uint32_t event = random_below(r, SBUS_S_MESSAGE + 1);
-    CHECK(t, try_event(t, bus, length, notes, sizeof notes, random_below(r, 9), event, told, 1) == SBUS_NO_BUS);
+    CHECK(t, try_event(t, bus, length, notes, sizeof notes, random_below(r, 9), random_below(r, 8), told, 1) == SBUS_NO_BUS);
     CHECK(t, try_unit(t, bus, length, random_below(r, 9), told, sizeof told) == SBUS_NO_BUS);
     CHECK(t, try_counts(t, bus, length, told, sizeof told) == SBUS_NO_BUS);
 }
@@ -232,8 +210,7 @@ static void step_on(struct tests *t, struct random *r, uint8_t *bus, enum step w
     random_fill(r, notes, 16);
     memset(notes + 16, 0x33, sizeof notes - 16);
     if (what == AN_EVENT) {
-        uint32_t reply = some_event(t, r, bus, notes);
-        CHECK(t, reply <= SBUS_FRAME_HELD || reply == SBUS_TOO_LARGE);
+        CHECK(t, some_event(t, r, bus, notes) <= SBUS_FRAME_HELD);
     } else if (what == A_RUN) {
         uint32_t reply = try_run(t, bus, SBUS_BUS_LENGTH, notes, sizeof notes, periods + random_below(r, 20));
         CHECK(t, reply == SBUS_OK || (reply == SBUS_ALL_RUN && periods == SBUS_PERIODS_MOST));
@@ -303,13 +280,12 @@ static void try_garbage_book(struct tests *t, struct random *r)
 // Lines of a book, with short times between them; some of them faulty after a few octets have been changed.
 static size_t some_text(struct random *r, char *text, size_t room)
 {
-    static const char *const events[] = {"on", "off", "ar", "dr", "d1", "d2", "hit", "q", "s", "end"};
+    static const char *const events[] = {"on", "off", "ar", "dr", "d1", "d2", "hit", "end"};
     struct text x = {text, 0, room - 1};
     uint32_t period = 0;
     add_line(&x, "period unit event value");
     for (uint32_t n = 3 + random_below(r, 25); n > 0; n--) {
-        uint32_t event = random_below(r, 9);
-        bool of_unit_0 = event == 3 || event == 6 || event == 8;
+        uint32_t event = random_below(r, 7);
         char value[64] = "-";
         period += random_below(r, 6) == 0 ? random_below(r, 60) : random_below(r, 4);
         if (event == 4 || event == 5) {
@@ -319,12 +295,9 @@ static size_t some_text(struct random *r, char *text, size_t room)
             value[i] = "kkkkkpmn"[random_below(r, 8)];
             value[i + 1] = '\0';
         }
-        if (event == 7 || event == 8) {
-            (void)snprintf(value, sizeof value, "%u", (unsigned)random_below(r, event == 7 ? 17 : 1048600));
-        }
-        add_line(&x, "%u %u %s %s", (unsigned)period, (unsigned)(of_unit_0 ? 0 : random_below(r, 10)), events[event], value);
+        add_line(&x, "%u %u %s %s", (unsigned)period, (unsigned)(event == 3 || event == 6 ? 0 : random_below(r, 10)), events[event], value);
     }
-    add_line(&x, "%u 0 %s -", (unsigned)period + 30, events[9]);
+    add_line(&x, "%u 0 %s -", (unsigned)period + 30, events[7]);
     if (random_below(r, 2) == 0) {
         mutate(r, (uint8_t *)text, x.length);
     }

@@ -29,37 +29,19 @@ size_t note_length(const uint8_t *note)
     return SBUS_NOTE_HEAD_LENGTH + (size_t)number(note + 2, 2);
 }
 
-// The value of a note: a body of 1 to 266 octets; Q bits, one octet, not all of them 1; S bits, three octets, not all
-// of them 0; else none.
-static bool value_formed(uint8_t code, const uint8_t *value, size_t length)
-{
-    switch (code) {
-    case SBUS_HEARD:
-        return length >= 1 && length <= SBUS_BODY_MOST;
-    case SBUS_Q_RECEIVED:
-        return length == 1 && value[0] < 15;
-    case SBUS_S_RECEIVED:
-        return length == 3 && number(value, 3) >= 1 && number(value, 3) <= 1048575;
-    default:
-        return length == 0;
-    }
-}
-
-// Whether a note of this code can be this unit's: activation and deactivation are of every unit, any other of unit 0 or
-// of terminals.
-static bool of_unit(uint8_t code, uint8_t unit)
-{
-    bool of_unit_0 = code == SBUS_HEARD || code == SBUS_TORN || code == SBUS_MPH_EI || code == SBUS_Q_RECEIVED;
-    bool of_both = code >= SBUS_PH_ACT && code <= SBUS_MPH_DEACT;
-    return of_both || (of_unit_0 ? unit == 0 : unit != 0);
-}
-
-// A note of which so many octets may be read: its code, its unit and its value are some.
+// A note of which so many octets may be read: its code and unit are some, a body has 1 to 266 octets, and no other note has a value.
 static bool note_formed(const uint8_t *note, size_t room)
 {
-    bool is_code = (note[0] >= SBUS_PH_ACT && note[0] <= SBUS_DROPPED2) || note[0] == SBUS_Q_RECEIVED || note[0] == SBUS_S_RECEIVED;
-    return is_code && room >= SBUS_NOTE_HEAD_LENGTH && note_length(note) <= room && note[1] <= SBUS_TERMINALS && of_unit(note[0], note[1])
-           && value_formed(note[0], note + SBUS_NOTE_HEAD_LENGTH, note_length(note) - SBUS_NOTE_HEAD_LENGTH);
+    if (room < SBUS_NOTE_HEAD_LENGTH || note[0] > SBUS_DROPPED2 || note[1] > SBUS_TERMINALS) {
+        return false;
+    }
+    uint64_t value = number(note + 2, 2);
+    bool of_unit_0 = note[0] == SBUS_HEARD || note[0] == SBUS_TORN || note[0] == SBUS_MPH_EI;
+    bool of_terminal = (note[0] >= SBUS_MPH_EI1 && note[0] <= SBUS_MPH_II_DISCONNECTED) || note[0] >= SBUS_DONE1;
+    if ((of_unit_0 && note[1] != 0) || (of_terminal && note[1] == 0)) {
+        return false;
+    }
+    return note[0] == SBUS_HEARD ? value >= 1 && value <= SBUS_BODY_MOST : value == 0;
 }
 
 bool notes_formed(const uint8_t *notes, size_t room, size_t *end_at)
@@ -67,7 +49,7 @@ bool notes_formed(const uint8_t *notes, size_t room, size_t *end_at)
     size_t at = 0;
     *end_at = 0;
     while (at < room && notes[at] != SBUS_NOTES_END) {
-        if (!note_formed(notes + at, room - at)) {
+        if (!note_formed(notes + at, room - at) || note_length(notes + at) > room - at) {
             return false;
         }
         at += note_length(notes + at);
@@ -117,15 +99,8 @@ static void add_note(struct text *text, const uint8_t *note)
         [SBUS_DONE2] = "done2 -",
         [SBUS_DROPPED1] = "dropped1 -",
         [SBUS_DROPPED2] = "dropped2 -",
-        [SBUS_Q_RECEIVED] = "q ",
-        [SBUS_S_RECEIVED] = "s ",
     };
     char body[2 * SBUS_BODY_MOST + 1] = "";
-    if (note[0] == SBUS_Q_RECEIVED || note[0] == SBUS_S_RECEIVED) {
-        unsigned long bits = (unsigned long)number(note + SBUS_NOTE_HEAD_LENGTH, (size_t)number(note + 2, 2));
-        add_line(text, "%lu %u %s%lu", (unsigned long)number(note + 4, 4), note[1], names[note[0]], bits);
-        return;
-    }
     for (size_t i = SBUS_NOTE_HEAD_LENGTH; i < note_length(note); i++) {
         if (snprintf(body + 2 * (i - SBUS_NOTE_HEAD_LENGTH), 3, "%02x", note[i]) != 2) {
             return;
@@ -175,13 +150,6 @@ uint32_t give_value(struct scene *s, uint32_t unit, uint32_t event, const uint8_
 uint32_t give(struct scene *s, uint32_t unit, uint32_t event)
 {
     return give_value(s, unit, event, NULL, 0);
-}
-
-uint32_t give_message(struct scene *s, uint32_t unit, uint32_t message)
-{
-    uint8_t value[3];
-    put_number(value, sizeof value, message);
-    return give_value(s, unit, unit == 0 ? SBUS_S_MESSAGE : SBUS_Q_MESSAGE, value, sizeof value);
 }
 
 uint32_t run_one(struct scene *s)

@@ -55,12 +55,12 @@ module _ (p : Progress) (images octets letters text room : List ℕ) (whole : Bo
       -- what it does, and the reader behind what it has taken
       module _ (w' : GoneOn) (images₂ octets₂ letters₂ room₂ : List ℕ)
           (does : StepsBy said part.now stand room₁ w.wrote (book_state_of w'.progress images₂ octets₂ letters₂) w'.taken room₂ w'.wrote w'.why)
-          (taken m : ℕ) (is_taken : taken ≡ w'.taken) (is_m : m ≡ moved_on at taken (length text)) where
+          (taken m : ℕ) (is-taken : taken ≡ w'.taken) (is_m : m ≡ moved_on at taken (length text)) where
         stepped : Steps text whole stand at room₁ w.wrote (book_state_of w'.progress images₂ octets₂ letters₂) (at + w'.taken) room₂ w'.wrote w'.why
         stepped = does text at whole reads
 
         moved : m ≡ at + w'.taken
-        moved = all (at + taken) (length text) is_m (omega (arith, stepped.moves.within (going_within g))) ∙ ap (λ (k : ℕ). at + k) is_taken
+        moved = all (at + taken) (length text) is_m (omega (arith, stepped.moves.within (going_within g))) ∙ ap (λ (k : ℕ). at + k) is-taken
           where
             all : (n most : ℕ) → m ≡ min n most → n ≤ most → m ≡ n
             all n most e l = omega arith

@@ -12,9 +12,9 @@ use Rattle.text.specs.declared.field.Ends.{Ends}
 use Rattle.book_line.specs.EventNames.{event_names, event_named}
 use Rattle.book_line.specs.ValueForms.{form_of}
 use Rattle.book_line.specs.Line.{is_number, is_absent, is_body_text, is_hit_text, value_fits, formed}
-use Rattle.notes_and_cells.specs.Events.{ON, AR, DR, D1, D2, HIT, END, Q, S}
+use Rattle.notes_and_cells.specs.Events.{ON, AR, DR, D1, D2, HIT, END}
 use Rattle.book_line.specs.Judging.{judged}
-use Rattle.book_line.specs.Value.{hex_digit, pairs, body_of, letter_code, octets_of_number, value_octets}
+use Rattle.book_line.specs.Value.{hex_digit, pairs, body_of, letter_code, value_octets}
 use Rattle.book_line.specs.declared.line.Judged.{Judged}
 use Rattle.book_line.specs.declared.line.Judged.TheVariants.{Entry, Refused}
 
@@ -45,10 +45,6 @@ examples =
     ∷ says "9999999 0000008 d2 -" (Entry 9999999 8 D2 (ends 7 15 18 20))
     ∷ says "3 9 dr -" (Entry 3 9 DR (ends 1 3 6 8))
     ∷ says "5 0 hit kpmnkpmnkpmnkpmnkpmnkpmnkpmnkpmnkpmnkpmnkpmnkpmn" (Entry 5 0 HIT (ends 1 3 7 56))
-    -- numbers as values: seven digits, leading zeros; for any unit, and of any size
-    ∷ says "40 3 q 15" (Entry 40 3 Q (ends 2 4 6 9))
-    ∷ says "41 0 s 1048575" (Entry 41 0 S (ends 2 4 6 14))
-    ∷ says "41 9 q 0000007" (Entry 41 9 Q (ends 2 4 6 14))
     -- 600 characters with the LF; one more is too long
     ∷ says_long "0 1 d1 " 592 (Entry 0 1 D1 (ends 1 3 6 599))
     ∷ says_long "00 1 d1 " 592 (Refused 12)
@@ -74,11 +70,6 @@ examples =
     ∷ says "5 0 hit kpmnkpmnkpmnkpmnkpmnkpmnkpmnkpmnkpmnkpmnkpmnkpm" (Refused 12)
     ∷ says "5 0 hit kpmnkpmnkpmnkpmnkpmnkpmnkpmnkpmnkpmnkpmnkpmnkpmx" (Refused 12)
     ∷ says "5 0 hit -" (Refused 12)
-    -- a number as a value: none, eight digits, other characters; the form goes before the unit
-    ∷ says "40 3 q -" (Refused 12)
-    ∷ says "40 0 q " (Refused 12)
-    ∷ says "40 0 s 00000001" (Refused 12)
-    ∷ says "40 0 s 0f" (Refused 12)
     -- a value where none belongs
     ∷ says "0 1 on 00" (Refused 12)
     ∷ says "0 1 on --" (Refused 12)
@@ -93,15 +84,9 @@ pub hex_digits : map hex_digit (ascii "0123456789abcdef") ≡ 0 ∷ 1 ∷ 2 ∷ 
 unfolding hex_digit
 hex_digits = refl
 
--- A body, the empty one, letters, numbers, and a value of an event that has none.
+-- A body, the empty one, letters, and a value of an event that has none.
 pub octets_of_values :
-    (value_octets D1 (ascii "00ff7e")
-    ∷ value_octets D2 (ascii "-")
-    ∷ value_octets HIT (ascii "kpmn")
-    ∷ value_octets Q (ascii "0000009")
-    ∷ value_octets S (ascii "1048575")
-    ∷ value_octets ON (ascii "-")
-    ∷ [])
-    ≡ ((0 ∷ 255 ∷ 126 ∷ []) ∷ [] ∷ (0 ∷ 1 ∷ 2 ∷ 3 ∷ []) ∷ (9 ∷ 0 ∷ 0 ∷ []) ∷ (255 ∷ 255 ∷ 15 ∷ []) ∷ [] ∷ [])
-unfolding same_symbols all onward is_number is_absent hex_digit pairs body_of letter_code octets_of_number form_of value_octets
+    (value_octets D1 (ascii "00ff7e") ∷ value_octets D2 (ascii "-") ∷ value_octets HIT (ascii "kpmn") ∷ value_octets ON (ascii "-") ∷ [])
+    ≡ ((0 ∷ 255 ∷ 126 ∷ []) ∷ [] ∷ (0 ∷ 1 ∷ 2 ∷ 3 ∷ []) ∷ [] ∷ [])
+unfolding same_symbols is_absent hex_digit pairs body_of letter_code form_of value_octets
 octets_of_values = refl

@@ -8,7 +8,7 @@ use lib.Dec.{eqb, ltb}
 use lib.ListN.{length}
 use borrow.Author.Tests.{eqb-true, eqb-false, ne_eqb, ltb-true, lt-ltb, le-ltb, not-true, not-false}
 use Rattle.test_lemmas.proofs.ByCases.{by_test, and_left, and_right, and_right_false}
-use Rattle.text.specs.Text.{fields, field}
+use Rattle.text.specs.Text.{fields, field, number}
 use Rattle.text.specs.Fields.{ends_of}
 use Rattle.text.specs.declared.field.Ends.{Ends}
 use Rattle.book_line.specs.EventNames.{event_named}
@@ -16,7 +16,25 @@ use Rattle.book_line.specs.Line.{longest_line, is_number, period_of, unit_of, ev
 use Rattle.book_line.specs.Judging.{number_of, judged, judged_fields}
 use Rattle.book_line.specs.declared.number.Number.{Number}
 use Rattle.book_line.specs.declared.line.Judged.{Judged}
-use Rattle.book_line.proofs.Numbers.{no_number, number_said}
+
+-- ---- What the reading of a number says of its field.
+number_wrong : (f : List ℕ) (k : ℕ) → Number.Refused k ≡ number_of f → is_number f ≡ false
+unfolding number_of
+number_wrong f k e =
+    by_test (is_number f)
+    (λ y. let z : Number.Refused k ≡ Number.Is (number f) = rw y at e in let o : ◌≡◌ {A = ℕ} 0 1 = cc in absurd (omega arith))
+    (λ n. n)
+
+record Said (f : List ℕ) (n : ℕ) : Type 0 where
+  pub formed : is_number f ≡ true
+  pub value : number f ≡ n
+
+number_said : (f : List ℕ) (n : ℕ) → Number.Is n ≡ number_of f → Said f n
+unfolding number_of
+number_said f n e =
+    by_test (is_number f)
+    (λ y. let z : Number.Is n ≡ Number.Is (number f) = rw y at e in record { formed = y; value = cc })
+    (λ w. let z : Number.Is n ≡ Number.Refused 12 = rw w at e in let o : ◌≡◌ {A = ℕ} 0 1 = cc in absurd (omega arith))
 
 -- ---- The ways out.
 pub too_long : (line : List ℕ) → longest_line ≤ length line → Judged.Refused 12 ≡ judged line
@@ -40,11 +58,11 @@ module _ (f0 f1 f2 v : List ℕ) (ends : Ends) where
 
   pub wrong_period : (k : ℕ) → Number.Refused k ≡ number_of f0 → Judged.Refused 12 ≡ judged_fields f0 f1 f2 v ends
   unfolding judged_fields
-  wrong_period k h = rw (no_number f0 k h)
+  wrong_period k h = rw (number_wrong f0 k h)
 
   pub wrong_unit : (k : ℕ) → Number.Refused k ≡ number_of f1 → Judged.Refused 12 ≡ judged_fields f0 f1 f2 v ends
   unfolding judged_fields
-  wrong_unit k h = rw (and_right_false (is_number f0) (is_number f1) (no_number f1 k h))
+  wrong_unit k h = rw (and_right_false (is_number f0) (is_number f1) (number_wrong f1 k h))
 
   pub wrong_told : (event : ℕ) (fits : Bool) → event ≡ event_named f2 → fits ≡ value_fits event v → not (not (eqb event 0) && fits) ≡ true
       → Judged.Refused 12 ≡ judged_fields f0 f1 f2 v ends

@@ -1,17 +1,16 @@
--- Decimal numbers of at most seven digits: they fit, how the loop over their digits comes on, and what the reading of
--- one says of its field.
+-- Decimal numbers of at most seven digits: they fit, and how the loop over their digits comes on.
 use mathlib.Core.Path.{◌≡◌, refl}
 use mathlib.Core.Bool.{Bool, true, false, not, ◌&&◌}
-use mathlib.Core.List.{List, [], ◌∷◌}
+use mathlib.Core.List.{List}
 use Prim.Native.Nat.{ℕ, ◌+◌, ◌-◌, ◌*◌, ◌≤◌, ◌<◌, ◌^◌}
-use native.Mathlib.Nat.{pow-suc, pow-le-pow_right, mul-le-mul_right, mul_comm, mul_assoc}
+use native.Mathlib.Nat.{pow-suc, pow-le-pow_right}
 use native.Mathlib.Numerals.{add-one}
 use native.Mathlib.Omega.{arith}
 use lib.Dec.{leb}
 use lib.ListN.{length, get_or, drop, drop_of_length-le}
 use lib.Seq.{drop-cons}
 use borrow.Author.Tests.{leb-true, not-true, not-false}
-use Rattle.test_lemmas.proofs.ByCases.{by_test, and_left, and_right, and_right_false}
+use Rattle.test_lemmas.proofs.ByCases.{and_right_false}
 use Rattle.test_lemmas.proofs.Operators.{and_both}
 use Rattle.symbols.proofs.Scan.{Rest, rest_start}
 use Rattle.text.specs.Text.{all, is_digit, onward, number}
@@ -69,40 +68,3 @@ module _ (f : List ℕ) where
   pub number_is : {n : ℕ} → not sized ≡ false → all is_digit f ≡ true → number f ≡ n → Number.Is n ≡ number_of f
   unfolding number_of is_number
   number_is s e v = rw (not-false sized s, e, v)
-
--- ---- What the reading of a number says of its field.
-pub no_number : (f : List ℕ) (k : ℕ) → Number.Refused k ≡ number_of f → is_number f ≡ false
-unfolding number_of
-no_number f k e =
-    by_test (is_number f)
-    (λ y. let z : Number.Refused k ≡ Number.Is (number f) = rw y at e in let o : ◌≡◌ {A = ℕ} 0 1 = cc in absurd (omega arith))
-    (λ n. n)
-
-pub record Said (f : List ℕ) (n : ℕ) : Type 0 where
-  pub formed : is_number f ≡ true
-  pub value : number f ≡ n
-
-pub number_said : (f : List ℕ) (n : ℕ) → Number.Is n ≡ number_of f → Said f n
-unfolding number_of
-number_said f n e =
-    by_test (is_number f)
-    (λ y. let z : Number.Is n ≡ Number.Is (number f) = rw y at e in record { formed = y; value = cc })
-    (λ w. let z : Number.Is n ≡ Number.Refused 12 = rw w at e in let o : ◌≡◌ {A = ℕ} 0 1 = cc in absurd (omega arith))
-
--- ---- A number of at most seven digits is below ten million, so that three octets have room for it.
-digits_small : (n : ℕ) (f : List ℕ) → all is_digit f ≡ true → onward n f < (n + 1) * 10 ^ length f
-unfolding all onward
-digits_small n [] e = omega arith
-digits_small n (c ∷ f) e =
-    let d = digit_range c (and_left (is_digit c) (all is_digit f) e) in
-    let more = digits_small (n * 10 + (c - 48)) f (and_right (is_digit c) (all is_digit f) e) in
-    let fits : (n * 10 + (c - 48) + 1) * 10 ^ length f ≤ ((n + 1) * 10) * 10 ^ length f = mul-le-mul_right (10 ^ length f) (omega arith) in
-    rw (pow-suc 10 (length f), mul_comm (10 ^ length f) 10, ← mul_assoc (n + 1) 10 (10 ^ length f)) (omega (arith, more, fits))
-
-pub number_small : (f : List ℕ) → is_number f ≡ true → number f < 16777216
-unfolding is_number
-number_small f e =
-    let parts = and_both (sized f) (all is_digit f) e in
-    let most = leb-true (length f) most_digits (and_both (leb 1 (length f)) (leb (length f) most_digits) parts.0).1 in
-    let p : 10 ^ length f ≤ 10 ^ 7 = pow-le-pow_right {n = 10} (omega arith) {i = length f} {j = 7} most in
-    omega (arith, digits_small 0 f parts.1, p)

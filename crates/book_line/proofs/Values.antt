@@ -1,5 +1,4 @@
--- What the octets of a value are, one by one: they are octets, as many as there are pairs of digits or letters, or
--- three of a number, for which they stand.
+-- What the octets of a value are, one by one: they are octets, as many as there are pairs of digits or letters.
 use mathlib.Core.Path.{◌≡◌, refl, ◌∙◌}
 use mathlib.Core.Bool.{true}
 use mathlib.Core.List.{List, [], ◌∷◌, map}
@@ -12,20 +11,15 @@ use borrow.Author.Tests.{eqb-true, eq-eqb, le-leb}
 use Rattle.test_lemmas.proofs.ByCases.{by_test, and_left}
 use Rattle.symbols.specs.Symbols.{line_length, within, fits}
 use Rattle.notes_and_cells.specs.Names.{ascii}
-use Rattle.notes_and_cells.specs.NumberOfOctets.{three_octets}
-use Rattle.notes_and_cells.proofs.NumberOfOctets.{three_stand_for, three_small}
-use Rattle.text.specs.Text.{space, all, is_letter, number}
+use Rattle.text.specs.Text.{space, all, is_letter}
 use Rattle.text.proofs.Pieces.{piece_le, same_length}
 use Rattle.notes_and_cells.specs.Events.{HIT}
 use Rattle.book_line.specs.ValueForms.{form_of}
-use Rattle.book_line.specs.Line.{longest_line, is_number, is_absent, is_hit_text, fits_form, value_fits, event_of, value_of, formed}
-use Rattle.book_line.specs.Value.{hex_digit, pairs, body_of, letter_code, octets_of_number, octets_in, value_octets, NumberTaken}
-use Rattle.book_line.specs.Judging.{number_of}
+use Rattle.book_line.specs.Line.{longest_line, is_absent, is_hit_text, fits_form, value_fits, event_of, value_of, formed}
+use Rattle.book_line.specs.Value.{hex_digit, pairs, body_of, letter_code, octets_in, value_octets}
 use Rattle.book_line.specs.Laying.{value_room}
 use Rattle.book_line.specs.declared.form.ValueForm.{ValueForm}
-use Rattle.book_line.specs.declared.form.ValueForm.TheVariants.{Absent, Body, Letters, Number}
-use Rattle.book_line.specs.declared.number.Number as read
-use Rattle.book_line.proofs.Numbers.{no_number, number_said, number_small}
+use Rattle.book_line.specs.declared.form.ValueForm.TheVariants.{Absent, Body, Letters}
 use Rattle.book_line.proofs.Judging.{formed_parts}
 
 pub hex_digit_small : (c : ℕ) → hex_digit c < 16
@@ -59,15 +53,6 @@ letters_at_lem [] n h = absurd (omega arith)
 letters_at_lem (c ∷ v) zero h = refl
 letters_at_lem (c ∷ v) (suc n) h = letters_at_lem v n (omega arith)
 
--- ---- The octets of a number, by what its reading says of the value.
-pub no_number_octets : (v : List ℕ) (k : ℕ) → read.Number.Refused k ≡ number_of v → octets_of_number v ≡ []
-unfolding octets_of_number
-no_number_octets v k e = rw (no_number v k e)
-
-pub number_octets_are : (v : List ℕ) (n : ℕ) (octets : List ℕ) → read.Number.Is n ≡ number_of v → octets ≡ three_octets n → octets_of_number v ≡ octets
-unfolding octets_of_number
-number_octets_are v n octets e o = let s = number_said v n e in rw (s.formed, s.value, o)
-
 -- ---- Every octet of a value is below 256, whatever the value.
 letter_small : (c : ℕ) → letter_code c < 4
 unfolding letter_code
@@ -88,15 +73,10 @@ letters_small [] i = omega arith
 letters_small (c ∷ v) zero = letter_small c
 letters_small (c ∷ v) (suc i) = letters_small v i
 
-number_octets_small : (v : List ℕ) (i : ℕ) → get_or (octets_of_number v) i 0 < 256
-unfolding octets_of_number
-number_octets_small v i = by_test (is_number v) (λ e. rw e (three_small (number v) i)) (λ e. rw e (omega arith))
-
 octets_small : (form : ValueForm) (v : List ℕ) (i : ℕ) → get_or (octets_in form v) i 0 < 256
 octets_small Absent v i = omega arith
 octets_small Body v i = rw (body_pairs v) (pairs_small v i)
 octets_small Letters v i = omega (arith, letters_small v i)
-octets_small Number v i = number_octets_small v i
 
 pub value_octets_lem : (event : ℕ) (v : List ℕ) (i : ℕ) → get_or (value_octets event v) i 0 < 256
 unfolding value_octets
@@ -123,17 +103,9 @@ value_short : (form : ValueForm) (v : List ℕ) → length v < longest_line → 
 value_short Absent v h e = omega arith
 value_short Body v h e = rw (body_pairs v) (omega (arith, length_pairs v))
 value_short Letters v h e = omega (arith, letters_long v e)
-value_short Number v h e = unfold octets_of_number in rw e (omega arith)
 
 pub value_length : (line : List ℕ) → formed line ≡ true → length (value_octets (event_of line) (value_of line)) < value_room
 unfolding value_fits value_octets
 value_length line e =
     let f = formed_parts line e in
     value_short (form_of (event_of line)) (value_of line) (omega (arith, piece_le space line 3, f.short)) f.value
-
--- a number's octets stand for it
-pub number_taken : NumberTaken
-unfolding value_fits value_octets octets_of_number
-number_taken event v f e =
-    let formed : is_number v ≡ true = rw f at e in
-    rw (f, formed) (three_stand_for (number v) (number_small v formed))

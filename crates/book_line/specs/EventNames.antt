@@ -1,8 +1,8 @@
--- Rules: the events of a book by name (document 01, "Bench book and report"; document 02, 2.1).
+-- Rules: the events of a book by name (document 01, "Bench book and report").
 -- Interface: `event_names`, `event_named`. Assumes nothing.
 use Rattle.std.specs.Prelude.{cond, List, [], ◌∷◌, map, ◌≡◌, refl, ℕ, take}
 use Rattle.symbols.specs.Symbols.{same_symbols}
-use Rattle.notes_and_cells.specs.Events.{ON, OFF, AR, DR, D1, D2, HIT, END, Q, S}
+use Rattle.notes_and_cells.specs.Events.{ON, OFF, AR, DR, D1, D2, HIT, END}
 use Rattle.notes_and_cells.specs.Names.{ascii}
 use Rattle.text.specs.Text.{same}
 
@@ -17,8 +17,6 @@ event_names =
     ∷ (D2, ascii "d2")
     ∷ (HIT, ascii "hit")
     ∷ (END, ascii "end")
-    ∷ (Q, ascii "q")
-    ∷ (S, ascii "s")
     ∷ []
 
 -- The number beside a name in a list, 0 where the name does not stand in it.

@@ -1,6 +1,6 @@
 -- Rules: when a line of a book is of right form, and what it then says (document 01, "Bench book
--- and report" and "Reasons a call is turned down", 12 to 14; document 02, 2.1). A line stands here
--- with its LF left off.
+-- and report" and "Reasons a call is turned down", 12 to 14). A line stands here with its LF left
+-- off.
 -- Interface: `is_end`, `is_number`, `is_absent`, `is_body_text`, `is_hit_text`, `value_fits`, `period_of`,
 -- `unit_of`, `event_of`, `value_of`, `longest_line`, `formed`, `in_order`. Assumes nothing.
 use Rattle.std.specs.Prelude.{Bool, false, not, ◌&&◌, ◌||◌, List, ◌≡◌, refl, ℕ, ◌%◌, eqb, ltb, leb, length}
@@ -12,7 +12,7 @@ use Rattle.text.specs.Text.{split, onto, fields, field, same, all, is_digit, is_
 use Rattle.book_line.specs.EventNames.{event_names, event_named}
 use Rattle.book_line.specs.ValueForms.{form_of}
 use Rattle.book_line.specs.declared.form.ValueForm.{ValueForm}
-use Rattle.book_line.specs.declared.form.ValueForm.TheVariants.{Absent, Body, Letters, Number}
+use Rattle.book_line.specs.declared.form.ValueForm.TheVariants.{Absent, Body, Letters}
 
 -- ---- Events.
 
@@ -22,7 +22,7 @@ is_end unit event = eqb event END && eqb unit 0
 
 -- ---- Forms of fields.
 
--- "decimal, at most seven digits"; "numbers in values have at most seven digits" too, and `-` is none
+-- "decimal, at most seven digits"
 abbrev pub most_digits : ℕ
 most_digits = 7
 
@@ -47,7 +47,6 @@ abbrev pub fits_form : ValueForm → List ℕ → Bool
 fits_form Absent v = is_absent v
 fits_form Body v = is_body_text v
 fits_form Letters v = is_hit_text v
-fits_form Number v = is_number v
 
 -- Whether it is of the form that the event wants.
 unfoldable pub value_fits : ℕ → List ℕ → Bool

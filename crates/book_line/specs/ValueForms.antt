@@ -1,13 +1,13 @@
--- Rules: the form of an event's value (document 01, "Bench book and report"; document 02, 2.1).
+-- Rules: the form of an event's value (document 01, "Bench book and report").
 -- Interface: `form_of`. Assumes nothing.
 use Rattle.std.specs.Prelude.{cond, List, [], ◌∷◌, ℕ, eqb}
-use Rattle.notes_and_cells.specs.Events.{D1, D2, HIT, Q, S}
+use Rattle.notes_and_cells.specs.Events.{D1, D2, HIT}
 use Rattle.book_line.specs.declared.form.ValueForm.{ValueForm}
-use Rattle.book_line.specs.declared.form.ValueForm.TheVariants.{Absent, Body, Letters, Number}
+use Rattle.book_line.specs.declared.form.ValueForm.TheVariants.{Absent, Body, Letters}
 
 -- The events that have a value, by number, each with its form.
 abbrev pub value_forms : List (ℕ × ValueForm)
-value_forms = (D1, Body) ∷ (D2, Body) ∷ (HIT, Letters) ∷ (Q, Number) ∷ (S, Number) ∷ []
+value_forms = (D1, Body) ∷ (D2, Body) ∷ (HIT, Letters) ∷ []
 
 -- The form beside an event in a list; one that does not stand in it has no value.
 abbrev pub form_beside : ℕ → List (ℕ × ValueForm) → ValueForm

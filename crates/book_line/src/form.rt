@@ -3,20 +3,18 @@ ghost use Rattle.std.specs.Prelude.{◌≡◌};
 ghost use Rattle.book_line.specs.ValueForms.{form_of};
 ghost use Rattle.book_line.specs.Line as spec;
 
-use crate::number::is_number;
-use notes_and_cells::events::{D1, D2, HIT, Q, S};
+use notes_and_cells::events::{D1, D2, HIT};
 use symbols::LINE_LENGTH;
 use text::octets::{all_hex, all_letters};
 use text::same::same;
 
 // What an event's value is: none, so that `-` stands for it; a body in hexadecimal; the letters of
-// a hit; a number in decimal.
+// a hit.
 #[derive(Drop)]
 pub enum ValueForm {
     Absent,
     Body,
     Letters,
-    Number,
 }
 
 // Tests whether a value is absent.
@@ -41,19 +39,13 @@ pub fn is_hit(v: &[u8]) -> bool
 }
 
 // How many events have a value.
-const VALUED: usize = 5;
+const VALUED: usize = 3;
 
 // Their numbers.
-const NUMBERS: [u8; VALUED] = [D1, D2, HIT, Q, S];
+const NUMBERS: [u8; VALUED] = [D1, D2, HIT];
 
 // The form of the value of each.
-const FORMS: [ValueForm; VALUED] = [
-    ValueForm::Body,
-    ValueForm::Body,
-    ValueForm::Letters,
-    ValueForm::Number,
-    ValueForm::Number,
-];
+const FORMS: [ValueForm; VALUED] = [ValueForm::Body, ValueForm::Body, ValueForm::Letters];
 
 // Gives the form of an event's value.
 pub(crate) fn form_of(event: u8) -> ValueForm
@@ -79,6 +71,5 @@ pub fn value_fits(event: u8, v: &[u8]) -> bool
         ValueForm::Absent => is_absent(v),
         ValueForm::Body => is_body_lem(v),
         ValueForm::Letters => is_hit(v),
-        ValueForm::Number => is_number(v),
     }
 }

@@ -1,5 +1,5 @@
-// A line of a book (document 01, "Bench book and report"; document 02, 2.1): whether its form is
-// right, what it says, and its value in octets.
+// A line of a book (document 01, "Bench book and report"): whether its form is right, what it says,
+// and its value in octets.
 pub mod event;
 pub mod form;
 pub mod line;

@@ -1,6 +1,5 @@
-// Numbers of a line: a period, a unit, a value.
+// Numbers of a line: a period, a unit.
 ghost use Rattle.std.specs.Prelude.{◌≡◌};
-ghost use Rattle.book_line.specs.Line.{is_number};
 ghost use Rattle.book_line.specs.Judging as spec;
 
 use text::octets::is_digit;
@@ -35,14 +34,4 @@ pub fn digits(f: &[u8]) -> Number
         i += 1;
     }
     Number::Is(n)
-}
-
-// Tests whether a field writes a number.
-pub fn is_number(f: &[u8]) -> bool
-    ensures { result ≡ is_number f.now }
-{
-    match digits(f) {
-        Number::Is(_) => true,
-        Number::Refused(_) => false,
-    }
 }

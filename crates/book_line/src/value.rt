@@ -1,12 +1,10 @@
-// What a value says in octets: those of a body, the codes of a hit's letters, those of a number.
+// What a value says in octets: those of a body, the codes of a hit's letters.
 ghost use Rattle.std.specs.Prelude.{◌≡◌, map, ◌+◌, ◌*◌};
 ghost use Rattle.book_line.specs.Value as spec;
 ghost use Rattle.book_line.specs.Laying as laying;
 
 use crate::form::{ValueForm, form_of};
 use crate::line::LONGEST_LINE;
-use crate::number::{Number, digits};
-use notes_and_cells::octets::three_octets;
 use text::length::least;
 
 // Room for the octets of the value of any line of right form: two characters an octet.
@@ -65,24 +63,6 @@ fn letters(value: &[u8], out: &mut [u8]) -> usize
     n
 }
 
-// Writes the octets of the number that a value writes into `out`, as many as there is room for, and
-// gives how many they are.
-fn number_octets(value: &[u8], out: &mut [u8]) -> usize
-    ensures { laying.Laid (spec.octets_of_number value.now) out.old result out.new }
-{
-    let Number::Is(number) = digits(value) else {
-        return 0;
-    };
-    let octets = three_octets(number);
-    let most = least(3, out.len());
-    let mut n: usize = 0;
-    while n < most {
-        out[n] = octets[n];
-        n += 1;
-    }
-    n
-}
-
 // Writes the octets of an event's value into `out`, from its front, as many as there is room for,
 // and gives their number.
 pub fn octets(event: u8, value: &[u8], out: &mut [u8]) -> usize
@@ -92,6 +72,5 @@ pub fn octets(event: u8, value: &[u8], out: &mut [u8]) -> usize
         ValueForm::Absent => 0,
         ValueForm::Body => body(value, out),
         ValueForm::Letters => letters(value, out),
-        ValueForm::Number => number_octets(value, out),
     }
 }

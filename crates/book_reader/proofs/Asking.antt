@@ -36,7 +36,7 @@ use denote.Triple.Statement.{Triple}
 use denote.Triple.Spec.{triple_of}
 use denote.Triple.Clauses.{Ended, Clauses, Lasts, at_exit, closing}
 use Rattle.slice_lemmas.proofs.Locals.{Holds, has, there, held}
-use Rattle.slice_lemmas.proofs.Slices.{Kind, at_list, shr_of, shown, shown_out, shown_in_lem, hands_on, handed}
+use Rattle.slice_lemmas.proofs.Slices.{Kind, at_list, shr_of, shown, shown_out, shown_in, hands_on, handed}
 use Rattle.slice_lemmas.proofs.Calls.{calls_fn}
 use Rattle.book_reader.specs.declared.lent.Reader.{Reader}
 use Rattle.book_reader.proofs.Calling.{calls_own}
@@ -165,7 +165,7 @@ module _ {M : Type 1} {𝓤 : Ura M} {𝓛 : Logic 𝓤} {K : Type 0} {Γ : List
         move t (1 ∷ 0 ∷ []) $
         rewrite t 0 (λ (u : Val). ‵ ((ShrSlice (named 0) κ u8).own_val (view r) (u ∷ []))) (ap only (shr_slice_Tells (named 0) κ u8 (view r) (v ∷ []) (is r v g))) refl $
         use2 𝓛 (shown 𝓛 (named 0) u8 κ q (view r).name (view r).ptr.0 (view r).ptr.1 (length (view r).now) (view r).now)
-        (shown_in_lem 𝓛 (named 0) u8 κ q (view r).name (view r).ptr.0 (view r).ptr.1 (length (view r).now) (view r).now) $ move t (1 ∷ 0 ∷ []) $
+        (shown_in 𝓛 (named 0) u8 κ q (view r).name (view r).ptr.0 (view r).ptr.1 (length (view r).now) (view r).now) $ move t (1 ∷ 0 ∷ []) $
         rewrite t 0 (λ (u : Val). held 𝓛 E (set hs d (has u))) (ap only (shr_slice_Tells (named 0) κ u8 (view r) (v ∷ []) (is r v g))) refl $ go (view r) so)
 
 module _ {M : Type 1} {𝓤 : Ura M} {𝓛 : Logic 𝓤} {K : Type 0} {Γ : List (Item 𝓤)} {G : Goal 𝓤 𝓛.H} where
@@ -173,4 +173,4 @@ module _ {M : Type 1} {𝓤 : Ura M} {𝓛 : Logic 𝓤} {K : Type 0} {Γ : List
       → Step K 𝓛 (shown 𝓛 ℓ u8 κ q γ b o n ys ∷ Γ) G (shown 𝓛 ℓ' u8 κ q γ' b' o' n' zs ∷ ‵ (shr_of 𝓛 ℓ u8 κ q γ b o n ys) ∷ Γ) G
   part_back t {ℓ'} {κ} {q} {γ'} {b'} {o'} {n'} {zs} ℓ γ b o n ys = step (λ go.
       use1 𝓛 (‵ (shr_of 𝓛 ℓ' u8 κ q γ' b' o' n' zs) ⊛ ‵ (flft κ q)) (shown_out 𝓛 ℓ' u8 κ q γ' b' o' n' zs) $ split t $ drop t $
-      move t (1 ∷ 0 ∷ []) $ use2 𝓛 (shown 𝓛 ℓ u8 κ q γ b o n ys) (shown_in_lem 𝓛 ℓ u8 κ q γ b o n ys) $ go)
+      move t (1 ∷ 0 ∷ []) $ use2 𝓛 (shown 𝓛 ℓ u8 κ q γ b o n ys) (shown_in 𝓛 ℓ u8 κ q γ b o n ys) $ go)

@@ -2,7 +2,7 @@
 use mathlib.Core.Path.{◌≡◌, refl}
 use mathlib.Core.Bool.{Bool, true, false, cond}
 use mathlib.Core.List.{List, [], ◌∷◌, ◌++◌, map}
-use Prim.Native.Nat.{ℕ, zero, suc, ◌+◌, ◌-◌}
+use Prim.Native.Nat.{ℕ, zero, suc, ◌+◌}
 use native.Mathlib.Omega.{arith}
 use lib.Dec.{eqb, ltb}
 use lib.ListN.{length}
@@ -25,11 +25,9 @@ use Rattle.terminal.specs.declared.TerminalStep.{TerminalStep}
 use Rattle.terminal.proofs.Laws as terminal-laws
 use Rattle.terminal.proofs.Laws.{is_terminal_note, timer_told}
 use Rattle.bus_rules.specs.Bus.{Note, notes_of}
-use Rattle.cycle.specs.Cycle.{no_q, q_told, s_told}
-use Rattle.bus_rules.specs.CycleNotes.{q_notes, s_notes, cycle_notes}
 use Rattle.bus_rules.specs.Order.{unit_by_unit}
 use Rattle.bus_rules.specs.Calls.Call.{event, period}
-use Rattle.notes_and_cells.specs.Events.{ON, OFF, AR, D1, D2, HIT, S}
+use Rattle.notes_and_cells.specs.Events.{ON, OFF, AR, D1, D2, HIT}
 use Rattle.bus_rules.specs.Exchange.{Sender, exchanged, whole_down}
 use Rattle.bus_rules.specs.Period.{terminal_hears}
 use Rattle.bus_rules.proofs.Telling.{network_hears_plain, network_timers_plain, terminal_hears_plain}
@@ -47,7 +45,7 @@ use Rattle.bus_call_specs.specs.Period.{note_of, network_notes, terminals_notes,
 use Rattle.bus_call_specs.specs.Ready.{run_goes_on}
 use Rattle.bus_call_specs.specs.Run.{run_answer, kept_after}
 use Rattle.bus_call_specs.specs.Event.{reason, event_told}
-use Rattle.bus_call_specs.specs.Lists.{told, replied, notes_told, done_notes, reader_told, cycle_told, terminals_heard, terminals_told, timers_told, period_told, run_told, is_code, coded, NotesCoded, RunNotesCoded}
+use Rattle.bus_call_specs.specs.Lists.{told, replied, notes_told, done_notes, reader_told, terminals_heard, terminals_told, timers_told, period_told, run_told, is_code, coded, NotesCoded, RunNotesCoded}
 use Rattle.bus_call_specs.proofs.QuietRuns.{accepted_one, one_told, told_on, told_end}
 
 -- ---- Lists of notes.
@@ -93,23 +91,13 @@ AllCodes : List UnitNotes → Type 0
 AllCodes [] = Unit
 AllCodes (n ∷ ns) = Codes (noted n.hearing) × Codes (noted n.timers) × AllCodes ns
 
-coded_cycle : (now : ℕ) (r : RunAnswer) (unit : ℕ) → coded (cycle_told now r unit) ≡ true
-unfolding cycle_told cycle_notes q_notes s_notes coded
-coded_cycle now r unit =
-    by_test r.told
-    (λ t. rw t
-    (by_test (eqb unit 0)
-    (λ z. rw z (by_test (eqb (q_told r.bus.cycle) no_q) (λ q. rw q) (λ q. rw q)))
-    (λ z. rw z (by_test (eqb (s_told (unit - 1) r.bus.cycle) 0) (λ s. rw s) (λ s. rw s)))))
-    (λ t. rw t)
-
 coded_terminals : (now : ℕ) (r : RunAnswer) (i : ℕ) (ns : List UnitNotes) → AllCodes ns → coded (terminals_told now r i ns) ≡ true
 unfolding unit_by_unit terminals_heard coded AllCodes
 coded_terminals now r i [] h = refl
 coded_terminals now r i (n ∷ ns) h =
-    coded_append (notes_of now (suc i) _) (cycle_told now r (suc i) ++ terminals_told now r (suc i) ns)
+    coded_append (notes_of now (suc i) _) (terminals_told now r (suc i) ns)
     (coded_of now (suc i) _ (every_append is_code (done_notes (bit_of r.done1 i) (bit_of r.done2 i)) (noted n.hearing) (of_done (bit_of r.done1 i) (bit_of r.done2 i)) h.0))
-    (coded_append (cycle_told now r (suc i)) (terminals_told now r (suc i) ns) (coded_cycle now r (suc i)) (coded_terminals now r (suc i) ns h.2))
+    (coded_terminals now r (suc i) ns h.2)
 
 coded_timers : (now i : ℕ) (ns : List UnitNotes) → AllCodes ns → coded (timers_told now i ns) ≡ true
 unfolding unit_by_unit coded AllCodes
@@ -149,8 +137,7 @@ module _ (k : Kept) where
       let all = all_codes (exchanged b).senders in
       coded_append (reader_told now (period_answer k) octets ++ _) _
       (coded_append (reader_told now (period_answer k) octets) _ (coded_reader now octets)
-      (coded_append (notes_of now 0 _) _ (coded_of now 0 _ (of_tables _ (network_hears_plain _ _ _)))
-      (coded_append (cycle_told now (period_answer k) 0) _ (coded_cycle now (period_answer k) 0) (coded_terminals now (period_answer k) 0 _ all))))
+      (coded_append (notes_of now 0 _) _ (coded_of now 0 _ (of_tables _ (network_hears_plain _ _ _))) (coded_terminals now (period_answer k) 0 _ all)))
       (coded_append (notes_of (now + 1) 0 _) _ (coded_of (now + 1) 0 _ (of_tables _ (network_timers_plain _ _))) (coded_timers (now + 1) 0 _ all))
 
   coded_one : coded (run_told 1 k) ≡ true
@@ -199,26 +186,24 @@ module _ (now : Periods) (t : Terminal) where
       (λ c. rw c (by_test (eqb number D1) (λ d. rw d (of_frame One images i value))
       (λ d. rw d (by_test (eqb number D2) (λ e. rw e (of_frame Two images i value)) (λ e. rw e no_codes)))))))))
 
-of_network : (number : ℕ) (value : List ℕ) (bus : BusRecord) → Codes (noted (parts.network_told number value bus).notes)
+of_network : (number : ℕ) (bus : BusRecord) → Codes (noted (parts.network_told number bus).notes)
 unfolding parts.network_told parts.network_asked parts.asked parts.told networkCalls.checked
-of_network number value bus =
+of_network number bus =
     let request = cond (eqb number AR) Table63.ar_row Table63.dr_row in
     by_test (eqb number HIT) (λ h. rw h no_codes)
     (λ h. rw h
-    (by_test (eqb number S) (λ s. rw s no_codes)
-    (λ s. rw s
     (by_test (networkCalls.ready bus.periods bus.network)
     (λ r. rw r
     (of_tables _
     (every_of is_indication is_terminal_note (λ code i. rw i) _ (network-laws.requests_told request bus.periods.0 bus.network))))
-    (λ r. rw r no_codes)))))
+    (λ r. rw r no_codes)))
 
 of_event : (unit number : ℕ) (value : List ℕ) (k : Kept) → Codes (noted (told unit number value k).notes)
 unfolding told event_told parts.event_settled parts.told
 of_event unit number value k =
     by_test (eqb (reason unit number value k.bus k.terminals k.images k.letters) 0)
     (λ r. rw r
-    (by_test (eqb unit 0) (λ u. rw u (of_network number value k.bus))
+    (by_test (eqb unit 0) (λ u. rw u (of_network number k.bus))
     (λ u. rw u (of_terminal k.bus.periods _ number k.images _ value))))
     (λ r. rw r no_codes)
 

@@ -3,12 +3,11 @@
 use mathlib.Core.Path.{◌≡◌, refl, sym, ap, ◌∙◌}
 use mathlib.Core.Bool.{Bool, true, false, not, ◌&&◌}
 use mathlib.Core.List.{List, []}
-use Prim.Native.Nat.{ℕ, ◌-◌, ◌≤◌, ◌<◌}
+use Prim.Native.Nat.{ℕ, ◌-◌, ◌<◌}
 use native.Mathlib.Omega.{arith}
 use lib.Dec.{eqb, ltb}
 use lib.ListN.{length, get_or, set}
-use lib.Seq.{set-get_or}
-use borrow.Author.Tests.{eqb-true, eqb-false, ltb-false, leb-false}
+use borrow.Author.Tests.{eqb-true, eqb-false, ltb-false}
 use Rattle.test_lemmas.proofs.ByCases.{by_test, clash}
 use Rattle.notes_and_cells.specs.Notes.{packed_notes, noted}
 use Rattle.hdlc.specs.Image.{image}
@@ -18,10 +17,8 @@ use Rattle.terminal.specs.declared.Terminal.{Terminal}
 use Rattle.terminal.specs.declared.TerminalStep.{TerminalStep}
 use Rattle.terminal.proofs.Laws.{handed_over_called, hands_over_notes}
 use Rattle.bus_rules.specs.Bus.{Bus, terminals, notes_of}
-use Rattle.bus_rules.specs.Event.{message_in, too_large, message_done, station_of, class_of, call_reasons, state_reasons, reasons, first_holding, refusal, network_does, terminal_does, event_done, event_notes}
-use Rattle.notes_and_cells.specs.Events.{HIT, Q, S}
-use Rattle.cycle.specs.Cycle.{no_q, s_messages}
-use Rattle.bus_event.specs.Message.{q_taken}
+use Rattle.bus_rules.specs.Event.{station_of, class_of, call_reasons, state_reasons, reasons, first_holding, refusal, network_does, terminal_does, event_done, event_notes}
+use Rattle.notes_and_cells.specs.Events.{HIT}
 use Rattle.bus_rules.specs.Calls as bus
 use Rattle.bus_rules.specs.Calls.{Call}
 use Rattle.bus_rules.specs.Calls.Call.{event}
@@ -39,7 +36,7 @@ use Rattle.bus_call_specs.proofs.Fields.{periods_of}
 use Rattle.bus_call_specs.proofs.InOrder.{order_reason}
 use Rattle.bus_call_specs.proofs.Fitting.{Fit, in_order}
 use Rattle.bus_call_specs.proofs.Refused.{refused_keeps}
-use Rattle.bus_call_specs.proofs.EventLeft.{hit_carried, s_carried, q_carried, asked_is, asked_carried, terminal_there, power_told, power_carried, no_frame, frame_reason_lem, gives_frame_lem, frame_carried}
+use Rattle.bus_call_specs.proofs.EventLeft.{hit_carried, asked_is, asked_carried, terminal_there, power_told, power_carried, no_frame, frame_reason_lem, gives_frame_lem, frame_carried}
 
 -- what is to be shown of a call
 pub record Carried (k : Kept) (b : Bus) (c : Call) : Type 0 where
@@ -93,8 +90,8 @@ module _ (k : Kept) (b : Bus) (c : Carries k b) (unit number : ℕ) (value : Lis
   -- ---- where none of them holds
   module _ (e : why ≡ 0) where
     at_network : eqb unit 0 ≡ true →
-        (told unit number value k ≡ network_told number value k.bus)
-        × (called k call ≡ kept (network_told number value k.bus).bus k.terminals k.images k.octets (parts.letters_after number value k.letters) k.notes)
+        (told unit number value k ≡ network_told number k.bus)
+        × (called k call ≡ kept (network_told number k.bus).bus k.terminals k.images k.octets (parts.letters_after number value k.letters) k.notes)
     unfolding called told event_told terminals_after images_after letters_after
     at_network t = (rw (e, t), rw (e, t))
 
@@ -104,70 +101,43 @@ module _ (k : Kept) (b : Bus) (c : Carries k b) (unit number : ℕ) (value : Lis
     abbrev there : Terminal
     there = terminal_of unit number value k.bus k.terminals k.images k.letters
 
-    at_terminal_lem : eqb unit 0 ≡ false → eqb number Q ≡ false →
+    at_terminal_lem : eqb unit 0 ≡ false →
         (told unit number value k ≡ parts.told k.bus here.notes here.reply)
         × (called k call ≡
         kept k.bus (set k.terminals (unit - 1) here.terminal) (parts.images_after number there (unit - 1) value k.images) k.octets k.letters k.notes)
     unfolding called told event_told terminals_after images_after letters_after parts.event_settled parts.told
-    at_terminal_lem t q = (rw (e, t, q), rw (e, t, q))
-
-    -- a message changes the record alone
-    at_q : eqb unit 0 ≡ false → eqb number Q ≡ true →
-        (told unit number value k ≡ parts.told (q_taken unit value k.bus) (packed_notes []) 0)
-        × (called k call ≡ kept (q_taken unit value k.bus) k.terminals k.images k.octets k.letters k.notes)
-    unfolding called told event_told terminals_after images_after letters_after parts.event_settled parts.told parts.terminal_told parts.images_after
-    at_q t q =
-        let is = eqb-true number Q q in
-        (rw (e, t, is), rw (e, t, is, set-get_or k.terminals (unit - 1) terminal.fresh))
+    at_terminal_lem t = (rw (e, t), rw (e, t))
 
     -- unit 0
-    network_event : Fit b → bus.reply b call ≡ barred.replied b unit number value → (eqb number HIT && not (are_letters value)) ≡ false →
-        too_large number value ≡ false → eqb unit 0 ≡ true → Carried k b call
-    unfolding network_told network_asked parts.told barred.replied parts.letters_after event_notes event_done message_done noted notes_of
-    network_event f r l large t =
+    network_event : Fit b → bus.reply b call ≡ barred.replied b unit number value → (eqb number HIT && not (are_letters value)) ≡ false → eqb unit 0 ≡ true → Carried k b call
+    unfolding network_told network_asked parts.told barred.replied parts.letters_after event_notes event_done noted notes_of
+    network_event f r l t =
         by_test (eqb number HIT)
         (λ u.
         let letters : are_letters value ≡ true = both_so (eqb number HIT) (are_letters value) l u in
         let none : bus.reply b call ≡ 0 = r ∙ rw (t, u) in
-        let other : eqb number S ≡ false = rw (eqb-true number HIT u) in
         finish (rw ((at_network t).0, u) (sym none))
-        (λ z. (rw ((at_network t).0, t, u, other), rw ((at_network t).1, t, u, other) (hit_carried k b c value letters))))
+        (λ z. (rw ((at_network t).0, t, u), rw ((at_network t).1, t, u) (hit_carried k b c value letters))))
         (λ u.
-        by_test (eqb number S)
-        (λ s.
-        let none : bus.reply b call ≡ 0 = r ∙ rw (t, u, s) in
-        let small : message_in value < s_messages = leb-false s_messages (message_in value) (rw (eqb-true number S s) at large) in
-        finish (rw ((at_network t).0, u, s) (sym none))
-        (λ z. (rw ((at_network t).0, t, u, s), rw ((at_network t).1, t, u, s) (s_carried k b c value small))))
-        (λ s.
-        let does : bus.reply b call ≡ (network_does number b.periods b.network).reply = r ∙ rw (t, u, s) in
-        finish (rw ((at_network t).0, u, s, asked_is k b c f number) (sym does))
-        (λ z. (rw ((at_network t).0, t, u, s, asked_is k b c f number, eqb-true unit 0 t), rw ((at_network t).1, t, u, s) (asked_carried k b c f number)))))
+        let does : bus.reply b call ≡ (network_does number b.periods b.network).reply = r ∙ rw (t, u) in
+        finish (rw ((at_network t).0, u, asked_is k b c f number) (sym does))
+        (λ z. (rw ((at_network t).0, t, u, asked_is k b c f number, eqb-true unit 0 t), rw ((at_network t).1, t, u) (asked_carried k b c f number))))
       where
         both_so : (a g : Bool) → (a && not g) ≡ false → a ≡ true → g ≡ true
         both_so true true h e = refl
         both_so true false h e = clash true refl h
         both_so false g h e = clash false e refl
 
-    -- a message to a terminal
-    q_event : bus.reply b call ≡ barred.replied b unit number value → too_large number value ≡ false → eqb unit 0 ≡ false → eqb number Q ≡ true → Carried k b call
-    unfolding parts.told barred.replied class_of terminal_does event_notes event_done message_done noted notes_of
-    q_event r large z q =
-        let is = eqb-true number Q q in
-        let none : bus.reply b call ≡ 0 = r ∙ rw (z, is) in
-        let small : message_in value ≤ no_q = ltb-false no_q (message_in value) (rw is at large) in
-        finish (rw (at_q z q).0 (sym none)) (λ t. (rw ((at_q z q).0, z, q), rw ((at_q z q).1, z, q) (q_carried k b c unit value small)))
-
     -- power and requests of a terminal
-    power_event : Fit b → bus.reply b call ≡ barred.replied b unit number value → eqb unit 0 ≡ false → eqb number Q ≡ false → eqb (class_of number) 0 ≡ true → Carried k b call
+    power_event : Fit b → bus.reply b call ≡ barred.replied b unit number value → eqb unit 0 ≡ false → eqb (class_of number) 0 ≡ true → Carried k b call
     unfolding parts.told barred.replied parts.images_after event_notes event_done
-    power_event f r z q none =
+    power_event f r z none =
         let d = no_frame number none in
         let step : TerminalStep = terminal_does number b.periods (station_of b unit).terminal in
         let here-is : here ≡ step = power_told k b c unit f number value none in
         let does : bus.reply b call ≡ step.reply = r ∙ rw (z, none) in
-        finish (rw ((at_terminal_lem z q).0, here-is) (sym does))
-        (λ t. (rw ((at_terminal_lem z q).0, here-is, z, q, none), rw ((at_terminal_lem z q).1, here-is, z, q, d.0, d.1) (power_carried k b c unit f number value none)))
+        finish (rw ((at_terminal_lem z).0, here-is) (sym does))
+        (λ t. (rw ((at_terminal_lem z).0, here-is, z, none), rw ((at_terminal_lem z).1, here-is, z, d.0, d.1) (power_carried k b c unit f number value none)))
 
     -- a frame
     frame_event : Fit b → bus.reply b call ≡ barred.replied b unit number value → ((i : ℕ) → get_or value i 0 < 256) → ltb terminals unit ≡ false →
@@ -178,7 +148,6 @@ module _ (k : Kept) (b : Bus) (c : Carries k b) (unit number : ℕ) (value : Lis
         let l : i < terminals = omega (arith, ltb-false terminals unit known, eqb-false unit 0 z) in
         let t : Terminal = (station_of b unit).terminal in
         let there-is : there ≡ t = terminal_there k b c unit in
-        let no_q_lem : eqb number Q ≡ false = other number some in
         let given = gives_frame_lem number k.images i value k.bus.periods there some in
         let replies : bus.reply b call ≡ barred.frame_reply value t = r ∙ rw (z, some) in
         let why_not : frame_reason (length k.images) i (length value) t ≡ bus.reply b call =
@@ -188,15 +157,12 @@ module _ (k : Kept) (b : Bus) (c : Carries k b) (unit number : ℕ) (value : Lis
         let takes : Takes (station_of b unit) value = accepted_frame b unit number value (unfold bus.reply in eqb-true (bus.reply b call) 0 q) some in
         let now : here ≡ terminalCalls.hand_over_call (class_given number) (length (image value)) t = given.0 ∙ rw (there-is, why_not, q) in
         let images-now : parts.images_after number there i value k.images ≡ image_put i value k.images = given.1 ∙ rw (there-is, why_not, q) in
-        finish (ap (λ (x : Told). x.reply) (at_terminal_lem z no_q_lem).0 ∙ (rw now (handed_reply takes) ∙ sym (eqb-true (bus.reply b call) 0 q)))
-        (λ p. (rw ((at_terminal_lem z no_q_lem).0, now, handed_notes, z, no_q_lem, some), rw ((at_terminal_lem z no_q_lem).1, now, images-now, z, no_q_lem) (frame_carried k b c f unit number value some l takes))))
+        finish (ap (λ (x : Told). x.reply) (at_terminal_lem z).0 ∙ (rw now (handed_reply takes) ∙ sym (eqb-true (bus.reply b call) 0 q)))
+        (λ p. (rw ((at_terminal_lem z).0, now, handed_notes, z, some), rw ((at_terminal_lem z).1, now, images-now, z) (frame_carried k b c f unit number value some l takes))))
         (λ q.
         let now : here ≡ terminal.unchanged (bus.reply b call) there = given.0 ∙ rw (there-is, why_not, q) in
-        finish (rw ((at_terminal_lem z no_q_lem).0, now)) (λ p. clash (eqb (bus.reply b call) 0) p q))
+        finish (rw ((at_terminal_lem z).0, now)) (λ p. clash (eqb (bus.reply b call) 0) p q))
       where
-        other : (n : ℕ) → eqb (class_of n) 0 ≡ false → eqb n Q ≡ false
-        other n h = by_test (eqb n Q) (λ q. clash (eqb (class_of n) 0) (unfold class_of in rw (eqb-true n Q q)) h) (λ q. q)
-
         handed_reply : Takes (station_of b unit) value → (terminalCalls.hand_over_call (class_given number) (length (image value)) (station_of b unit).terminal).reply ≡ 0
         handed_reply takes = barred.frame_reply_lem (class_given number) value (station_of b unit).terminal (f.in_range.terminals_fit (unit - 1)) takes.good ∙ rw (takes.in_f7_lem, takes.free)
 
@@ -221,14 +187,11 @@ module _ (k : Kept) (b : Bus) (c : Carries k b) (f : Fit b) (unit number : ℕ) 
       let why-0 : why k b c unit number value ≡ 0 = why_is ∙ e in
       let r = barred.refusal_replied b unit value number e in
       by_test (eqb unit 0)
-      (λ z. network_event k b c unit number value why-0 f r (barred.right_letters unit number value e) (barred.not_too_large unit number value e) z)
+      (λ z. network_event k b c unit number value why-0 f r (barred.right_letters unit number value e) z)
       (λ z.
-      by_test (eqb number Q)
-      (λ q. q_event k b c unit number value why-0 r (barred.not_too_large unit number value e) z q)
-      (λ q.
       by_test (eqb (class_of number) 0)
-      (λ n. power_event k b c unit number value why-0 f r z q n)
-      (λ n. frame_event k b c unit number value why-0 f r octets (barred.unit_known unit number value e) z n))))
+      (λ n. power_event k b c unit number value why-0 f r z n)
+      (λ n. frame_event k b c unit number value why-0 f r octets (barred.unit_known unit number value e) z n)))
       (λ some.
       turned_away k b c unit number value by_call why_is some
       (first_append (call_reasons unit number value) (state_reasons b unit number value) (barred.none_is_0 unit number value) ∙ rw some))

@@ -2,7 +2,7 @@
 use mathlib.Core.Path.{◌≡◌, refl, sym, ap, ◌∙◌}
 use mathlib.Core.Bool.{Bool, true, false, cond}
 use mathlib.Core.List.{List, [], ◌∷◌, map}
-use Prim.Native.Nat.{ℕ, zero, suc, ◌-◌, ◌≤◌, ◌<◌}
+use Prim.Native.Nat.{ℕ, zero, suc, ◌-◌, ◌<◌}
 use native.Mathlib.Omega.{arith}
 use lib.Dec.{eqb, leb}
 use lib.ListN.{length, get_or, set, get_or-map}
@@ -31,13 +31,9 @@ use Rattle.network.specs.Calls as networkCalls
 use Rattle.terminal.specs.Terminal as terminal
 use Rattle.terminal.specs.Calls as terminalCalls
 use Rattle.terminal.specs.declared.Terminal.{Terminal}
-use Rattle.bus_rules.specs.Bus.{Station, Hit, Bus, terminals, fresh_station, station_at, with_network, with_hit, with_cycle}
-use Rattle.cycle.specs.Cycle.{no_q, s_messages}
-use Rattle.cycle.specs.declared.record.Cycle.{Cycle}
-use Rattle.bus_event.specs.Message.{q_taken, s_taken}
-use Rattle.bus_event.proofs.Messages.{as_it_is}
+use Rattle.bus_rules.specs.Bus.{Station, Hit, Bus, terminals, fresh_station, station_at, with_network, with_hit}
 use Rattle.bus_rules.specs.Period.{reading_after, stepped}
-use Rattle.bus_rules.specs.Event.{station_of, class_of, first_holding, network_does, network_done, hit_given, message_in, q_done, s_done, terminal_does, with_frame, station_after, station_done}
+use Rattle.bus_rules.specs.Event.{station_of, class_of, first_holding, network_does, network_done, hit_given, terminal_does, with_frame, station_after, station_done}
 use Rattle.notes_and_cells.specs.Events.{AR, D1, D2}
 use Rattle.bus_rules.proofs.Barred as barred
 use Rattle.bus_rules.proofs.TerminalDoes.{does_by_state}
@@ -50,10 +46,9 @@ use Rattle.bus_event.specs.Event.{images_room, are_letters, taken_over, asked, n
 use Rattle.bus_event.specs.Event as parts
 use Rattle.bus_call_specs.specs.Kept.{Kept, kept}
 use Rattle.bus_record.specs.Echo.{hit_in}
-use Rattle.bus_call_specs.specs.Shown.{bare}
 use Rattle.bus_call_specs.specs.Event.{images_after}
 use Rattle.bus_call_specs.specs.Lists.{Carries, told}
-use Rattle.bus_call_specs.proofs.Fields.{periods_of, network_of, cycle_of}
+use Rattle.bus_call_specs.proofs.Fields.{periods_of, network_of}
 use Rattle.bus_call_specs.proofs.SameExchange.{SameBits, HasBits, has_stepped}
 use Rattle.bus_event.proofs.ImagePlaces.{put_length, put_there, put_elsewhere}
 use Rattle.bus_call_specs.proofs.Fitting.{Fit}
@@ -100,6 +95,7 @@ module _ (k : Kept) (b : Bus) (c : Carries k b) where
         record_is = ap (with_hit (Hit.given (taken_over value k.letters))) c.record_is ∙ rw (taken value h);
         terminals_are = c.terminals_are;
         images_are = c.images_are;
+        cycle_rests = c.cycle_rests;
         reader_is = c.reader_is;
         reader_fits = c.reader_fits;
         images_fit = c.images_fit;
@@ -107,32 +103,6 @@ module _ (k : Kept) (b : Bus) (c : Carries k b) where
         letters_fit = rw (taken value h) h;
         notes_fit = c.notes_fit;
       }
-
-  -- a message
-  cycled : (x y : Cycle) → x ≡ y →
-      Carries (kept (busRecord.with_cycle x k.bus) k.terminals k.images k.octets k.letters k.notes) (with_cycle y b)
-  cycled x y e =
-      record {
-        record_is = ap (with_cycle x) c.record_is ∙ ap (λ (z : Cycle). with_cycle z (bare b)) e;
-        terminals_are = c.terminals_are;
-        images_are = c.images_are;
-        reader_is = c.reader_is;
-        reader_fits = c.reader_fits;
-        images_fit = c.images_fit;
-        octets_fit = c.octets_fit;
-        letters_fit = c.letters_fit;
-        notes_fit = c.notes_fit;
-      }
-
-  pub s_carried : (value : List ℕ) → message_in value < s_messages →
-      Carries (kept (s_taken value k.bus) k.terminals k.images k.octets k.letters k.notes) (s_done value b)
-  unfolding s_taken s_done
-  s_carried value l = cycled _ _ (rw (as_it_is (s_messages - 1) (message_in value) (omega arith), cycle_of c.record_is))
-
-  pub q_carried : (unit : ℕ) (value : List ℕ) → message_in value ≤ no_q →
-      Carries (kept (q_taken unit value k.bus) k.terminals k.images k.octets k.letters k.notes) (q_done unit value b)
-  unfolding q_taken q_done
-  q_carried unit value l = cycled _ _ (rw (as_it_is no_q (message_in value) l, cycle_of c.record_is))
 
   -- a request
   module _ (f : Fit b) (number : ℕ) where
@@ -150,6 +120,7 @@ module _ (k : Kept) (b : Bus) (c : Carries k b) where
           record_is = ap (with_network (asked number k.bus).network cleared) c.record_is ∙ rw asked_is;
           terminals_are = c.terminals_are;
           images_are = c.images_are;
+          cycle_rests = c.cycle_rests;
           reader_is = rw (asked_is, network_of c.record_is) (stands_once k.bus.reader k.octets b.reading c.reader_is _ _);
           reader_fits = reader_fits_on _ k.bus.reader c.reader_fits;
           images_fit = c.images_fit;
@@ -208,6 +179,7 @@ module _ (k : Kept) (b : Bus) (c : Carries k b) (unit : ℕ) where
               (λ x h. h)
               (λ x h. rw (station_power x) (has_stepped (image_of k.images i) (terminal_does number b.periods) (does_by_state number b.periods) x h))
               (unit - 1) b.stations i (f.in_order i, c.images_are i)).1;
+          cycle_rests = c.cycle_rests;
           reader_is = c.reader_is;
           reader_fits = c.reader_fits;
           images_fit = c.images_fit;
@@ -227,8 +199,8 @@ body_length value h =
     (λ t.
     rw t
     (by_test (leb (length value) longest_body)
-    (λ u. rw u (sym (body_is value (record { some_octet = omega (arith, eqb-false (length value) 0 t); at_most_lem = leb-true (length value) longest_body u; octet = h }))))
-    (λ u. rw u (sym (not_body value (λ x. omega (arith, x.at_most_lem, leb-false (length value) longest_body u)))))))
+    (λ u. rw u (sym (body_is value (record { some_octet = omega (arith, eqb-false (length value) 0 t); at_most = leb-true (length value) longest_body u; octet = h }))))
+    (λ u. rw u (sym (not_body value (λ x. omega (arith, x.at_most, leb-false (length value) longest_body u)))))))
   where
     not_body : (value : List ℕ) → (IsBody value → ⊥) → is_body value ≡ false
     not_body value d = by_test (is_body value) (λ t. absurd (d (is_body_lem value t))) (λ t. t)
@@ -298,6 +270,7 @@ module _ (k : Kept) (b : Bus) (c : Carries k b) (f : Fit b) (unit number : ℕ) 
             (ap (λ (s : Station). set (map (λ (s : Station). s.terminal) b.stations) (unit - 1) s.terminal) (sym (station_framed (station_of b unit)))
             ∙ set_changed (station_after number value b.periods) (unit - 1) b.stations);
         images_are = frame_bits;
+        cycle_rests = c.cycle_rests;
         reader_is = c.reader_is;
         reader_fits = c.reader_fits;
         images_fit = put_length (unit - 1) value k.images is_there here c.images_fit;

@@ -64,7 +64,7 @@ module _ (unit number : ℕ) (value : List ℕ) (bus : BusRecord) (ts : List Ter
     when_refused a r so = (rw (← the_reason, a) so, rw (← the_reason, a), rw (← the_reason, a), rw (← the_reason, a))
 
     module _ (a : eqb k 0 ≡ true) where
-      pub at_network : eqb unit 0 ≡ true → (r : Told) (letters' : List ℕ) → (r ≡ network_told number value bus) × (letters' ≡ parts.letters_after number value letters) → Promised r ts images letters'
+      pub at_network : eqb unit 0 ≡ true → (r : Told) (letters' : List ℕ) → (r ≡ network_told number bus) × (letters' ≡ parts.letters_after number value letters) → Promised r ts images letters'
       unfolding event_told terminals_after images_after letters_after
       at_network b r letters' so = (rw (← the_reason, a, b) so.0, rw (← the_reason, a, b), rw (← the_reason, a, b), rw (← the_reason, a, b) so.1)
 

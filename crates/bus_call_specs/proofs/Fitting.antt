@@ -21,7 +21,7 @@ use Rattle.bus_call_specs.specs.Ready.{run_reply}
 use Rattle.bus_call_specs.specs.Lists.{Carries}
 use Rattle.bus_call_specs.proofs.InOrder as ready
 use Rattle.bus_call_specs.proofs.InOrder.{all_fit, order_reply}
-use Rattle.bus_call_specs.proofs.Fields.{periods_of, opportunities_of_lem, network_of, cycle_of}
+use Rattle.bus_call_specs.proofs.Fields.{periods_of, opportunities_of_lem, network_of}
 use Rattle.bus_call_specs.proofs.Pairs.{Both, none, one}
 use Rattle.bus_call_specs.proofs.SameExchange.{AccessInOrder, SameStation, SameBus, HasBits}
 
@@ -51,7 +51,7 @@ module _ (k : Kept) (b : Bus) (c : Carries k b) (f : Fit b) where
         periods_fit = rw (periods_of c.record_is) r.periods_fit;
         opportunities_fit = rw (periods_of c.record_is, opportunities_of_lem c.record_is) r.opportunities_fit;
         reader_fits = c.reader_fits;
-        cycle_fits = rw (cycle_of c.record_is) r.cycle_fits;
+        cycle_rests = c.cycle_rests;
         images_fit = c.images_fit;
         octets_fit = c.octets_fit;
         notes_fit = c.notes_fit;

@@ -13,7 +13,10 @@ use Rattle.slice_lemmas.proofs.Over.{length_mapped}
 use Rattle.slice_lemmas.specs.Over.{map_from, fold_from}
 use Rattle.hdlc.specs.Image.{longest_body}
 use Rattle.symbols.specs.Symbols.{within, fits}
+use Rattle.cycle.specs.Cycle as cycle
 use Rattle.cycle.specs.Cycle.{cycle_in_range}
+use Rattle.cycle.specs.Rest.{rests}
+use Rattle.cycle.proofs.Rest.{rests_fresh}
 use Rattle.timing.specs.Counts.{most_periods}
 use Rattle.timing.specs.Calls.{periods_in_range, opportunities_in_range, all_run}
 use Rattle.network.specs.Calls.{network_in_range}
@@ -43,7 +46,7 @@ pub record InOrder (k : Kept) : Type 0 where
   pub periods_fit : k.bus.periods.0 ≤ most_periods
   pub opportunities_fit : k.bus.opportunities.0 ≤ 4 * k.bus.periods.0
   pub reader_fits : reader_in_range k.bus.reader ≡ true
-  pub cycle_fits : cycle_in_range k.bus.cycle ≡ true
+  pub cycle_rests : k.bus.cycle ≡ cycle.fresh
   pub images_fit : length k.images ≡ images_room
   pub octets_fit : longest_body ≤ length k.octets
   pub notes_fit : length k.notes ≡ terminals
@@ -96,7 +99,7 @@ in_order most k h =
     let n = not_refused most k h in
     let r = and_both (eight_in_range k.terminals) _ n.0 in
     let e = and_both (eqb (length k.terminals) terminals) (all_in_range k.terminals) (sym (eight_in_range_lem k.terminals) ∙ r.0) in
-    let r4 = and_both _ (cycle_in_range bus.cycle) r.1 in
+    let r4 = and_both _ (rests bus.cycle) r.1 in
     let r3 = and_both _ (reader_in_range bus.reader) r4.0 in
     let r2 = and_both _ (opportunities_in_range bus.periods bus.opportunities) r3.0 in
     let r1 = and_both (network_in_range bus.network) (periods_in_range bus.periods) r2.0 in
@@ -110,7 +113,7 @@ in_order most k h =
       periods_fit = leb-true _ _ r1.1;
       opportunities_fit = leb-true _ _ r2.1;
       reader_fits = r3.1;
-      cycle_fits = r4.1;
+      cycle_rests = rests_fresh.1 bus.cycle r4.1;
       images_fit = eqb-true _ _ l1.0;
       octets_fit = leb-true _ _ l1.1;
       notes_fit = eqb-true _ _ l2.1;
@@ -133,7 +136,8 @@ order_reply most k o =
       le-leb _ _ o.periods_fit,
       le-leb _ _ o.opportunities_fit,
       o.reader_fits,
-      o.cycle_fits,
+      o.cycle_rests,
+      rests_fresh.0,
       eq-eqb _ _ o.images_fit,
       le-leb _ _ o.octets_fit,
       eq-eqb _ _ o.notes_fit,
@@ -145,7 +149,7 @@ pub order_ranges : (k : Kept) → InOrder k → (eight_in_range k.terminals ≡ 
 unfolding record_in_range
 order_ranges k o = (
   rw (eight_in_range_lem k.terminals, eq-eqb _ _ o.eight, o.terminals_fit),
-  rw (o.network_fits, le-leb _ _ o.periods_fit, le-leb _ _ o.opportunities_fit, o.reader_fits, o.cycle_fits),
+  rw (o.network_fits, le-leb _ _ o.periods_fit, le-leb _ _ o.opportunities_fit, o.reader_fits, o.cycle_rests, rests_fresh.0),
 )
 
 -- then an event is turned down, before a unit is asked, for what the call itself decides alone
@@ -175,6 +179,10 @@ unfolding hit_in
 hit_in_lem true letters h = h
 hit_in_lem false letters h = refl
 
+cycle_fresh_fits : cycle_in_range cycle.fresh ≡ true
+unfolding fits within
+cycle_fresh_fits = refl
+
 pub bus_in_range : (k : Kept) → InOrder k → InRange (bus_in k)
 unfolding bus_in
 bus_in_range k o =
@@ -183,7 +191,7 @@ bus_in_range k o =
       opportunities_fit = o.opportunities_fit;
       network_fits = o.network_fits;
       hit_fits_lem = hit_in_lem k.bus.hit k.letters o.letters_fit;
-      cycle_fits = o.cycle_fits;
+      cycle_fits = rw o.cycle_rests cycle_fresh_fits;
       eight = length_mapped (station_in k.images) 0 k.terminals ∙ o.eight;
       terminals_fit = fits_at k.images 0 k.terminals o.terminals_fit;
     }

@@ -7,7 +7,6 @@
 -- run (RunCarried) and what codes its notes have (Codes); demand 3 on the calls (Demand3).
 pub mod ReadFour
 pub mod InOrder
-pub mod CycleShown
 pub mod StepShown
 pub mod ReadyKept
 pub mod RunSingle

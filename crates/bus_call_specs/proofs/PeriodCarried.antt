@@ -6,7 +6,7 @@ use mathlib.Core.List.{map}
 use Prim.Native.Nat.{ℕ, ◌+◌, ◌≤◌}
 use native.Mathlib.Omega.{arith}
 use lib.Dec.{eqb, leb}
-use lib.ListN.{length, length-map}
+use lib.ListN.{length}
 use Rattle.test_lemmas.proofs.ByCases.{by_test}
 use Rattle.table_6_3.specs.Table63.{G3}
 use Rattle.timing.specs.Counts.{most_periods}
@@ -16,26 +16,25 @@ use Rattle.d_reader.specs.StandsFor.{StandsFor}
 use Rattle.d_reader.specs.Calls as reader
 use Rattle.d_reader.proofs.ReadingKept.{stands_after}
 use Rattle.d_reader.proofs.AnswerLaws.{answers_say, one_speaks}
-use Rattle.cycle.specs.Cycle.{tells}
-use Rattle.bus_rules.specs.Bus.{Bus, terminals, fresh_station}
-use Rattle.bus_rules.specs.CycleNotes.{cycle_notes}
+use Rattle.cycle.specs.declared.record.Cycle.{Cycle}
+use Rattle.bus_rules.specs.Bus.{Bus, fresh_station, with_cycle}
 use Rattle.bus_rules.specs.Exchange.{exchanged, opportunities_of, whole_down}
-use Rattle.bus_rules.specs.Period.{hearing_codes, cycle_after, heard_by, timed, said_notes, period_run, period_notes}
+use Rattle.bus_rules.specs.Period.{hearing_codes, heard_by, timed, said_notes, period_run, period_notes}
 use Rattle.bus_rules.specs.Calls as bus
 use Rattle.bus_rules.specs.Calls.Call.{period}
-use Rattle.bus_rules.proofs.OneDone.{exchanged_at, senders_exchanged}
+use Rattle.bus_rules.proofs.OneDone.{exchanged_at}
+use Rattle.bus_rules.proofs.Off.{period_off, told_off, units_off}
 use Rattle.exchange.specs.Part.{image_of}
 use Rattle.bus_record.specs.NetworkSide.{refused_run}
 use Rattle.bus_record.specs.declared.side.RunAnswer.{RunAnswer}
 use Rattle.bus_call_specs.specs.Kept.{Kept}
 use Rattle.bus_record.specs.Echo.{hit_in}
-use Rattle.bus_call_specs.specs.Shown.{bus_in}
+use Rattle.bus_call_specs.specs.Shown.{record_shown, bus_in}
 use Rattle.bus_call_specs.specs.Period.{d_read, left_g3, reader_run, octets_run, note_of, body_of, answers_in, done_mask, network_notes, terminals_notes, period_answer, kept_run}
 use Rattle.bus_call_specs.specs.Ready.{run_reply, run_goes_on}
 use Rattle.bus_call_specs.specs.Run.{SinglePeriod, answer_on, kept_on, not_yet, run_answer, kept_after}
-use Rattle.bus_call_specs.specs.Lists.{Carries, called, replied, notes_told, reader_told, cycle_told, period_told}
+use Rattle.bus_call_specs.specs.Lists.{Carries, called, replied, notes_told, reader_told, period_told}
 use Rattle.bus_call_specs.proofs.Fields.{periods_of, cycle_of}
-use Rattle.bus_call_specs.proofs.CycleShown.{cycle_told_of, told_noted, units_same}
 use Rattle.bus_call_specs.proofs.SameExchange.{SameBus, period_same, terminals_same, has_period}
 use Rattle.bus_call_specs.proofs.ReaderCarried.{stands_left, reading_exchanged, said_exchanged, note_said}
 use Rattle.bus_call_specs.proofs.SameNotes.{read_same, left_same, mask_same, network_notes_same, terminals_notes_same, done_notes_lem, hearing_told, timers_told_lem}
@@ -46,10 +45,6 @@ use Rattle.bus_call_specs.proofs.Fitting.{Fit, run_reply_lem, bus_shown}
 few_read : (b : Bus) → length (d_read b) ≤ 4
 unfolding d_read opportunities_of
 few_read b = by_test (eqb b.network.state G3) (λ t. rw t (omega arith)) (λ t. rw t (omega arith))
-
-cycle_run : (b : Bus) → (period_run b).cycle ≡ cycle_after (exchanged b)
-unfolding period_run timed heard_by
-cycle_run b = refl
 
 module _ (k : Kept) (b : Bus) (c : Carries k b) (f : Fit b) where
   same : SameBus (bus_in k) b
@@ -73,13 +68,22 @@ module _ (k : Kept) (b : Bus) (c : Carries k b) (f : Fit b) where
   unfolding octets_run
   octets_long = rw (read_same (bus_in k) b same) read.1
 
+  -- ---- no cycle runs
+  no_cycle_lem : (bus_in k).cycle.running ≡ false
+  unfolding bus_in
+  no_cycle_lem = rw c.cycle_rests
+
+  none_runs : b.cycle.running ≡ false
+  none_runs = rw (← cycle_of c.record_is, c.cycle_rests)
+
   -- ---- what it leaves
   pub run_carried : Carries (kept_run k) (period_run b)
   unfolding kept_run period_answer bus_in hit_in period_run timed heard_by
   run_carried =
       let p = period_same (bus_in k) b same in
       record {
-        record_is = p.bare_same;
+        record_is = ap (λ (x : Cycle). with_cycle x (record_shown (period_answer k).bus k.letters)) (sym (period_off (bus_in k) no_cycle_lem)) ∙ p.bare_same;
+        cycle_rests = c.cycle_rests;
         terminals_are = terminals_same _ _ p;
         images_are = λ i. (has_period (image_of k.images i) i b (f.in_order i, c.images_are i)).1;
         reader_is = reader_stands;
@@ -102,29 +106,18 @@ module _ (k : Kept) (b : Bus) (c : Carries k b) (f : Fit b) where
       (rw (read_same (bus_in k) b same) (one_speaks ds k.bus.reader k.octets (omega arith)))
       ∙ sym (said_exchanged b b.periods)
 
-  cycle_told_lem : (r : RunAnswer) → r.bus.cycle ≡ cycle_after (exchanged b) → (tells r.bus.cycle ≡ true → r.told ≡ true)
-      → (u : ℕ) → u ≤ terminals → cycle_told b.periods r u ≡ cycle_notes b.periods (cycle_after (exchanged b)) u
-  unfolding cycle_told
-  cycle_told_lem r on noted u l = told_noted r.told b.periods r.bus.cycle noted u l ∙ rw on
-
-  as_many : length (map (hearing_codes (whole_down (exchanged b)) b.periods) (exchanged b).senders) ≡ terminals
-  as_many = length-map (exchanged b).senders _ ∙ (rw (senders_exchanged b) (length-map b.stations _) ∙ f.in_range.eight)
-
   period_told_lem : (r : RunAnswer) → r.said ≡ note_of (answers_in k) → r.body ≡ body_of (answers_in k) → r.network ≡ network_notes b →
-      r.done1 ≡ done_mask 1 b → r.done2 ≡ done_mask 2 b → r.bus.cycle ≡ cycle_after (exchanged b) → (tells r.bus.cycle ≡ true → r.told ≡ true) →
-      period_told b.periods r (terminals_notes b) (octets_run k) ≡ period_notes b
+      r.done1 ≡ done_mask 1 b → r.done2 ≡ done_mask 2 b → period_told b.periods r (terminals_notes b) (octets_run k) ≡ period_notes b
   unfolding period_told period_notes heard_by terminals_notes network_notes
-  period_told_lem r p q n one two on noted =
-      let codes = map (hearing_codes (whole_down (exchanged b)) b.periods) (exchanged b).senders in
+  period_told_lem r p q n one two =
       rw (
         reader_notes r p q,
         hearing_told (whole_down (exchanged b)) b.periods r (exchanged_at b fresh_station) 0 (exchanged b).senders
             (λ j. let z : 0 + j ≡ j = omega arith in rw (z, one, two) (done_notes_lem b f.in_range j)),
         timers_told_lem (whole_down (exchanged b)) b.periods (exchanged b).senders,
-        cycle_told_lem r on noted 0 (omega arith),
-        units_same (cycle_told b.periods r) (cycle_notes b.periods (cycle_after (exchanged b))) b.periods 1 codes
-            (λ u l. cycle_told_lem r on noted u (omega (arith, as_many))),
         n,
+        told_off b none_runs 0,
+        units_off _ (told_off b none_runs) b.periods 1 (map (hearing_codes (whole_down (exchanged b)) b.periods) (exchanged b).senders),
       )
 
   pub run_told_lem : period_told k.bus.periods.0 (period_answer k) (kept_run k).notes (kept_run k).octets ≡ period_notes b
@@ -132,8 +125,7 @@ module _ (k : Kept) (b : Bus) (c : Carries k b) (f : Fit b) where
   run_told_lem =
       rw (terminals_notes_same (bus_in k) b same)
       (ap (λ (n : ℕ). period_told n (period_answer k) (terminals_notes b) (octets_run k)) (periods_of c.record_is)
-      ∙ period_told_lem (period_answer k) refl refl (network_notes_same (bus_in k) b same) (mask_same (bus_in k) b same 1) (mask_same (bus_in k) b same 2)
-      (cycle_of (period_same (bus_in k) b same).bare_same ∙ cycle_run b) (cycle_told_of k))
+      ∙ period_told_lem (period_answer k) refl refl (network_notes_same (bus_in k) b same) (mask_same (bus_in k) b same 1) (mask_same (bus_in k) b same 2))
 
   -- ---- the call: refused by 9, or one period
   last_run : leb most_periods b.periods ≡ true → (run_answer 1 k ≡ refused_run 9 k.bus) × (kept_after 1 k ≡ k)

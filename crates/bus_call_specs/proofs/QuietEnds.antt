@@ -2,11 +2,11 @@
 use mathlib.Core.Path.{◌≡◌, refl, sym, ap, ◌∙◌}
 use mathlib.Core.Bool.{Bool, true, false}
 use mathlib.Core.List.{List, [], ◌∷◌, ◌++◌}
-use Prim.Native.Nat.{ℕ, zero, suc, ◌+◌, ◌-◌, ◌≤◌, ◌<◌, min}
+use Prim.Native.Nat.{ℕ, zero, suc, ◌+◌, ◌≤◌, ◌<◌, min}
 use native.Mathlib.Omega.{arith}
 use lib.Dec.{eqb, ltb}
 use lib.ListN.{length, get_or, length-take, length-map}
-use borrow.Author.Tests.{eqb-true, ne_eqb, ltb-true, ltb-false, leb-true, leb-false}
+use borrow.Author.Tests.{eqb-true, ltb-true, ltb-false, leb-true, leb-false}
 use Rattle.test_lemmas.proofs.ByCases.{by_test, clash}
 use Rattle.notes_and_cells.specs.Notes.{noted}
 use Rattle.notes_and_cells.specs.declared.notes.Notes.{Notes}
@@ -14,10 +14,7 @@ use Rattle.hdlc.specs.Bits.{number_low_first, bit_of}
 use Rattle.hdlc.proofs.OctetLaws.{number_bit}
 use Rattle.timing.specs.Counts.{most_periods}
 use Rattle.timing.specs.Calls.{all_run}
-use Rattle.cycle.specs.Cycle.{no_q, q_told, s_told, tells}
-use Rattle.cycle.proofs.Laws.{tells_some}
 use Rattle.bus_rules.specs.Bus.{notes_of}
-use Rattle.bus_rules.specs.CycleNotes.{q_notes, s_notes, cycle_notes}
 use Rattle.bus_rules.specs.Order.{unit_by_unit}
 use Rattle.bus_rules.specs.Period.{heard_by, timed, period_run}
 use Rattle.exchange.specs.Shown.{done_octet}
@@ -30,10 +27,8 @@ use Rattle.bus_call_specs.specs.Shown.{bus_in}
 use Rattle.bus_call_specs.specs.Period.{terminals_notes, any_unit_note, has_notes, done_mask, period_answer, kept_run}
 use Rattle.bus_call_specs.specs.Ready.{run_reply, run_goes_on}
 use Rattle.bus_call_specs.specs.Run.{not_yet, run_answer, kept_after, kept_on}
-use Rattle.bus_call_specs.specs.Lists.{done_notes, reader_told, cycle_told, terminals_heard, terminals_told, timers_told, period_told, run_told, QuietRunEnds}
-use Rattle.bus_call_specs.proofs.InOrder.{in_order, one_left, bus_in_range}
-use Rattle.bus_call_specs.proofs.CycleShown.{when, cycle_told_of}
-use Rattle.bus_call_specs.proofs.ReadyKept.{length_notes}
+use Rattle.bus_call_specs.specs.Lists.{done_notes, reader_told, terminals_heard, terminals_told, timers_told, period_told, run_told, QuietRunEnds}
+use Rattle.bus_call_specs.proofs.InOrder.{in_order, one_left}
 use Rattle.bus_call_specs.proofs.RunSingle.{same_reply, period_single, goes_facts, ran_ends, stays}
 use Rattle.bus_call_specs.proofs.QuietRuns.{goes_again, told_on, told_end, kept_on_lem, kept_end}
 
@@ -65,37 +60,20 @@ not_done true two h = absurd (nothing _ _ h)
 not_done false true h = absurd (nothing _ _ h)
 not_done false false h = (refl, refl)
 
--- ---- The cycle.
-no_q_lem : (now : ℕ) (r : RunAnswer) → r.told ≡ true → cycle_told now r 0 ≡ [] → q_told r.bus.cycle ≡ 15
-unfolding cycle_told cycle_notes q_notes
-no_q_lem now r t h =
-    by_test (eqb (q_told r.bus.cycle) no_q) (λ e. eqb-true _ _ e)
-    (λ e. absurd (nothing _ [] (rw e at (sym (when r.told (cycle_notes now r.bus.cycle 0) [] t) ∙ h))))
-
-no_s : (now : ℕ) (r : RunAnswer) (i : ℕ) → r.told ≡ true → cycle_told now r (suc i) ≡ [] → s_told i r.bus.cycle ≡ 0
-unfolding cycle_told cycle_notes s_notes
-no_s now r i t h =
-    let back : suc i - 1 ≡ i = omega arith in
-    let there : s_told (suc i - 1) r.bus.cycle ≡ s_told i r.bus.cycle = ap (λ (j : ℕ). s_told j r.bus.cycle) back in
-    by_test (eqb (s_told (suc i - 1) r.bus.cycle) 0) (λ e. sym there ∙ eqb-true _ _ e)
-    (λ e. absurd (nothing _ [] (rw (ne_eqb (suc i) 0 (λ z. omega arith), e) at (sym (when r.told (cycle_notes now r.bus.cycle (suc i)) [] t) ∙ h))))
-
 -- ---- The terminals.
 record Silent (now : ℕ) (r : RunAnswer) (i : ℕ) (n : UnitNotes) (ns : List UnitNotes) : Type 0 where
   heard : has_note n.hearing ≡ false
   one : bit_of r.done1 i ≡ false
   two : bit_of r.done2 i ≡ false
-  told : cycle_told now r (suc i) ≡ []
   rest : terminals_told now r (suc i) ns ≡ []
 
 silent : (now : ℕ) (r : RunAnswer) (i : ℕ) (n : UnitNotes) (ns : List UnitNotes) → terminals_told now r i (n ∷ ns) ≡ [] → Silent now r i n ns
 unfolding unit_by_unit terminals_heard
 silent now r i n ns h =
-    let p = no_parts (notes_of now (suc i) (done_notes (bit_of r.done1 i) (bit_of r.done2 i) ++ noted n.hearing)) (cycle_told now r (suc i) ++ terminals_told now r (suc i) ns) h in
-    let t = no_parts (cycle_told now r (suc i)) (terminals_told now r (suc i) ns) p.1 in
+    let p = no_parts (notes_of now (suc i) (done_notes (bit_of r.done1 i) (bit_of r.done2 i) ++ noted n.hearing)) (terminals_told now r (suc i) ns) h in
     let q = no_parts (done_notes (bit_of r.done1 i) (bit_of r.done2 i)) (noted n.hearing) (no_codes now (suc i) _ p.0) in
     let d = not_done (bit_of r.done1 i) (bit_of r.done2 i) q.0 in
-    record { heard = no_note n.hearing q.1; one = d.0; two = d.1; told = t.0; rest = t.1 }
+    record { heard = no_note n.hearing q.1; one = d.0; two = d.1; rest = p.1 }
 
 none_any : (now later : ℕ) (r : RunAnswer) (i : ℕ) (ns : List UnitNotes) → terminals_told now r i ns ≡ [] → timers_told later i ns ≡ [] → any_unit_note ns ≡ false
 unfolding any_unit_note unit_by_unit
@@ -116,22 +94,6 @@ none_done now r i (n ∷ ns) h (suc j) l =
     let e : i + suc j ≡ suc i + j = omega arith in
     rw e (none_done now r (suc i) ns (silent now r i n ns h).rest j (omega arith))
 
--- so the cycle has nothing to tell: an answer tells of it where there is
-none_s : (now : ℕ) (r : RunAnswer) (i : ℕ) (ns : List UnitNotes) → terminals_told now r i ns ≡ [] → (j : ℕ) → j < length ns → cycle_told now r (suc (i + j)) ≡ []
-none_s now r i [] h j l = absurd (omega arith)
-none_s now r i (n ∷ ns) h zero l = let e : i + 0 ≡ i = omega arith in rw e (silent now r i n ns h).told
-none_s now r i (n ∷ ns) h (suc j) l =
-    let e : i + suc j ≡ suc i + j = omega arith in
-    rw e (none_s now r (suc i) ns (silent now r i n ns h).rest j (omega arith))
-
-none_tells : (now : ℕ) (r : RunAnswer) (ns : List UnitNotes) → cycle_told now r 0 ≡ [] → terminals_told now r 0 ns ≡ [] → length ns ≡ 8
-    → (tells r.bus.cycle ≡ true → r.told ≡ true) → tells r.bus.cycle ≡ false
-none_tells now r ns q s long noted =
-    by_test (tells r.bus.cycle)
-    (λ t. tells_some r.bus.cycle (no_q_lem now r (noted t) q)
-    (λ i l. let z : 0 + i ≡ i = omega arith in no_s now r i (noted t) (rw z at (none_s now r 0 ns s i (omega (arith, long))))))
-    (λ t. t)
-
 -- a number none of whose bits is set
 no_bits : (bs : List Bool) → ((j : ℕ) → j < length bs → get_or bs j false ≡ false) → number_low_first bs ≡ 0
 unfolding number_low_first
@@ -143,24 +105,21 @@ record Without (now : ℕ) (r : RunAnswer) (ns : List UnitNotes) : Type 0 where
   said : eqb r.said 0 ≡ true
   heard : has_note r.network.hearing ≡ false
   timed : has_note r.network.timers ≡ false
-  q : cycle_told now r 0 ≡ []
   terminals : terminals_told now r 0 ns ≡ []
   timers : timers_told (now + 1) 0 ns ≡ []
 
 without : (now : ℕ) (r : RunAnswer) (ns : List UnitNotes) (octets : List ℕ) → period_told now r ns octets ≡ [] → Without now r ns
 unfolding period_told reader_told
 without now r ns octets h =
-    let p = no_parts (reader_told now r octets ++ (notes_of now 0 (noted r.network.hearing) ++ (cycle_told now r 0 ++ terminals_told now r 0 ns))) _ h in
+    let p = no_parts (reader_told now r octets ++ (notes_of now 0 (noted r.network.hearing) ++ terminals_told now r 0 ns)) _ h in
     let q = no_parts (reader_told now r octets) _ p.0 in
-    let u = no_parts (notes_of now 0 (noted r.network.hearing)) (cycle_told now r 0 ++ terminals_told now r 0 ns) q.1 in
-    let w = no_parts (cycle_told now r 0) (terminals_told now r 0 ns) u.1 in
+    let u = no_parts (notes_of now 0 (noted r.network.hearing)) (terminals_told now r 0 ns) q.1 in
     let v = no_parts (notes_of (now + 1) 0 (noted r.network.timers)) (timers_told (now + 1) 0 ns) p.1 in
     record {
       said = by_test (eqb r.said 0) (λ t. t) (λ t. absurd (nothing _ [] (rw t at q.0)));
       heard = none_of now 0 r.network.hearing u.0;
       timed = none_of (now + 1) 0 r.network.timers v.0;
-      q = w.0;
-      terminals = w.1;
+      terminals = u.1;
       timers = v.1;
     }
 
@@ -174,9 +133,9 @@ module _ (k : Kept) where
       let e : 0 + j ≡ j = omega arith in
       sym (number_bit _ j) ∙ (rw e at (h j (simp length-map (simp length-map at l)))))
 
-  pub silent_period : (now : ℕ) (octets : List ℕ) → length (terminals_notes (bus_in k)) ≡ 8 → period_told now (period_answer k) (kept_run k).notes octets ≡ [] → (period_answer k).told ≡ false
+  pub silent_period : (now : ℕ) (octets : List ℕ) → period_told now (period_answer k) (kept_run k).notes octets ≡ [] → (period_answer k).told ≡ false
   unfolding period_answer kept_run has_notes any_unit_note
-  silent_period now octets eight h =
+  silent_period now octets h =
       let ns = terminals_notes (bus_in k) in
       let w = without now (period_answer k) ns octets h in
       let done = none_done now (period_answer k) 0 ns w.terminals in
@@ -187,7 +146,6 @@ module _ (k : Kept) where
         w.said,
         no_mask 1 (λ j l. (done j l).0),
         no_mask 2 (λ j l. (done j l).1),
-        none_tells now (period_answer k) ns w.q w.terminals eight (cycle_told_of k),
       )
 
   -- a single period that is not refused: one more has been run, and where it has no notes it is not told of
@@ -200,7 +158,7 @@ module _ (k : Kept) where
     unfolding run_told period_answer
     one_silent e =
         let one = period_single k h in
-        rw one.answer_is (silent_period _ (kept_run k).octets (length_notes (bus_in k) ∙ (bus_in_range k (in_order 1 k h)).eight) (rw (one.answer_is, one.kept_is) at e))
+        rw one.answer_is (silent_period _ (kept_run k).octets (rw (one.answer_is, one.kept_is) at e))
 
 -- ---- A run.
 ends : (n : ℕ) (k : Kept) → run_reply 1 k ≡ 0 → (run_answer 1 k).told ≡ false → run_goes_on (run_answer 1 k) n ≡ false

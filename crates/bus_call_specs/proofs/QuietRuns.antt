@@ -13,7 +13,6 @@ use Rattle.notes_and_cells.specs.declared.notes.Notes.{Notes}
 use Rattle.hdlc.specs.Bits.{number_low_first, bit_of}
 use Rattle.hdlc.proofs.OctetLaws.{number_bit}
 use Rattle.timing.specs.Calls.{all_run}
-use Rattle.cycle.specs.Cycle as cycle
 use Rattle.bus_rules.specs.Bus.{notes_of}
 use Rattle.bus_rules.specs.Order.{unit_by_unit}
 use Rattle.bus_rules.specs.Period.{heard_by, timed, period_run}
@@ -28,7 +27,7 @@ use Rattle.bus_call_specs.specs.Shown.{bus_in}
 use Rattle.bus_call_specs.specs.Period.{terminals_notes, any_unit_note, has_notes, period_answer, kept_run}
 use Rattle.bus_call_specs.specs.Ready.{run_reply, run_goes_on}
 use Rattle.bus_call_specs.specs.Run.{not_yet, run_answer, kept_after, answer_on, kept_on, SinglePeriod}
-use Rattle.bus_call_specs.specs.Lists.{called, replied, reader_told, cycle_told, terminals_heard, terminals_told, timers_told, period_told, notes_told, LentCall, finds, left_by, call_of, left_all, notes_of_calls, calls_in, run_told, RunIsCalls, RunsAreCalls}
+use Rattle.bus_call_specs.specs.Lists.{called, replied, reader_told, terminals_heard, terminals_told, timers_told, period_told, notes_told, LentCall, finds, left_by, call_of, left_all, notes_of_calls, calls_in, run_told, RunIsCalls, RunsAreCalls}
 use Rattle.bus_call_specs.specs.Lists.LentCall.{runs}
 use Rattle.bus_call_specs.proofs.InOrder.{one_left}
 use Rattle.bus_call_specs.proofs.ReadyKept.{ready_kept}
@@ -47,13 +46,13 @@ no_bit : (i : ℕ) → bit_of 0 i ≡ false
 unfolding number_low_first
 no_bit i = number_bit [] i
 
-none_told : (now : ℕ) (r : RunAnswer) (i : ℕ) (ns : List UnitNotes) → r.told ≡ false → r.done1 ≡ 0 → r.done2 ≡ 0 → any_unit_note ns ≡ false → terminals_told now r i ns ≡ []
-unfolding cycle_told unit_by_unit terminals_heard any_unit_note notes_of
-none_told now r i [] e p q h = refl
-none_told now r i (n ∷ ns) e p q h =
+none_told : (now : ℕ) (r : RunAnswer) (i : ℕ) (ns : List UnitNotes) → r.done1 ≡ 0 → r.done2 ≡ 0 → any_unit_note ns ≡ false → terminals_told now r i ns ≡ []
+unfolding unit_by_unit terminals_heard any_unit_note notes_of
+none_told now r i [] p q h = refl
+none_told now r i (n ∷ ns) p q h =
     let t = neither _ (any_unit_note ns) h in
     let m = neither (has_note n.hearing) (has_note n.timers) t.0 in
-    rw (none_told now r (suc i) ns e p q t.1, e, none_noted n.hearing m.0, p, q, no_bit i)
+    rw (none_told now r (suc i) ns p q t.1, none_noted n.hearing m.0, p, q, no_bit i)
 
 none_timed : (now i : ℕ) (ns : List UnitNotes) → any_unit_note ns ≡ false → timers_told now i ns ≡ []
 unfolding unit_by_unit any_unit_note notes_of
@@ -69,10 +68,9 @@ no_not false h = clash true refl h
 
 -- an answer that tells of no note has none
 quiet : (now : ℕ) (r : RunAnswer) (ns : List UnitNotes) (octets : List ℕ) →
-    (((any_unit_note (r.network ∷ ns) || not (eqb r.said 0)) || not (eqb r.done1 0)) || not (eqb r.done2 0)) ≡ false → r.told ≡ false
-    → period_told now r ns octets ≡ []
-unfolding period_told reader_told cycle_told any_unit_note notes_of
-quiet now r ns octets h e =
+    (((any_unit_note (r.network ∷ ns) || not (eqb r.said 0)) || not (eqb r.done1 0)) || not (eqb r.done2 0)) ≡ false → period_told now r ns octets ≡ []
+unfolding period_told reader_told any_unit_note notes_of
+quiet now r ns octets h =
     let c = neither _ (not (eqb r.done2 0)) h in
     let b = neither _ (not (eqb r.done1 0)) c.0 in
     let a = neither _ (not (eqb r.said 0)) b.0 in
@@ -82,8 +80,7 @@ quiet now r ns octets h e =
     let two : r.done2 ≡ 0 = eqb-true _ _ (no_not _ c.1) in
     let one : r.done1 ≡ 0 = eqb-true _ _ (no_not _ b.1) in
     rw (
-      none_told now r 0 ns e one two n.1,
-      e,
+      none_told now r 0 ns one two n.1,
       none_timed (now + 1) 0 ns n.1,
       said,
       none_noted r.network.hearing u.0,
@@ -102,7 +99,7 @@ goes_by last n g =
 module _ (k : Kept) where
   pub quiet_run : (now : ℕ) → (period_answer k).told ≡ false → period_told now (period_answer k) (kept_run k).notes (kept_run k).octets ≡ []
   unfolding kept_run period_answer has_notes
-  quiet_run now h = quiet now (period_answer k) (terminals_notes (bus_in k)) (kept_run k).octets (neither _ (cycle.tells (period_run (bus_in k)).cycle) h).0 h
+  quiet_run now h = quiet now (period_answer k) (terminals_notes (bus_in k)) (kept_run k).octets h
 
   -- ---- a single call
   refused_one : eqb (run_reply 1 k) 0 ≡ false → (run_answer 1 k).reply ≡ run_reply 1 k

@@ -32,7 +32,7 @@ use Rattle.terminal.specs.declared.Terminal.{Terminal}
 use Rattle.terminal.specs.declared.TerminalStep.{TerminalStep}
 use Rattle.bus_rules.specs.Bus.{terminals}
 use Rattle.bus_rules.specs.Event.{among, class_of, call_reasons, first_holding}
-use Rattle.notes_and_cells.specs.Events.{ON, OFF, AR, D1, D2, HIT, Q, S}
+use Rattle.notes_and_cells.specs.Events.{ON, OFF, AR, D1, D2, HIT}
 use Rattle.bus_rules.specs.Calls.{Call, bus_refusals}
 use Rattle.bus_rules.specs.Calls.Call.{event, period}
 use Rattle.bus_rules.proofs.Ranges.{class_given}
@@ -91,26 +91,21 @@ network_asked_lem number r =
     (λ t. rw t (network_requests _ r.periods.0 r.network))
     (λ t. rw t (network_down 1 refl r.network))
 
-module _ (number : ℕ) (value : List ℕ) (r : BusRecord) where
-  network_listed : Listed (network_told number value r).reply
+module _ (number : ℕ) (r : BusRecord) where
+  network_listed : Listed (network_told number r).reply
   unfolding network_told network_asked parts.told
-  network_listed =
-      by_test (eqb number HIT) (λ t. rw t) (λ t. by_test (eqb number S) (λ u. rw (t, u)) (λ u. rw (t, u) (network_asked_lem number r).listed))
+  network_listed = by_test (eqb number HIT) (λ t. rw t) (λ t. rw t (network_asked_lem number r).listed)
 
-  module _ (h : (network_told number value r).reply ≡ 0 → ⊥) where
+  module _ (h : (network_told number r).reply ≡ 0 → ⊥) where
     no_hit : eqb number HIT ≡ false
     unfolding network_told parts.told
     no_hit = by_test (eqb number HIT) (λ t. absurd ((rw t at h) refl)) (λ t. t)
 
-    no_s : eqb number S ≡ false
-    unfolding network_told parts.told
-    no_s = by_test (eqb number S) (λ t. absurd ((rw (no_hit, t) at h) refl)) (λ t. t)
-
-    network_alone : network_told number value r ≡ parts.told r (packed_notes []) (network_told number value r).reply
+    network_alone : network_told number r ≡ parts.told r (packed_notes []) (network_told number r).reply
     unfolding network_told network_asked parts.told
     network_alone =
-        let refused : (asked number r).reply ≡ 0 → ⊥ = rw (no_hit, no_s) at h in
-        rw (no_hit, no_s, (network_asked_lem number r).keeps refused, (network_asked_lem number r).silent refused, reader_stays r.network.state r.reader)
+        let refused : (asked number r).reply ≡ 0 → ⊥ = rw no_hit at h in
+        rw (no_hit, (network_asked_lem number r).keeps refused, (network_asked_lem number r).silent refused, reader_stays r.network.state r.reader)
 
 -- ---- A step of a terminal.
 record TerminalAnswer (t : Terminal) (s : TerminalStep) : Type 0 where
@@ -210,11 +205,6 @@ module _ (number : ℕ) (images : List ℕ) (i : ℕ) (value : List ℕ) (now : 
       let g = gives_frame_lem number images i value now t c in
       g.1 ∙ frame_images (class_given number) images i value t (rw g.0 at h))
 
-q_taken_lem : (number : ℕ) (images : List ℕ) (i : ℕ) (value : List ℕ) (now : Periods) (t : Terminal) → eqb number Q ≡ true
-    → (terminal_told number images i value now t).reply ≡ 0
-unfolding terminal_told
-q_taken_lem number images i value now t h = rw (eqb-true number Q h)
-
 -- ---- An event.
 module _ (unit number : ℕ) (value : List ℕ) (k : Kept) where
   abbrev why : ℕ
@@ -226,10 +216,6 @@ module _ (unit number : ℕ) (value : List ℕ) (k : Kept) where
   answers : TerminalAnswer there (at_terminal unit number value k.bus k.terminals k.images k.letters)
   answers = terminal_answers number k.images (unit - 1) value k.bus.periods there
 
-  -- a message is not refused any more
-  no_q_lem : ((at_terminal unit number value k.bus k.terminals k.images k.letters).reply ≡ 0 → ⊥) → eqb number Q ≡ false
-  no_q_lem h = by_test (eqb number Q) (λ t. absurd (h (q_taken_lem number k.images (unit - 1) value k.bus.periods there t))) (λ t. t)
-
   why_fits : Listed why
   unfolding first_reason call_reasons
   why_fits = listed_first _ refl
@@ -238,7 +224,7 @@ module _ (unit number : ℕ) (value : List ℕ) (k : Kept) where
   unfolding told event_told parts.event_settled parts.told
   event_listed =
       by_test (eqb why 0)
-      (λ z. by_test (eqb unit 0) (λ u. rw (z, u) (network_listed number value k.bus)) (λ u. rw (z, u) answers.listed))
+      (λ z. by_test (eqb unit 0) (λ u. rw (z, u) (network_listed number k.bus)) (λ u. rw (z, u) answers.listed))
       (λ z. rw z why_fits)
 
   event_alone : ((told unit number value k).reply ≡ 0 → ⊥) → told unit number value k ≡ parts.told k.bus (packed_notes []) (told unit number value k).reply
@@ -246,8 +232,8 @@ module _ (unit number : ℕ) (value : List ℕ) (k : Kept) where
   event_alone h =
       by_test (eqb why 0)
       (λ z. by_test (eqb unit 0)
-      (λ u. rw (z, u) (unfold parts.told in network_alone number value k.bus (rw (z, u) at h)))
-      (λ u. rw (z, u, no_q_lem (rw (z, u) at h), answers.silent (rw (z, u) at h))))
+      (λ u. rw (z, u) (unfold parts.told in network_alone number k.bus (rw (z, u) at h)))
+      (λ u. rw (z, u, answers.silent (rw (z, u) at h))))
       (λ z. rw z)
 
   event_keeps : ((told unit number value k).reply ≡ 0 → ⊥) → called k (event unit number value) ≡ k
@@ -256,11 +242,11 @@ module _ (unit number : ℕ) (value : List ℕ) (k : Kept) where
       by_test (eqb why 0)
       (λ z. by_test (eqb unit 0)
       (λ u.
-      let refused : (network_told number value k.bus).reply ≡ 0 → ⊥ = rw (z, u) at h in
-      rw (z, u, no_hit number value k.bus refused, network_alone number value k.bus refused))
+      let refused : (network_told number k.bus).reply ≡ 0 → ⊥ = rw (z, u) at h in
+      rw (z, u, no_hit number k.bus refused, network_alone number k.bus refused))
       (λ u.
       let refused = rw (z, u) at h in
-      rw (z, u, no_q_lem refused, answers.keeps refused, images_kept number k.images (unit - 1) value k.bus.periods there refused, set-get_or k.terminals (unit - 1) terminal.fresh)))
+      rw (z, u, answers.keeps refused, images_kept number k.images (unit - 1) value k.bus.periods there refused, set-get_or k.terminals (unit - 1) terminal.fresh)))
       (λ z. rw z)
 
 pub refused_alone : RefusedAlone

@@ -20,14 +20,12 @@ use Rattle.bus_rules.proofs.Sound.{sound_kept}
 use Rattle.bus_record.specs.NetworkSide.{refused_run}
 use Rattle.bus_record.specs.declared.side.RunAnswer.{RunAnswer}
 use Rattle.bus_call_specs.specs.Kept.{Kept}
-use Rattle.bus_call_specs.specs.Shown.{bus_in}
 use Rattle.bus_call_specs.specs.Period.{period_answer, kept_run}
 use Rattle.bus_call_specs.specs.Ready.{run_reason, run_reply, run_goes_on}
 use Rattle.bus_call_specs.specs.Run.{answer_on, kept_on, not_yet, run_answer, kept_after}
 use Rattle.bus_call_specs.specs.Lists.{Carries, called, replied, RunOfRules, RunCarried, NoPeriodsRun, NoPeriodsCarried}
 use Rattle.bus_call_specs.proofs.Fields.{periods_of}
-use Rattle.bus_call_specs.proofs.InOrder.{order_reply, bus_in_range}
-use Rattle.bus_call_specs.proofs.ReadyKept.{length_notes}
+use Rattle.bus_call_specs.proofs.InOrder.{order_reply}
 use Rattle.bus_call_specs.proofs.RunSingle.{period_single}
 use Rattle.bus_call_specs.proofs.Fitting.{Fit, sound_fits, in_order, run_reply_lem}
 use Rattle.bus_call_specs.proofs.PeriodCarried.{run_carried, run_told_lem, period_replied, period_notes_lem, period_carried}
@@ -55,7 +53,7 @@ module _ (k : Kept) (b : Bus) (c : Carries k b) (f : Fit b) where
       by_test (period_answer k).told
       (λ t.
       by_test (eqb (length (period_notes b)) 0)
-      (λ n. clash (period_answer k).told t (silent_period k _ (kept_run k).octets (length_notes (bus_in k) ∙ (bus_in_range k (in_order k b c f)).eight) (run_told_lem k b c f ∙ none_long (period_notes b) n)))
+      (λ n. clash (period_answer k).told t (silent_period k _ (kept_run k).octets (run_told_lem k b c f ∙ none_long (period_notes b) n)))
       (λ n. rw (t, n)))
       (λ t. let none : period_notes b ≡ [] = sym (run_told_lem k b c f) ∙ quiet_run k k.bus.periods.0 t in rw (t, none))
 

@@ -10,8 +10,7 @@ use Rattle.test_lemmas.proofs.ByCases.{by_test}
 use Rattle.symbols.specs.Symbols.{is_line}
 use Rattle.frame.specs.Four.{filled_with_ones}
 use Rattle.frame.specs.declared.fields.Four.{Four}
-use Rattle.frame.specs.declared.fields.CycleBits.{CycleBits}
-use Rattle.cycle.specs.Cycle.{taken, bits_at}
+use Rattle.info.specs.Info.{unset}
 use Rattle.info.proofs.Laws.{line_info0, line_info2, line_info4}
 use Rattle.notes_and_cells.specs.Cells.{info_in}
 use Rattle.table_6_3.specs.Table63.{G3}
@@ -28,10 +27,12 @@ use Rattle.terminal.specs.declared.Terminal.{Terminal}
 use Rattle.d_reader.specs.Calls as reader
 use Rattle.bus_rules.specs.Bus.{Bus}
 use Rattle.bus_rules.specs.Exchange.{Sender, Opportunity as Lines, stations_of, any_info1, any_info3, d_comes, senders_after, e_comes, onward, begins, opportunities_of, exchanged, sent_down, line_down, whole_down, whole_up}
-use Rattle.bus_rules.specs.Period.{network_hears, terminal_hears, cycle_after, heard_by, timed, period_run}
+use Rattle.bus_rules.specs.Period.{network_hears, terminal_hears, heard_by, timed, period_run}
+use Rattle.bus_rules.specs.Quick.{shown_from}
 use Rattle.bus_rules.specs.Stretch.{station_then}
 use Rattle.bus_rules.specs.Ranges.{InRange}
-use Rattle.bus_rules.proofs.Quick.{info1_hears, info3_hears, down_shown}
+use Rattle.bus_rules.proofs.Quick.{info1_hears, info3_hears, up_shown, down_shown}
+use Rattle.bus_rules.proofs.Off.{still_off, line_off}
 use Rattle.bus_rules.proofs.Stations.{stations_stationed}
 use Rattle.bus_rules.proofs.Ranges.{PeriodCalled, exchanged_in, period_called}
 use Rattle.exchange.specs.Opportunities.{tally_after_four}
@@ -42,46 +43,38 @@ use Rattle.period_hearing.specs.Hears.{heard_one, has_note, notes_after, told_af
 use Rattle.period_hearing.specs.Shown.{all_in_range, terminals_of, terminal_notes}
 use Rattle.period_hearing.proofs.Shown.{stations_shown, notes_shown}
 use Rattle.bus_record.specs.Echo.{hit_in, first_tally, sent_es, heard_down, step_tally, step_exchanged, step_line}
-use Rattle.bus_record.specs.Crossing.{cycle_on}
 use Rattle.bus_record.specs.NetworkSide as side
 use Rattle.bus_record.specs.Reading.{read_in}
 use Rattle.bus_event.specs.Event.{are_letters}
 use Rattle.bus_record.specs.declared.record.BusRecord.{BusRecord}
-use Rattle.bus_record.specs.declared.crossing.Crossed.{Crossed}
 use Rattle.bus_call_specs.specs.Kept.{Kept}
 use Rattle.bus_call_specs.specs.Shown.{bus_in}
 use Rattle.bus_call_specs.specs.Period as period
 use Rattle.bus_call_specs.specs.Period.{period_answer, kept_run, terminals_notes, network_notes, left_g3, any_unit_note}
-use Rattle.bus_call_specs.specs.Step.{step_terminals, step_notes, step_told, crossing, step_crossed, step_answer, step_octets, StepShows, StepShown}
+use Rattle.bus_call_specs.specs.Step.{step_terminals, step_notes, step_told, step_answer, step_octets, StepShows, StepShown}
 use Rattle.bus_call_specs.proofs.ReadFour.{read_in_lem, octets_in_lem}
-use Rattle.bus_call_specs.proofs.CycleShown.{ShownBy, cycle_is, shown_is}
 use Rattle.bus_call_specs.proofs.InOrder.{InOrder, in_order, one_left, all_fit, bus_in_range}
 
 -- ---- What the terminals hear.
-line_sent : (bits : CycleBits) (state : ℕ) (es : Four) → is_line (sent_down bits state es) ≡ true
+line_sent : (state : ℕ) (es : Four) → is_line (sent_down unset state es) ≡ true
 unfolding sent_down
-line_sent bits state es =
+line_sent state es =
     by_test (eqb (info_in Table63.info_sent state) 4)
-    (λ t. rw t (line_info4 bits es))
-    (λ t. by_test (eqb (info_in Table63.info_sent state) 2) (λ u. rw (t, u) (line_info2 bits)) (λ u. rw (t, u) line_info0))
+    (λ t. rw t (line_info4 unset es))
+    (λ t. by_test (eqb (info_in Table63.info_sent state) 2) (λ u. rw (t, u) (line_info2 unset)) (λ u. rw (t, u) line_info0))
 
 heard_down_lem : (bus : BusRecord) (ds : Four) (es : List Bool) (letters : List ℕ) → are_letters letters ≡ true → sent_es bus ds ≡ filled_with_ones es →
-    heard_down bus ds letters ≡ shown_down (line_down (bits_at (taken bus.cycle)) bus.network.state (hit_in bus.hit letters) es)
+    heard_down bus ds letters ≡ shown_down (line_down unset bus.network.state (hit_in bus.hit letters) es)
 unfolding heard_down line_down hit_in
 heard_down_lem bus ds es letters fit sent =
     by_test bus.hit
-    (λ t. rw (t, sent, line_sent (bits_at (taken bus.cycle)) bus.network.state (filled_with_ones es), fit))
-    (λ t. rw t (sym (down_shown (bits_at (taken bus.cycle)) bus.network.state (filled_with_ones es))))
+    (λ t. rw (t, sent, line_sent bus.network.state (filled_with_ones es), fit))
+    (λ t. rw t (sym (down_shown unset bus.network.state (filled_with_ones es))))
 
 -- the E that are sent: the D heard before each
 es_sent : (bus : BusRecord) (b : Bus) → bus.echo ≡ b.heard_d → sent_es bus (filled_with_ones (map d_comes (opportunities_of b))) ≡ filled_with_ones (exchanged b).es
 unfolding filled_with_ones opportunities_of exchanged onward begins
 es_sent bus b e = rw e
-
--- the line as the rules have it, with the cycle's bits
-line_with : (b : Bus) → whole_down (exchanged b) ≡ line_down (bits_at (taken b.cycle)) b.network.state b.hit (exchanged b).es
-unfolding whole_down exchanged onward begins
-line_with b = refl
 
 -- ---- Whether they have a note.
 told_noted : (line : Downward) (now : Periods) (i : ℕ) (told : Bool) (ts : List Terminal) →
@@ -110,21 +103,24 @@ begins_stations : (b : Bus) → stations_of (begins b).senders ≡ b.stations
 unfolding begins
 begins_stations b = stations_stationed b.stations
 
-info1_then : (b : Bus) → any_info1 (stations_of (exchanged b).senders) ≡ any_info1 b.stations
+up_is : (b : Bus) → b.cycle.running ≡ false → shown_up (whole_up (exchanged b)) ≡ shown_from (any_info1 b.stations) (any_info3 b.stations)
 unfolding exchanged
-info1_then b =
+up_is b h =
     let one = begins b in
     let two = onward one in
     let three = onward two in
-    rw (info1_onward (onward three), info1_onward three, info1_onward two, info1_onward one, begins_stations b)
-
-info3_then : (b : Bus) → any_info3 (stations_of (exchanged b).senders) ≡ any_info3 b.stations
-unfolding exchanged
-info3_then b =
-    let one = begins b in
-    let two = onward one in
-    let three = onward two in
-    rw (info3_onward (onward three), info3_onward three, info3_onward two, info3_onward one, begins_stations b)
+    up_shown (exchanged b) (still_off b h)
+    ∙ rw (
+      info1_onward (onward three),
+      info1_onward three,
+      info1_onward two,
+      info1_onward one,
+      info3_onward (onward three),
+      info3_onward three,
+      info3_onward two,
+      info3_onward one,
+      begins_stations b,
+    )
 
 -- ---- Whether there is a note, in the two orders.
 two_orders : (h i t s a b : Bool) → (((((t || s) || a) || b) || h) || i) ≡ (((((h || i) || t) || s) || a) || b)
@@ -146,10 +142,10 @@ module _ (k : Kept) (o : InOrder k) (l : k.bus.periods.0 < most_periods) where
   in_range : InRange b
   in_range = bus_in_range k o
 
-  -- the bus is the record's, with the letters
-  same : ShownBy k.bus k.letters b
+  -- no cycle runs
+  no_cycle_lem : b.cycle.running ≡ false
   unfolding bus_in
-  same = record { network_is = refl; hit_is = refl; cycle_is = refl; eight = in_range.eight }
+  no_cycle_lem = rw o.cycle_rests
 
   -- the exchange
   shown : Exchanges k.images b k.terminals
@@ -179,7 +175,7 @@ module _ (k : Kept) (o : InOrder k) (l : k.bus.periods.0 < most_periods) where
   line_is : step_line k.bus k.terminals k.images k.letters ≡ shown_down down
   unfolding step_line bus_in
   line_is =
-      rw (tally_is, shown.ds, line_with b)
+      rw (tally_is, shown.ds, line_off b no_cycle_lem)
       (heard_down_lem k.bus (filled_with_ones (map d_comes (opportunities_of b))) (exchanged b).es k.letters o.letters_fit (es_sent k.bus b refl))
 
   terminals_are : step_terminals k.bus k.terminals k.images k.letters ≡ (kept_run k).terminals
@@ -215,23 +211,8 @@ module _ (k : Kept) (o : InOrder k) (l : k.bus.periods.0 < most_periods) where
   unfolding bus_in
   called = period_called b l in_range
 
-  abbrev crossed : Crossed
-  crossed = step_crossed k.bus k.terminals k.images k.letters
-
-  crossed_is : crossed ≡ crossing k.bus (terminals_of (stations_of (exchanged b).senders)) k.letters
-  unfolding step_crossed
-  crossed_is = rw exchanged_is
-
-  cycle_now : cycle_on k.bus crossed ≡ cycle_after (exchanged b)
-  cycle_now = rw crossed_is (cycle_is k.bus k.letters b same)
-
   abbrev line_up_lem : Upward
-  line_up_lem = side.shown_in k.bus tally crossed
-
-  up_is : line_up_lem ≡ shown_up (whole_up (exchanged b))
-  up_is =
-      rw crossed_is
-      (shown_is k.bus k.letters b same tally shown.ds (shown.info1 ∙ sym (info1_then b)) (shown.info3 ∙ sym (info3_then b)))
+  line_up_lem = shown_from tally.info1 tally.info3
 
   next_is : next_period k.bus.periods ≡ at_period (now + 1)
   unfolding next_period
@@ -239,7 +220,7 @@ module _ (k : Kept) (o : InOrder k) (l : k.bus.periods.0 < most_periods) where
 
   hears_is : side.hearing_step line_up_lem k.bus.periods k.bus.network ≡ network_hears (whole_up (exchanged b)) now b.network
   unfolding side.hearing_step bus_in
-  hears_is = rw up_is called.network_hears_lem
+  hears_is = rw (shown.info1, shown.info3, ← up_is b no_cycle_lem) called.network_hears_lem
 
   timers_is : side.timer_step line_up_lem k.bus.periods k.bus.network ≡ network.timers (now + 1) (heard_by (exchanged b) b).network
   unfolding side.timer_step heard_by bus_in
@@ -262,7 +243,7 @@ module _ (k : Kept) (o : InOrder k) (l : k.bus.periods.0 < most_periods) where
       by_test (eqb k.bus.network.state G3) (λ t. rw (t, le-leb k.bus.opportunities.0 (4 * most_periods) few)) (λ t. rw (t, same))
 
   answer_is : step_answer k.bus k.terminals k.images k.octets k.letters ≡ period_answer k
-  unfolding step_answer side.answer_after side.with_cycle_on side.answer_with side.reader_after side.period_has_note period_answer period.reader_run period.has_notes any_unit_note has_note done_octet period.done_mask period_run timed heard_by bus_in
+  unfolding step_answer side.answer_after side.answer_with side.reader_after side.period_has_note period_answer period.reader_run period.has_notes any_unit_note has_note done_octet period.done_mask period_run timed heard_by bus_in
   answer_is =
       rw (
         tally_is,
@@ -274,7 +255,6 @@ module _ (k : Kept) (o : InOrder k) (l : k.bus.periods.0 < most_periods) where
         shown.done2,
         next_is,
         counted,
-        cycle_now,
         two_orders (has_note (network_notes b).hearing) (has_note (network_notes b).timers) (any_unit_note (terminals_notes b)),
       )
 

@@ -28,7 +28,7 @@ module _ (unit event : ℕ) (value : List ℕ) (bus : BusRecord) (ts : List Term
   unfoldable pub event_told : Told
   event_told =
       cond (eqb reason 0)
-      (cond (eqb unit 0) (network_told event value bus) (event_settled bus unit event value at_terminal))
+      (cond (eqb unit 0) (network_told event bus) (event_settled bus unit event value at_terminal))
       (told bus (packed_notes []) reason)
 
   unfoldable pub terminals_after : List Terminal

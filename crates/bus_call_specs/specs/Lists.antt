@@ -1,7 +1,7 @@
 -- Laws: lists of calls on the record and what is lent with it. Each list hands back the replies and
 -- the notes that crate `bus_rules` has for the same calls (specs/Calls.antt there), so that demand
 -- 3 (specs/Claims.antt there) speaks of these calls: Demand3.antt.
--- Interface: `told`, `called`, `replied`, `reader_told`, `done_notes`, `cycle_told`, `heard_told`, `timed_told`,
+-- Interface: `told`, `called`, `replied`, `reader_told`, `done_notes`, `heard_told`, `timed_told`,
 -- `period_told`, `terminals_told`, `timers_told`, `notes_told`, `Carries`, `LentCall`, `OctetValue`,
 -- `fresh_found`, `made`, `lend`, `OctetValues`, `calls_in`, `run_told`. Assumes nothing.
 use Rattle.std.specs.Prelude.{Bool, true, false, cond, ◌&&◌, List, [], ◌∷◌, ◌++◌, map, ◌≡◌, refl, ℕ, zero, suc, ◌+◌, ◌-◌, ◌≤◌, ◌<◌, min, eqb, ltb, length, get_or, take, replicate}
@@ -11,13 +11,13 @@ use Rattle.dchannel.specs.Ranges.{access_in_range}
 use Rattle.hdlc.specs.Bits.{bit_of}
 use Rattle.hdlc.specs.Image.{longest_body}
 use Rattle.timing.specs.Counts.{most_periods}
+use Rattle.cycle.specs.Cycle as cycle
 use Rattle.terminal.specs.Terminal as terminal
 use Rattle.terminal.specs.Calls as terminalCalls
 use Rattle.terminal.specs.declared.Terminal.{Terminal}
 use Rattle.d_reader.specs.ReaderRange.{reader_in_range}
 use Rattle.d_reader.specs.StandsFor.{StandsFor}
 use Rattle.bus_rules.specs.Bus.{Station, Bus, Note, terminals, fresh_bus, notes_of, station_at}
-use Rattle.bus_rules.specs.CycleNotes.{cycle_notes}
 use Rattle.bus_rules.specs.Order.{ByUnit, d_first, no_cycle, unit_by_unit, period_in_order}
 use Rattle.bus_rules.specs.Calls as rules
 use Rattle.bus_rules.specs.Calls.{Call, reply, notes, after, notes_of_all}
@@ -76,20 +76,11 @@ terminals_heard r i (n ∷ ns) =
 abbrev pub terminals_timed : List UnitNotes → List (List ℕ)
 terminals_timed ns = map (λ (n : UnitNotes). noted n.timers) ns
 
--- the notes of the cycle, where it ends with the answer's period: they follow from the cycle as it is
--- then. An answer that tells of no note, as of a run of no periods, has none of these either
-unfoldable pub cycle_told : ℕ → RunAnswer → ℕ → List Note
-cycle_told now r unit = cond r.told (cycle_notes now r.bus.cycle unit) []
-
--- the two parts of a period's notes, by who notes them: what is heard, and what comes of the timers
+-- the two parts of a period's notes, by who notes them: what is heard, and what comes of the timers;
+-- no cycle runs, so that none ends
 abbrev pub heard_told : ℕ → RunAnswer → List UnitNotes → List ℕ → ByUnit
 heard_told now r ns octets =
-    record {
-      reader = reader_told now r octets;
-      network = noted r.network.hearing;
-      terminals = terminals_heard r 0 ns;
-      cycle = cycle_told now r;
-    }
+    record { reader = reader_told now r octets; network = noted r.network.hearing; terminals = terminals_heard r 0 ns; cycle = no_cycle }
 
 abbrev pub timed_told : UnitNotes → List UnitNotes → ByUnit
 timed_told network ns = record { reader = []; network = noted network.timers; terminals = terminals_timed ns; cycle = no_cycle }
@@ -99,7 +90,7 @@ period_told now r ns octets = period_in_order now (heard_told now r ns octets) (
 
 -- the notes of the terminals alone, from index i on: their hearing, and their timers
 abbrev pub terminals_told : ℕ → RunAnswer → ℕ → List UnitNotes → List Note
-terminals_told now r i ns = unit_by_unit now (suc i) (cycle_told now r) (terminals_heard r i ns)
+terminals_told now r i ns = unit_by_unit now (suc i) no_cycle (terminals_heard r i ns)
 
 abbrev pub timers_told : ℕ → ℕ → List UnitNotes → List Note
 timers_told now i ns = unit_by_unit now (suc i) no_cycle (terminals_timed ns)
@@ -114,6 +105,8 @@ notes_told k period =
 pub record Carries (k : Kept) (b : Bus) : Type 0 where
   -- every field of the bus but its reader and its terminals
   pub record_is : record_shown k.bus k.letters ≡ bare b
+  -- the cycle of Q and S bits rests: these calls neither start one nor run one
+  pub cycle_rests : k.bus.cycle ≡ cycle.fresh
   pub terminals_are : k.terminals ≡ map (λ (s : Station). s.terminal) b.stations
   -- the octets of a held frame's image have its bits
   pub images_are : (i j : ℕ) → 1 ≤ (station_at i b).terminal.access.held → j < (station_at i b).terminal.access.length

@@ -20,8 +20,7 @@ use Rattle.period_hearing.specs.Shown.{terminal_notes}
 use Rattle.period_hearing.specs.declared.hears.UnitNotes.{UnitNotes}
 use Rattle.exchange.specs.Shown.{done_octet}
 use Rattle.bus_record.specs.NetworkSide.{leaves_g3}
-use Rattle.cycle.specs.Cycle as cycle
-use Rattle.bus_record.specs.Record.{with_counts, with_network, with_cycle, with_echo, with_hit}
+use Rattle.bus_record.specs.Record.{with_counts, with_network, with_echo, with_hit}
 use Rattle.bus_record.specs.declared.side.RunAnswer.{RunAnswer}
 use Rattle.bus_call_specs.specs.Kept.{Kept, kept}
 use Rattle.bus_call_specs.specs.Shown.{bus_in}
@@ -86,14 +85,12 @@ unfoldable pub any_unit_note : List UnitNotes → Bool
 any_unit_note [] = false
 any_unit_note (n ∷ ns) = (has_note n.hearing || has_note n.timers) || any_unit_note ns
 
--- whether the period hands back a note: of a unit or of the reader, of a frame completed, or of the
--- cycle of Q and S bits, whose notes follow from it as it is after the period
+-- whether the period hands back a note
 unfoldable pub has_notes : Kept → Bool
 has_notes k =
     let b = bus_in k in
-    (((any_unit_note (network_notes b ∷ terminals_notes b) || not (eqb (note_of (answers_in k)) 0)) || not (eqb (done_mask 1 b) 0))
-    || not (eqb (done_mask 2 b) 0))
-    || cycle.tells (period_run b).cycle
+    ((any_unit_note (network_notes b ∷ terminals_notes b) || not (eqb (note_of (answers_in k)) 0)) || not (eqb (done_mask 1 b) 0))
+    || not (eqb (done_mask 2 b) 0)
 
 -- ---- The whole.
 unfoldable pub period_answer : Kept → RunAnswer
@@ -101,9 +98,8 @@ period_answer k =
     let b = bus_in k in
     record {
       bus =
-          with_cycle (period_run b).cycle
-          (with_counts (at_period (period_run b).periods) (record { 0 = (period_run b).opportunities })
-          (with_network (period_run b).network (reader_run k) (with_echo (period_run b).heard_d (with_hit false k.bus))));
+          with_counts (at_period (period_run b).periods) (record { 0 = (period_run b).opportunities })
+          (with_network (period_run b).network (reader_run k) (with_echo (period_run b).heard_d (with_hit false k.bus)));
       network = network_notes b;
       body = body_of (answers_in k);
       said = note_of (answers_in k);

@@ -1,18 +1,15 @@
 -- How the code goes: a period as the code takes it: the exchange in a few values, the terminals'
 -- hearing, the network end's side. The law `step_shown` says that this is document 01's period
 -- (Period.antt).
--- Interface: `step_terminals`, `step_notes`, `crossing`, `step_answer`, `step_octets`. Assumes nothing.
-use Rattle.std.specs.Prelude.{Bool, false, cond, List, ◌≡◌, ℕ}
+-- Interface: `step_terminals`, `step_notes`, `step_answer`, `step_octets`. Assumes nothing.
+use Rattle.std.specs.Prelude.{Bool, false, List, ◌≡◌, ℕ}
 use Rattle.slice_lemmas.specs.Over.{map_from, fold_from}
 use Rattle.terminal.specs.declared.Terminal.{Terminal}
 use Rattle.period_hearing.specs.Hears.{terminal_after, notes_after, told_after}
 use Rattle.period_hearing.specs.declared.hears.UnitNotes.{UnitNotes}
-use Rattle.exchange.specs.Present.{present_in}
 use Rattle.bus_record.specs.Echo.{step_tally, step_exchanged, step_line}
-use Rattle.bus_record.specs.Crossing.{uncrossed, crossed_by}
 use Rattle.bus_record.specs.NetworkSide.{answer_after, octets_after}
 use Rattle.bus_record.specs.declared.record.BusRecord.{BusRecord}
-use Rattle.bus_record.specs.declared.crossing.Crossed.{Crossed}
 use Rattle.bus_record.specs.declared.side.RunAnswer.{RunAnswer}
 use Rattle.bus_call_specs.specs.Kept.{Kept}
 use Rattle.bus_call_specs.specs.Period.{period_answer, kept_run}
@@ -31,18 +28,9 @@ unfoldable pub step_told : BusRecord → List Terminal → List ℕ → List ℕ
 step_told bus ts images letters =
     fold_from (told_after (step_line bus ts images letters) bus.periods) 0 false (step_exchanged bus ts images letters)
 
--- what crosses the lines for the cycle of Q and S bits, where it runs: the terminals are looked at
--- after the exchange and before they hear
-unfoldable pub crossing : BusRecord → List Terminal → List ℕ → Crossed
-crossing bus ts letters = cond bus.cycle.running (crossed_by bus (present_in ts) letters) uncrossed
-
-unfoldable pub step_crossed : BusRecord → List Terminal → List ℕ → List ℕ → Crossed
-step_crossed bus ts images letters = crossing bus (step_exchanged bus ts images letters) letters
-
 -- the network end's side
 unfoldable pub step_answer : BusRecord → List Terminal → List ℕ → List ℕ → List ℕ → RunAnswer
-step_answer bus ts images octets letters =
-    answer_after bus (step_tally bus ts images letters) (step_crossed bus ts images letters) octets (step_told bus ts images letters)
+step_answer bus ts images octets letters = answer_after bus (step_tally bus ts images letters) octets (step_told bus ts images letters)
 
 unfoldable pub step_octets : BusRecord → List Terminal → List ℕ → List ℕ → List ℕ → List ℕ
 step_octets bus ts images octets letters = octets_after bus (step_tally bus ts images letters) octets

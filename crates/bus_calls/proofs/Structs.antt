@@ -14,8 +14,6 @@ use Rattle.bus_record.specs.contracts.side.RunAnswer as RunAnswer
 use Rattle.bus_record.proofs.side.RunAnswer.TheLaws as Ran'
 use Rattle.bus_calls.specs.contracts.turn.Turn as Turn
 use Rattle.bus_calls.proofs.turn.Turn.TheLaws as Turn'
-use Rattle.bus_record.specs.contracts.crossing.Crossed as Crossed
-use Rattle.bus_record.proofs.crossing.Crossed.TheLaws as Crossed'
 use Rattle.lone_sender.specs.contracts.alone.Alone as Alone
 use Rattle.lone_sender.proofs.alone.Alone.TheLaws as Alone'
 use Rattle.bus_event.specs.contracts.event.Told as Told
@@ -44,6 +42,3 @@ turns = struct_kind Turn.the_type Turn'.the_laws Turn'.the_plain Turn'.the_copy 
 
 abbrev pub alones : Kind Alone.the_row
 alones = struct_kind Alone.the_type Alone'.the_laws Alone'.the_plain Alone'.the_copy Alone'.mir refl
-
-abbrev pub crosseds : Kind Crossed.the_row
-crosseds = struct_kind Crossed.the_type Crossed'.the_laws Crossed'.the_plain Crossed'.the_copy Crossed'.mir refl

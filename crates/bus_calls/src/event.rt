@@ -1,5 +1,5 @@
 // Giving the bus an event of the book.
-ghost use Rattle.std.specs.Prelude.{◌≡◌, []};
+ghost use Rattle.std.specs.Prelude.{◌≡◌, [], ◌-◌};
 ghost use Rattle.notes_and_cells.specs.Notes.{packed_notes};
 ghost use Rattle.bus_event.specs.Event.{told};
 ghost use Rattle.bus_call_specs.specs.Event.{event_told, terminals_after, images_after, letters_after};
@@ -8,7 +8,6 @@ use super::fields::{periods_of, terminal_of};
 use super::network_end::network_event;
 use super::ready::in_range;
 use bus_event::event::{Told, event_settled, first_reason, replied, terminal_event};
-use bus_event::message::index_of;
 use bus_record::record::BusRecord;
 use notes_and_cells::cell::NO_NOTES;
 use terminal::Terminal;
@@ -18,6 +17,13 @@ fn refused(bus: BusRecord, reply: u8) -> Told
     ensures { result ≡ told bus (packed_notes []) reply }
 {
     replied(bus, NO_NOTES, reply)
+}
+
+// Gives the index of a terminal, from its unit.
+fn index_of(unit: u32) -> usize
+    ensures { result ≡ unit - 1 }
+{
+    if unit == 0 { 0 } else { (unit - 1) as usize }
 }
 
 // Gives the bus an event: any unit number, any event number, any value.

@@ -1,7 +1,7 @@
 // Fields of records, each fetched by a function. The proof of a call over a slice of structs steps
 // through the call's code, and a field that this code itself reads writes the whole record into the
 // proof.
-ghost use Rattle.std.specs.Prelude.{◌≡◌, not};
+ghost use Rattle.std.specs.Prelude.{◌≡◌};
 
 use super::turn::Turn;
 use bus_record::record::BusRecord;
@@ -17,13 +17,6 @@ pub(crate) fn periods_of(bus: BusRecord) -> Periods
     ensures { result ≡ bus.periods }
 {
     bus.periods
-}
-
-// Tests whether no cycle of Q and S bits runs.
-pub(crate) fn runs_no_cycle(bus: BusRecord) -> bool
-    ensures { result ≡ not bus.cycle.running }
-{
-    !bus.cycle.running
 }
 
 // Gives the record after a run.

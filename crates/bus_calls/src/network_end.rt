@@ -4,11 +4,10 @@ ghost use Rattle.std.specs.Prelude.{◌≡◌};
 ghost use Rattle.bus_event.specs.Event as spec;
 
 use bus_event::event::{Told, replied};
-use bus_event::message::with_s;
 use bus_record::record::BusRecord;
 use bus_record::side::reader_after;
 use notes_and_cells::cell::NO_NOTES;
-use notes_and_cells::events::{AR, HIT, S};
+use notes_and_cells::events::{AR, HIT};
 use table_6_3::G3;
 
 // Takes over the letters of a hit, where they are as many as the letters lent.
@@ -44,15 +43,12 @@ fn request(bus: BusRecord, event: u8) -> Told
 
 // Gives unit 0 an event.
 pub(crate) fn network_event(bus: BusRecord, letters: &mut [u8], event: u8, value: &[u8]) -> Told
-    ensures value { result ≡ spec.network_told event value.now bus }
+    ensures value { result ≡ spec.network_told event bus }
     ensures letters_after { letters.new ≡ spec.letters_after event value.now letters.old }
 {
     if event == HIT {
         take_over(value, letters);
         return replied(bus.with_hit(true), NO_NOTES, 0);
-    }
-    if event == S {
-        return replied(with_s(bus, value), NO_NOTES, 0);
     }
     request(bus, event)
 }

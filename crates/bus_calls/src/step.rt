@@ -1,15 +1,13 @@
 // One period: exchange, hearing, then the timers due at the next one's start.
 ghost use Rattle.std.specs.Prelude.{◌≡◌, length};
 ghost use Rattle.bus_record.specs.Echo.{heard_down};
-ghost use Rattle.bus_call_specs.specs.Step.{crossing, step_answer, step_terminals, step_octets, step_notes};
+ghost use Rattle.bus_call_specs.specs.Step.{step_answer, step_terminals, step_octets, step_notes};
 
-use super::fields::{periods_of, runs_no_cycle};
-use bus_record::crossing::{Crossed, crossed_by, no_crossing};
+use super::fields::periods_of;
 use bus_record::echo::{first_tally, heard_down};
 use bus_record::record::BusRecord;
 use bus_record::side::{RunAnswer, network_side};
 use exchange::opportunity::exchange;
-use exchange::present::present_in;
 use exchange::tally::Tally;
 use heard_line::heard::Downward;
 use period_hearing::hears::UnitNotes;
@@ -21,18 +19,6 @@ fn line_after(bus: BusRecord, tally: Tally, letters: &[u8]) -> Downward
     ensures { result ≡ heard_down bus tally.ds letters.now }
 {
     heard_down(bus, tally.ds, letters)
-}
-
-// Gives what crosses the lines for the cycle of Q and S bits, after the exchange and before the
-// terminals hear: where no cycle runs they are not looked at.
-fn crossing(bus: BusRecord, terminals: &[Terminal], letters: &[u8]) -> Crossed
-    ensures { result ≡ crossing bus terminals.now letters.now }
-{
-    if runs_no_cycle(bus) {
-        return no_crossing();
-    }
-    let there = present_in(terminals);
-    crossed_by(bus, there, letters)
 }
 
 pub(crate) fn step(
@@ -53,7 +39,6 @@ pub(crate) fn step(
     let first = first_tally(bus, letters);
     let tally = exchange(terminals, images, first);
     let line = line_after(bus, tally, letters);
-    let crossed = crossing(bus, terminals, letters);
     let told = listen(terminals, notes, line, periods_of(bus));
-    network_side(bus, tally, crossed, octets, told)
+    network_side(bus, tally, octets, told)
 }

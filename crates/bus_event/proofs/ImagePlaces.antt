@@ -61,7 +61,7 @@ room_length i images l e = rw (length-take image_room (drop (i * image_room) ima
 -- a body has a good length
 body_length : (body : List ℕ) → IsBody body → is_body_length (length body) ≡ true
 unfolding is_body_length
-body_length body b = rw (ne_eqb (length body) 0 (omega arith), le-leb (length body) longest_body b.at_most_lem)
+body_length body b = rw (ne_eqb (length body) 0 (omega arith), le-leb (length body) longest_body b.at_most)
 
 module _ (i : ℕ) (body images : List ℕ) (b : IsBody body) (l : i < terminals) (e : length images ≡ images_room) where
   abbrev room : List ℕ

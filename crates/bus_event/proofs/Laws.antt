@@ -2,21 +2,19 @@
 use mathlib.Core.Path.{◌≡◌, refl, sym, ◌∙◌}
 use mathlib.Core.Bool.{Bool, true, false, cond, ◌&&◌}
 use mathlib.Core.List.{List}
-use Prim.Native.Nat.{ℕ, zero, suc, ◌-◌, ◌*◌, ◌≤◌, ◌<◌}
+use Prim.Native.Nat.{ℕ, zero, suc, ◌*◌, ◌≤◌, ◌<◌}
 use native.Mathlib.Omega.{arith}
 use lib.Dec.{eqb, ltb}
 use lib.ListN.{length, take}
 use lib.Seq.{ext_get_or, get_or-take, length-take-le}
 use borrow.Author.Tests.{lt-ltb}
-use Rattle.test_lemmas.proofs.ByCases.{by_test, and_left, and_right, and_both_true}
+use Rattle.test_lemmas.proofs.ByCases.{by_test, and_left, and_right}
 use Rattle.hdlc.specs.Image.{image}
 use Rattle.hdlc.proofs.ImageLaws.{image_most}
 use Rattle.timing.specs.Calls.{periods_in_range, opportunities_in_range}
 use Rattle.network.specs.Calls.{network_in_range}
 use Rattle.network.proofs.RangesKept as network
-use Rattle.cycle.specs.Cycle.{no_q, s_messages, cycle_in_range, q_given, s_given}
-use Rattle.cycle.specs.declared.record.Cycle.{Cycle}
-use Rattle.cycle.proofs.Laws.{q_given_kept, s_given_kept}
+use Rattle.cycle.specs.Rest.{rests}
 use Rattle.d_reader.specs.ReaderRange.{reader_in_range}
 use Rattle.d_reader.proofs.RangesKept as reader
 use Rattle.table_6_3.specs.Table63 as Table63
@@ -26,16 +24,13 @@ use Rattle.dchannel.specs.declared.access.Class.TheVariants.{One, Two}
 use Rattle.dchannel.specs.declared.access.Class.{Class}
 use Rattle.terminal.specs.declared.Terminal.{Terminal}
 use Rattle.bus_rules.specs.Bus.{terminals}
-use Rattle.notes_and_cells.specs.Events.{ON, OFF, AR, D1, D2, HIT, Q, S}
+use Rattle.notes_and_cells.specs.Events.{ON, OFF, AR, D1, D2, HIT}
 use Rattle.exchange.specs.Part.{image_bits, bits_from, image_of}
-use Rattle.bus_rules.specs.Event.{message_in}
-use Rattle.bus_record.specs.Record.{record_in_range, with_cycle}
+use Rattle.bus_record.specs.Record.{record_in_range}
 use Rattle.bus_record.specs.NetworkSide.{reader_after}
 use Rattle.bus_record.specs.declared.record.BusRecord.{BusRecord}
-use Rattle.bus_event.specs.Event.{told, asked, network_asked, network_told, image_put, frame_reason, frame_given, terminal_told, event_settled}
-use Rattle.bus_event.specs.Message.{at_most, q_taken, s_taken}
-use Rattle.bus_event.proofs.Messages.{at_most_lem}
-use Rattle.bus_event.specs.Laws.{ImagePut, EventRecordKept, SettledKept, EventTerminalKept}
+use Rattle.bus_event.specs.Event.{told, asked, network_asked, network_told, image_put, frame_reason, frame_given, terminal_told}
+use Rattle.bus_event.specs.Laws.{ImagePut, EventRecordKept, EventTerminalKept}
 use Rattle.bus_event.proofs.ImagePlaces.{put_length, put_there, put_elsewhere}
 
 length_bits : (images : List ℕ) (at n : ℕ) → length (bits_from images at n) ≡ n
@@ -74,60 +69,23 @@ unfolding reader_after
 reader_kept true r h = reader.fresh_in_range
 reader_kept false r h = h
 
--- all but the cycle
-abbrev others : BusRecord → Bool
-others r =
-    ((network_in_range r.network && periods_in_range r.periods) && opportunities_in_range r.periods r.opportunities)
-    && reader_in_range r.reader
-
-cycle_part : (r : BusRecord) → record_in_range r ≡ true → cycle_in_range r.cycle ≡ true
-unfolding record_in_range
-cycle_part r h = and_right (others r) (cycle_in_range r.cycle) h
-
-cycled_kept : (c : Cycle) (r : BusRecord) → cycle_in_range c ≡ true → record_in_range r ≡ true → record_in_range (with_cycle c r) ≡ true
-unfolding record_in_range
-cycled_kept c r f h = and_both_true (others r) (cycle_in_range c) (and_left (others r) (cycle_in_range r.cycle) h) f
-
-s_taken_kept : (value : List ℕ) (r : BusRecord) → record_in_range r ≡ true → record_in_range (s_taken value r) ≡ true
-unfolding s_taken
-s_taken_kept value r h =
-    let s : ℕ = at_most (s_messages - 1) (message_in value) in
-    cycled_kept (s_given s r.cycle) r (s_given_kept s r.cycle (omega (arith, at_most_lem (s_messages - 1) (message_in value))) (cycle_part r h)) h
-
-q_taken_kept : (unit : ℕ) (value : List ℕ) (r : BusRecord) → unit < 9 → record_in_range r ≡ true → record_in_range (q_taken unit value r) ≡ true
-unfolding q_taken
-q_taken_kept unit value r l h =
-    let q : ℕ = at_most no_q (message_in value) in
-    cycled_kept (q_given (unit - 1) q r.cycle) r (q_given_kept (unit - 1) q r.cycle (omega arith) (at_most_lem no_q (message_in value)) (cycle_part r h)) h
-
 pub event_record_kept : EventRecordKept
 unfolding network_told network_asked asked told record_in_range
-event_record_kept event value r h =
+event_record_kept event r h =
     let others : Bool = (network_in_range r.network && periods_in_range r.periods) && opportunities_in_range r.periods r.opportunities in
-    let parts = and_left (others && reader_in_range r.reader) (cycle_in_range r.cycle) h in
+    let parts = and_left (others && reader_in_range r.reader) (rests r.cycle) h in
     let most = and_left others (reader_in_range r.reader) parts in
     let counts = and_left (network_in_range r.network && periods_in_range r.periods) (opportunities_in_range r.periods r.opportunities) most in
     by_test (eqb event HIT)
     (λ t. rw t h)
-    (λ t.
-    by_test (eqb event S)
-    (λ u. rw (t, u) (s_taken_kept value r h))
-    (λ u. rw (
+    (λ t. rw (
       t,
-      u,
       network.requested_in_range r.periods r.network (and_left (network_in_range r.network) (periods_in_range r.periods) counts) (cond (eqb event AR) Table63.ar_row Table63.dr_row),
       and_right (network_in_range r.network) (periods_in_range r.periods) counts,
       and_right (network_in_range r.network && periods_in_range r.periods) (opportunities_in_range r.periods r.opportunities) most,
       reader_kept _ r (and_right others (reader_in_range r.reader) parts),
     )
-    (and_right (others && reader_in_range r.reader) (cycle_in_range r.cycle) h)))
-
-pub settled_kept : SettledKept
-unfolding event_settled told
-settled_kept unit event value step r l h =
-    by_test (eqb event Q)
-    (λ t. rw t (q_taken_kept unit value r l h))
-    (λ t. rw t h)
+    (and_right (others && reader_in_range r.reader) (rests r.cycle) h))
 
 frame_kept : (class : Class) (images : List ℕ) (i : ℕ) (body : List ℕ) (t : Terminal) → terminal_in_range t ≡ true → terminal_in_range (frame_given class images i body t).terminal ≡ true
 unfolding frame_given

@@ -23,11 +23,10 @@ use Rattle.terminal.specs.declared.Terminal.{Terminal}
 use Rattle.terminal.specs.declared.TerminalStep.{TerminalStep}
 use Rattle.bus_rules.specs.Bus.{terminals}
 use Rattle.bus_rules.specs.Event.{call_reasons, first_holding}
-use Rattle.notes_and_cells.specs.Events.{ON, OFF, AR, D1, D2, HIT, Q, S}
+use Rattle.notes_and_cells.specs.Events.{ON, OFF, AR, D1, D2, HIT}
 use Rattle.bus_record.specs.Record.{record_in_range, with_network, with_hit}
 use Rattle.bus_record.specs.NetworkSide.{leaves_g3, reader_after}
 use Rattle.bus_record.specs.declared.record.BusRecord.{BusRecord}
-use Rattle.bus_event.specs.Message.{q_taken, s_taken}
 use Rattle.bus_event.specs.declared.event.Told.{Told}
 
 -- the octets lent for eight images
@@ -67,10 +66,8 @@ network_asked event r =
     (asked event r).notes
     (asked event r).reply
 
-unfoldable pub network_told : ℕ → List ℕ → BusRecord → Told
-network_told event value r =
-    cond (eqb event HIT) (told (with_hit true r) (packed_notes []) 0)
-    (cond (eqb event S) (told (s_taken value r) (packed_notes []) 0) (network_asked event r))
+unfoldable pub network_told : ℕ → BusRecord → Told
+network_told event r = cond (eqb event HIT) (told (with_hit true r) (packed_notes []) 0) (network_asked event r)
 
 unfoldable pub letters_after : ℕ → List ℕ → List ℕ → List ℕ
 letters_after event value letters = cond (eqb event HIT) (taken_over value letters) letters
@@ -118,7 +115,7 @@ unfoldable pub images_after : ℕ → Terminal → ℕ → List ℕ → List ℕ
 images_after event t i value images = cond (eqb event D1 || eqb event D2) (images_with t i value images) images
 
 -- What the call gives where terminal `unit` has answered an event with this step: the record, the
--- notes and the reply. Every event of a terminal ends here, with all that is known of it; a `q` alone
--- changes the record.
+-- notes and the reply. Every event of a terminal ends here, with all that is known of it; no event
+-- of document 01 changes the record, or asks for more than the step.
 unfoldable pub event_settled : BusRecord → ℕ → ℕ → List ℕ → TerminalStep → Told
-event_settled r unit event value step = told (cond (eqb event Q) (q_taken unit value r) r) step.notes step.reply
+event_settled r unit event value step = told r step.notes step.reply

@@ -6,12 +6,11 @@ use Rattle.hdlc.specs.Image.{image, IsBody}
 use Rattle.timing.specs.declared.counts.Periods.{Periods}
 use Rattle.terminal.specs.Calls.{terminal_in_range}
 use Rattle.terminal.specs.declared.Terminal.{Terminal}
-use Rattle.terminal.specs.declared.TerminalStep.{TerminalStep}
 use Rattle.bus_rules.specs.Bus.{terminals}
 use Rattle.exchange.specs.Part.{image_of}
 use Rattle.bus_record.specs.Record.{record_in_range}
 use Rattle.bus_record.specs.declared.record.BusRecord.{BusRecord}
-use Rattle.bus_event.specs.Event.{images_room, image_put, network_told, terminal_told, event_settled}
+use Rattle.bus_event.specs.Event.{images_room, image_put, network_told, terminal_told}
 
 -- ---- The image of a body stands in the room of its terminal, and the other rooms keep theirs.
 pub record RoomsAfter (i : ℕ) (body images : List ℕ) : Type 0 where
@@ -24,13 +23,7 @@ ImagePut = (i : ℕ) (body images : List ℕ) → IsBody body → i < terminals 
 
 -- ---- An event keeps every field in its range.
 abbrev pub EventRecordKept : Type 0
-EventRecordKept =
-    (event : ℕ) (value : List ℕ) (r : BusRecord) → record_in_range r ≡ true → record_in_range (network_told event value r).bus ≡ true
-
-abbrev pub SettledKept : Type 0
-SettledKept =
-    (unit event : ℕ) (value : List ℕ) (step : TerminalStep) (r : BusRecord)
-    → unit < 9 → record_in_range r ≡ true → record_in_range (event_settled r unit event value step).bus ≡ true
+EventRecordKept = (event : ℕ) (r : BusRecord) → record_in_range r ≡ true → record_in_range (network_told event r).bus ≡ true
 
 abbrev pub EventTerminalKept : Type 0
 EventTerminalKept =

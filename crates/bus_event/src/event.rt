@@ -8,14 +8,13 @@ ghost use Rattle.bus_rules.specs.Event.{event_for, call_reasons, first_holding};
 ghost use Rattle.terminal.specs.Terminal.{unchanged};
 ghost use Rattle.bus_event.specs.Event as spec;
 
-use super::message::{too_large, with_q};
 use bus_record::record::BusRecord;
 use combining::combine::TERMINALS;
 use combining::hit::NONE_LETTER;
 use dchannel::access::Class;
 use hdlc::LONGEST_BODY;
 use notes_and_cells::cell::NO_NOTES;
-use notes_and_cells::events::{AR, D1, D2, DR, HIT, OFF, ON, Q, S};
+use notes_and_cells::events::{AR, D1, D2, DR, HIT, OFF, ON};
 use notes_and_cells::notes::Notes;
 use packing::image::{IMAGE_ROOM, Imaged, image};
 use symbols::{LINE_LENGTH, fits};
@@ -49,9 +48,9 @@ fn event_for(unit: u32, event: u8) -> bool
     ensures { result ≡ event_for unit event }
 {
     if unit == 0 {
-        return (event == AR) | (event == DR) | (event == HIT) | (event == S);
+        return (event == AR) | (event == DR) | (event == HIT);
     }
-    (event == ON) | (event == OFF) | (event == AR) | (event == D1) | (event == D2) | (event == Q)
+    (event == ON) | (event == OFF) | (event == AR) | (event == D1) | (event == D2)
 }
 
 // Gives the first reason that the call itself decides, or 0.
@@ -67,7 +66,7 @@ fn call_reason(unit: u32, event: u8, value: &[u8]) -> u8
     if !event_for(unit, event) {
         return 4;
     }
-    if too_large(event, value) { 15 } else { 0 }
+    0
 }
 
 // Gives the first reason that is known before a unit is asked, or 0: `ready` is whether the slice of
@@ -182,13 +181,10 @@ pub fn terminal_event(
 }
 
 // Gives what the call gives where terminal `unit` has answered an event with this step: the record,
-// the notes and the reply. Every event of a terminal ends here, with all that is known of it; a `q`
-// alone changes the record.
+// the notes and the reply. Every event of a terminal ends here, with all that is known of it; no
+// event of document 01 changes the record, or asks for more than the step.
 pub fn event_settled(bus: BusRecord, unit: u32, event: u8, value: &[u8], step: TerminalStep) -> Told
     ensures { result ≡ spec.event_settled bus unit event value.now step }
 {
-    if event == Q {
-        return replied(with_q(bus, unit, value), step.notes, step.reply);
-    }
     replied(bus, step.notes, step.reply)
 }

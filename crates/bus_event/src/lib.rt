@@ -1,3 +1,2 @@
 // An event of the book: the reasons for which it is turned down, and what it does to one terminal.
 pub mod event;
-pub mod message;

@@ -1,41 +1,34 @@
 -- What is stored as octets is read back as it was: specs/Laws.antt.
-use mathlib.Core.Bool.{Bool, true, false, ◌&&◌}
+use mathlib.Core.Bool.{Bool, true, false}
 use mathlib.Core.List.{List, [], ◌∷◌, ◌++◌, append_assoc}
 use mathlib.Core.Path.{◌≡◌, refl, sym, ap, ◌∙◌}
 use Prim.Native.Nat.{ℕ, zero, ◌+◌, ◌^◌, ◌<◌}
 use native.Mathlib.Nat.{suc-add}
 use native.Mathlib.Omega.{arith}
 use lib.Dec.{eqb, leb}
-use lib.ListN.{length, take, drop, length-append, drop_of_length-le}
-use lib.Seq.{take_at, drop_at, drop-cons, drop-drop}
+use lib.ListN.{length, take, drop, length-append}
+use lib.Seq.{take_at, drop_at, drop-drop}
 use borrow.Author.Tests.{eq-eqb, leb-true}
 use Rattle.test_lemmas.proofs.Operators.{and_both}
 use Rattle.hdlc.specs.Image.{longest_body, longest_image}
 use Rattle.symbols.specs.Symbols.{line_length}
 use Rattle.symbols.proofs.Lines.{same_symbols_self, fits_length}
 use Rattle.combining.specs.Hit.{none_letter}
-use Rattle.cycle.specs.Cycle.{no_q, cycle_in_range}
-use Rattle.cycle.proofs.Ranges.{Ranged, ranged}
 use Rattle.dchannel.specs.Access.{normal2}
 use Rattle.dchannel.specs.Ranges.{access_in_range}
 use Rattle.dchannel.specs.declared.access.Access.{Access}
-use Rattle.timing.specs.Calls.{periods_in_range, opportunities_in_range}
-use Rattle.d_reader.specs.ReaderRange.{reader_in_range}
 use Rattle.d_reader.proofs.RangesKept.{bits_most}
-use Rattle.network.specs.Calls.{network_in_range}
 use Rattle.network.proofs.RangesKept.{network_fits}
 use Rattle.terminal.specs.Calls.{terminal_in_range}
 use Rattle.terminal.specs.declared.Terminal.{Terminal}
 use Rattle.terminal.proofs.RangesKept.{terminal_fits}
 use Rattle.period_hearing.specs.Shown.{all_in_range}
 use Rattle.bus_rules.specs.Bus.{terminals}
-use Rattle.bus_record.specs.Record.{record_in_range}
 use Rattle.bus_record.specs.declared.record.BusRecord.{BusRecord}
 use Rattle.bus_call_specs.specs.Kept.{Kept}
 use Rattle.bus_call_specs.proofs.InOrder.{InOrder, in_order, order_ranges}
 use Rattle.bus_call_specs.specs.Kept.{found}
 use Rattle.note_text.proofs.Determined.{half_back, word_back}
-use Rattle.bus_octets.specs.Numbers.{eight_at}
 use Rattle.bus_octets.specs.Layout.{flag, record_octets, terminal_octets, terminals_octets, head_octets, bus_octets, record_in, terminal_at, terminals_from, terminals_in, letters_in, octets_in, shown, terminal_length, letters_at, octets_at, images_at, bus_length, is_head, is_bus}
 use Rattle.bus_octets.specs.Laws.{RoundTrip}
 use Rattle.bus_octets.proofs.Lengths.{length_record, length_terminal, length_head}
@@ -45,53 +38,24 @@ pub flag_back : (b : Bool) → eqb (flag b) 1 ≡ b
 flag_back true = refl
 flag_back false = refl
 
--- ---- Eight octets of a list that has no more.
-eight_back : (l : List ℕ) → length l ≡ terminals → eight_at l 0 ≡ l
-eight_back l long =
-    cc (
-      drop-cons l 0 0 (omega arith),
-      drop-cons l 1 0 (omega arith),
-      drop-cons l 2 0 (omega arith),
-      drop-cons l 3 0 (omega arith),
-      drop-cons l 4 0 (omega arith),
-      drop-cons l 5 0 (omega arith),
-      drop-cons l 6 0 (omega arith),
-      drop-cons l 7 0 (omega arith),
-      drop_of_length-le l {i = 8} (omega arith),
-    )
-
 -- ---- The record.
-cycle_ranged : (r : BusRecord) → record_in_range r ≡ true → Ranged r.cycle
-unfolding record_in_range
-cycle_ranged r h =
-    let others = ((network_in_range r.network && periods_in_range r.periods) && opportunities_in_range r.periods r.opportunities)
-    && reader_in_range r.reader in
-    ranged r.cycle (and_both others (cycle_in_range r.cycle) h).1
-
 pub record_back : (k : Kept) → InOrder k → (rest : List ℕ) → record_in (record_octets k.bus ++ rest) ≡ k.bus
 unfolding record_in record_octets
 record_back k o rest =
     let r : BusRecord = k.bus in
     let n = network_fits r.network o.network_fits in
-    let c = cycle_ranged r (order_ranges k o).1 in
     rw (
       word_back r.periods.0 (omega (arith, o.periods_fit)),
       word_back r.opportunities.0 (omega (arith, o.periods_fit, o.opportunities_fit)),
       word_back r.network.t1 (omega (arith, n.t1_fits)),
       word_back r.network.t2 (omega (arith, n.t2_fits)),
+      o.cycle_rests,
       half_back r.reader.bits (omega (arith, bits_most r.reader o.reader_fits)),
       flag_back r.network.alignment.aligned,
       flag_back r.reader.opened,
       flag_back r.reader.zero,
       flag_back r.echo,
       flag_back r.hit,
-      word_back r.cycle.swaiting (omega (arith, c.swaiting)),
-      word_back r.cycle.ssent (omega (arith, c.ssent)),
-      word_back r.cycle.sheard (omega (arith, c.sheard)),
-      eight_back r.cycle.qwaiting (fits_length terminals no_q r.cycle.qwaiting c.qwaiting),
-      eight_back r.cycle.qsent (fits_length terminals no_q r.cycle.qsent c.qsent),
-      flag_back r.cycle.running,
-      flag_back r.cycle.g3,
     )
 
 -- ---- The terminals.

@@ -1,23 +1,23 @@
--- Calls: a bus as octets: its layout, version 3. Numbers stand with the low-order octet first
+-- Calls: a bus as octets: its layout, version 2. Numbers stand with the low-order octet first
 -- (`half` two octets, `word` four), a yes is 1 and a no is 0.
---   0   the record, 112 octets: 65 of fields, 47 reserved
+--   0   the record, 112 octets: 32 of fields, 80 reserved
 --   112 the eight terminals, terminal 1 first, 24 octets each: 16 of fields, 8 reserved
 --   304 the letters of the hit, 48
 --   352 the octets of the network end's reader, 266
 --   618 the rooms of the eight images, 322 octets each, terminal 1 first
 -- 3,194 octets in all. Reserved octets are 0; octets of which one is not are no bus.
 -- Interface: `flag`, `record_length`, `terminal_length`, `terminals_at`, `bus_length`, `counts_fields`,
--- `network_fields`, `reader_fields`, `cycle_fields`, `record_fields`, `record_octets`, `terminal_fields`,
--- `terminal_octets`, `terminals_octets`, `bus_octets`, `flag_at`, `network_in`, `reader_in`, `cycle_in`,
--- `record_in`, `access_at`, `terminal_at`, `terminals_in`, `letters_read`, `octets_of`, `shown`,
--- `head_octets`, `is_head`, `is_bus`. Assumes nothing.
+-- `network_fields`, `reader_fields`, `record_fields`, `record_octets`, `terminal_fields`,
+-- `terminal_octets`, `terminals_octets`, `bus_octets`, `flag_at`, `network_in`, `reader_in`, `record_in`,
+-- `access_at`, `terminal_at`, `terminals_in`, `letters_read`, `octets_of`, `shown`, `head_octets`,
+-- `is_head`, `is_bus`. Assumes nothing.
 use Rattle.std.specs.Prelude.{Bool, true, false, cond, ◌&&◌, List, [], ◌∷◌, ◌++◌, ℕ, zero, suc, ◌+◌, ◌-◌, ◌*◌, eqb, length, get_or, take, drop, replicate}
 use Rattle.notes_and_cells.specs.Names.{ascii}
 use Rattle.hdlc.specs.Image.{longest_body}
 use Rattle.symbols.specs.Symbols.{line_length, same_symbols}
 use Rattle.timing.specs.Calls.{at_period}
 use Rattle.dchannel.specs.declared.access.Access.{Access}
-use Rattle.cycle.specs.declared.record.Cycle.{Cycle}
+use Rattle.cycle.specs.Cycle as cycle
 use Rattle.d_reader.specs.declared.Reader.{Reader}
 use Rattle.network.specs.declared.Network.{Network}
 use Rattle.terminal.specs.declared.Terminal.{Terminal}
@@ -29,10 +29,10 @@ use Rattle.bus_call_specs.specs.Kept.{Kept}
 use Rattle.bus_call_specs.specs.Ready.{eight_in_range}
 use Rattle.bus_call_specs.specs.Kept.{found}
 use Rattle.note_text.specs.LowFirst.{half, word}
-use Rattle.bus_octets.specs.Numbers.{half_at, word_at, eight_at}
+use Rattle.bus_octets.specs.Numbers.{half_at, word_at}
 
 abbrev pub version : ℕ
-version = 3
+version = 2
 
 abbrev pub flag : Bool → ℕ
 flag true = 1
@@ -78,27 +78,14 @@ network_fields n = word n.t1 ++ word n.t2 ++ (n.state ∷ flag n.alignment.align
 abbrev pub reader_fields : Reader → List ℕ
 reader_fields r = half r.bits ++ (r.ones ∷ r.octet ∷ flag r.opened ∷ flag r.zero ∷ [])
 
--- The cycle of Q and S bits: the S message that waits, what is left of the one that is sent, the S
--- bits heard; the terminals' Q messages that wait and those that are sent; the Q bits heard, which
--- terminals were in F7 so far, the place, whether it runs, whether the network end was in G3 so far.
-abbrev pub cycle_fields : Cycle → List ℕ
-cycle_fields c =
-    word c.swaiting
-    ++ word c.ssent
-    ++ word c.sheard
-    ++ eight_at c.qwaiting 0
-    ++ eight_at c.qsent 0
-    ++ (c.qheard ∷ c.f7 ∷ c.place ∷ flag c.running ∷ flag c.g3 ∷ [])
-
--- The record: these, and between the reader and the cycle the last D heard and whether a hit is
--- pending.
+-- The record: these, the last D heard, whether a hit is pending. Its cycle of Q and S bits rests, and
+-- has no octets yet.
 abbrev pub record_fields : BusRecord → List ℕ
 record_fields r =
     counts_fields r.periods.0 r.opportunities.0
     ++ network_fields r.network
     ++ reader_fields r.reader
     ++ (flag r.echo ∷ flag r.hit ∷ [])
-    ++ cycle_fields r.cycle
 
 unfoldable pub record_octets : BusRecord → List ℕ
 record_octets r = filled_up record_length (record_fields r)
@@ -142,21 +129,6 @@ network_in s =
 abbrev pub reader_in : List ℕ → Reader
 reader_in s = record { bits = half_at s 24; ones = get_or s 26 0; octet = get_or s 27 0; opened = flag_at s 28; zero = flag_at s 29 }
 
-abbrev pub cycle_in : List ℕ → Cycle
-cycle_in s =
-    record {
-      swaiting = word_at s 32;
-      ssent = word_at s 36;
-      sheard = word_at s 40;
-      qwaiting = eight_at s 44;
-      qsent = eight_at s 52;
-      qheard = get_or s 60 0;
-      f7 = get_or s 61 0;
-      place = get_or s 62 0;
-      running = flag_at s 63;
-      g3 = flag_at s 64;
-    }
-
 unfoldable pub record_in : List ℕ → BusRecord
 record_in s =
     record {
@@ -164,7 +136,7 @@ record_in s =
       opportunities = record { 0 = word_at s 9 };
       network = network_in s;
       reader = reader_in s;
-      cycle = cycle_in s;
+      cycle = cycle.fresh;
       echo = flag_at s 30;
       hit = flag_at s 31;
     }

@@ -1,6 +1,6 @@
--- Calls: numbers among octets, the low-order octet first. Past the end every octet is 0.
+-- Calls: numbers among octets, the low-order octet first.
 -- Interface: every name. Assumes nothing.
-use Rattle.std.specs.Prelude.{ℕ, ◌+◌, ◌*◌, List, [], ◌∷◌, map, get_or}
+use Rattle.std.specs.Prelude.{ℕ, ◌+◌, ◌*◌, List, get_or}
 
 -- of two octets
 abbrev pub half_at : List ℕ → ℕ → ℕ
@@ -9,7 +9,3 @@ half_at s at = get_or s at 0 + 256 * get_or s (at + 1) 0
 -- of four
 abbrev pub word_at : List ℕ → ℕ → ℕ
 word_at s at = half_at s at + 65536 * (get_or s (at + 2) 0 + 256 * get_or s (at + 3) 0)
-
--- eight octets, one for each terminal
-abbrev pub eight_at : List ℕ → ℕ → List ℕ
-eight_at s at = map (λ (i : ℕ). get_or s (at + i) 0) (0 ∷ 1 ∷ 2 ∷ 3 ∷ 4 ∷ 5 ∷ 6 ∷ 7 ∷ [])

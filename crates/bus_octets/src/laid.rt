@@ -3,12 +3,11 @@
 ghost use Rattle.std.specs.Prelude.{[], ◌∷◌, ◌++◌, ◌≡◌, replicate};
 ghost use Rattle.note_text.specs.Room.{Put, laid};
 ghost use Rattle.bus_octets.specs.Layout.{record_length, terminal_length, counts_fields, network_fields, reader_fields};
-ghost use Rattle.bus_octets.specs.Layout.{flag, cycle_fields, record_fields, terminal_fields};
+ghost use Rattle.bus_octets.specs.Layout.{flag, record_fields, terminal_fields};
 ghost use Rattle.bus_octets.specs.Layout.{record_octets, terminal_octets, terminals_octets, head_octets};
 
 use super::layout::{RECORD_LENGTH, TERMINAL_LENGTH, VERSION};
 use bus_record::record::BusRecord;
-use cycle::record::Cycle;
 use d_reader::Reader;
 use network::Network;
 use note_text::room::put;
@@ -76,49 +75,6 @@ fn flags_octets(echo: bool, hit: bool) -> [u8; 2]
     [echo as u8, hit as u8]
 }
 
-// Gives the octets of the cycle of Q and S bits.
-fn cycle_octets(cycle: Cycle) -> [u8; 33]
-    ensures { result ≡ cycle_fields cycle }
-{
-    let waiting = cycle.qwaiting;
-    let sent = cycle.qsent;
-    [
-        (cycle.swaiting % 256) as u8,
-        (cycle.swaiting / 256 % 256) as u8,
-        (cycle.swaiting / 65536 % 256) as u8,
-        (cycle.swaiting / 16777216 % 256) as u8,
-        (cycle.ssent % 256) as u8,
-        (cycle.ssent / 256 % 256) as u8,
-        (cycle.ssent / 65536 % 256) as u8,
-        (cycle.ssent / 16777216 % 256) as u8,
-        (cycle.sheard % 256) as u8,
-        (cycle.sheard / 256 % 256) as u8,
-        (cycle.sheard / 65536 % 256) as u8,
-        (cycle.sheard / 16777216 % 256) as u8,
-        waiting[0],
-        waiting[1],
-        waiting[2],
-        waiting[3],
-        waiting[4],
-        waiting[5],
-        waiting[6],
-        waiting[7],
-        sent[0],
-        sent[1],
-        sent[2],
-        sent[3],
-        sent[4],
-        sent[5],
-        sent[6],
-        sent[7],
-        cycle.qheard,
-        cycle.f7,
-        cycle.place,
-        cycle.running as u8,
-        cycle.g3 as u8,
-    ]
-}
-
 // Gives the record's octets: its parts, over as many 0s as it has octets.
 fn record_octets(bus: BusRecord) -> [u8; RECORD_LENGTH]
     ensures { result ≡ laid (replicate record_length 0) 0 (record_fields bus) }
@@ -131,8 +87,7 @@ fn record_octets(bus: BusRecord) -> [u8; RECORD_LENGTH]
     );
     let network = put(&mut octets, counts, &network_octets(bus.network));
     let reader = put(&mut octets, network, &reader_octets(bus.reader));
-    let flags = put(&mut octets, reader, &flags_octets(bus.echo, bus.hit));
-    put(&mut octets, flags, &cycle_octets(bus.cycle));
+    put(&mut octets, reader, &flags_octets(bus.echo, bus.hit));
     octets
 }
 

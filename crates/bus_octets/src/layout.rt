@@ -5,7 +5,7 @@ use hdlc::LONGEST_BODY;
 use symbols::LINE_LENGTH;
 
 // The layout's version.
-pub const VERSION: u8 = 3;
+pub const VERSION: u8 = 2;
 
 // How many octets the record and a terminal have. What their fields leave of them is reserved.
 pub const RECORD_LENGTH: usize = 112;

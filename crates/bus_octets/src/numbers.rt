@@ -1,6 +1,6 @@
 // Numbers among octets, the low-order octet first. Past the end every octet counts as 0.
 ghost use Rattle.std.specs.Prelude.{◌≡◌, eqb, get_or};
-ghost use Rattle.bus_octets.specs.Numbers.{half_at, word_at, eight_at};
+ghost use Rattle.bus_octets.specs.Numbers.{half_at, word_at};
 
 // Gives the octet at index `at`.
 pub fn octet_at(s: &[u8], at: usize) -> u8
@@ -32,21 +32,4 @@ pub fn word_at(s: &[u8], at: u32) -> u32
     let low = octet_at(s, i) as u32 + 256 * octet_at(s, i + 1) as u32;
     let high = octet_at(s, i + 2) as u32 + 256 * octet_at(s, i + 3) as u32;
     low + 65536 * high
-}
-
-// Gives eight octets, one for each terminal.
-pub fn eight_at(s: &[u8], at: u32) -> [u8; 8]
-    ensures { result ≡ eight_at s.now at }
-{
-    let i = at as usize;
-    [
-        octet_at(s, i),
-        octet_at(s, i + 1),
-        octet_at(s, i + 2),
-        octet_at(s, i + 3),
-        octet_at(s, i + 4),
-        octet_at(s, i + 5),
-        octet_at(s, i + 6),
-        octet_at(s, i + 7),
-    ]
 }

@@ -1,10 +1,10 @@
 // What the octets of a bus stand for.
 ghost use Rattle.std.specs.Prelude.{◌≡◌, ◌+◌, ◌*◌};
-ghost use Rattle.bus_octets.specs.Layout.{terminals_at, terminal_length, network_in, reader_in, cycle_in, record_in};
-ghost use Rattle.bus_octets.specs.Layout.{access_at, terminal_at, terminals_in, letters_read, octets_of};
+ghost use Rattle.bus_octets.specs.Layout.{terminals_at, terminal_length, network_in, reader_in, record_in, access_at, terminal_at};
+ghost use Rattle.bus_octets.specs.Layout.{terminals_in, letters_read, octets_of};
 
 use super::layout::{BUS_LENGTH, IMAGES_AT, LETTERS_AT, OCTETS_AT, TERMINAL_LENGTH, TERMINALS_AT};
-use super::numbers::{eight_at, flag_at, half_at, octet_at, word_at};
+use super::numbers::{flag_at, half_at, octet_at, word_at};
 use alignment::Alignment;
 use bus_record::record::BusRecord;
 use cycle::record::Cycle;
@@ -45,25 +45,7 @@ fn reader_in(s: &[u8]) -> Reader
     }
 }
 
-// Reads the cycle of Q and S bits.
-fn cycle_in(s: &[u8]) -> Cycle
-    ensures { result ≡ cycle_in s.now }
-{
-    Cycle {
-        swaiting: word_at(s, 32),
-        ssent: word_at(s, 36),
-        sheard: word_at(s, 40),
-        qwaiting: eight_at(s, 44),
-        qsent: eight_at(s, 52),
-        qheard: octet_at(s, 60),
-        f7: octet_at(s, 61),
-        place: octet_at(s, 62),
-        running: flag_at(s, 63),
-        g3: flag_at(s, 64),
-    }
-}
-
-// Reads the record.
+// Reads the record. Its cycle of Q and S bits rests: it has no octets yet.
 pub fn record_in(s: &[u8]) -> BusRecord
     ensures { result ≡ record_in s.now }
 {
@@ -72,7 +54,7 @@ pub fn record_in(s: &[u8]) -> BusRecord
         periods: Periods(word_at(s, 5)),
         opportunities: Opportunities(word_at(s, 9)),
         reader: reader_in(s),
-        cycle: cycle_in(s),
+        cycle: Cycle::fresh(),
         echo: flag_at(s, 30),
         hit: flag_at(s, 31),
     }

@@ -6,14 +6,12 @@ use Prim.Native.Nat.{ℕ, zero, suc, ◌≤◌}
 use native.Mathlib.Omega.{arith}
 use lib.Dec.{eqb}
 use lib.ListN.{length, get_or}
-use Rattle.test_lemmas.proofs.ByCases.{by_test, clash}
+use Rattle.test_lemmas.proofs.ByCases.{by_test}
 use Rattle.symbols.specs.Symbols.{line_length, none, minus, is_line, tabulate}
 use Rattle.symbols.specs.Calls.{leaves}
 use Rattle.symbols.proofs.Lines.{line_small, line_by_lem}
 use Rattle.symbols.proofs.Written.{left_written}
 use Rattle.frame.specs.declared.fields.Four.{Four}
-use Rattle.frame.specs.declared.fields.CycleBits.{CycleBits}
-use Rattle.cycle.specs.Cycle.{taken, bits_at}
 use Rattle.frame.proofs.Frames.{down_line_lem}
 use Rattle.info.specs.Info.{unset, info2_fields, info4_fields}
 use Rattle.combining.specs.Hit.{keep_letter, plus_letter, minus_letter, struck, hit}
@@ -29,23 +27,13 @@ use Rattle.bus_rules.specs.Exchange.{sent_down}
 use Rattle.bus_record.specs.Echo.{built_down, sent_es, heard_down}
 use Rattle.bus_record.specs.declared.record.BusRecord.{BusRecord}
 
--- a cycle that sets no bit
-of_three : (fa m s : Bool) → ((fa || m) || s) ≡ false → ◌≡◌ {A = CycleBits} (record { fa = fa; m = m; s = s }) unset
-of_three false false false h = refl
-of_three true m s h = clash true refl h
-of_three false true s h = clash true refl h
-of_three false false true h = clash true refl h
-
-pub none_set : (bits : CycleBits) → ((bits.fa || bits.m) || bits.s) ≡ false → bits ≡ unset
-none_set bits h = of_three bits.fa bits.m bits.s h
-
 -- INFO 0, 2 and 4 are lines
-line_for : (bits : CycleBits) (state : ℕ) (es : Four) → is_line (sent_down bits state es) ≡ true
+line_for : (state : ℕ) (es : Four) → is_line (sent_down unset state es) ≡ true
 unfolding sent_down tabulate
-line_for bits state es =
+line_for state es =
     by_test (eqb (info_in info_sent state) 4)
-    (λ t. simp t (down_line_lem (info4_fields bits es)))
-    (λ t. by_test (eqb (info_in info_sent state) 2) (λ u. simp (t, u) (down_line_lem (info2_fields bits))) (λ u. simp (t, u) (line_by_lem (λ i. none) (λ i. omega arith))))
+    (λ t. simp t (down_line_lem (info4_fields unset es)))
+    (λ t. by_test (eqb (info_in info_sent state) 2) (λ u. simp (t, u) (down_line_lem (info2_fields unset))) (λ u. simp (t, u) (line_by_lem (λ i. none) (λ i. omega arith))))
 
 struck_small : (letter s : ℕ) → s ≤ minus → struck letter s ≤ minus
 struck_small letter s h =
@@ -62,16 +50,16 @@ struck_line letters l h =
     (λ t. simp t h)
 
 -- what a line shows that is heard under a hit
-pub heard_under : (bus : BusRecord) (ds : Four) (bits : CycleBits) (letters start built after : List ℕ) → bits ≡ bits_at (taken bus.cycle) → bus.hit ≡ true → length start ≡ line_length
-    → built ≡ built_down bits bus.network.state (sent_es bus ds) start
+pub heard_under : (bus : BusRecord) (ds : Four) (letters start built after : List ℕ) → bus.hit ≡ true → length start ≡ line_length
+    → built ≡ built_down bus.network.state (sent_es bus ds) start
     → after ≡ leaves (hit_fits letters built) (hit letters built) built
     → sensed_down after ≡ SensedDown.Line (heard_down bus ds letters)
 unfolding sensed_down heard_down built_down
-heard_under bus ds bits letters start built after same struck long b a =
-    let l : List ℕ = sent_down (bits_at (taken bus.cycle)) bus.network.state (sent_es bus ds) in
-    let is : built ≡ l = left_written l start long (rw same at b) in
+heard_under bus ds letters start built after struck long b a =
+    let l : List ℕ = sent_down unset bus.network.state (sent_es bus ds) in
+    let is : built ≡ l = left_written l start long b in
     let e : after ≡ leaves (hit_fits letters l) (hit letters l) l = rw is at a in
-    rw e (simp (struck_line letters l (line_for (bits_at (taken bus.cycle)) bus.network.state (sent_es bus ds)), struck))
+    rw e (simp (struck_line letters l (line_for bus.network.state (sent_es bus ds)), struck))
 
 pub line_is : {x : SensedDown} {shown heard : Downward} → x ≡ SensedDown.Line heard → x ≡ SensedDown.Line shown → shown ≡ heard
 line_is e f = cc

@@ -4,6 +4,5 @@
 pub mod RecordKept
 pub mod Through
 pub mod EchoLaws
-pub mod SideLaws
 pub mod SpokenLaws
 pub mod NetworkRests

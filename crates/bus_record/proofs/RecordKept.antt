@@ -15,10 +15,8 @@ use Rattle.heard_line.specs.declared.heard.Upward.{Upward}
 use Rattle.network.specs.Calls.{network_in_range, hear_call}
 use Rattle.network.specs.declared.Network.{Network}
 use Rattle.network.proofs.RangesKept.{timer_due_in_range, heard_in_range}
-use Rattle.symbols.specs.Symbols.{fits, within}
-use Rattle.cycle.specs.Cycle.{cycle_in_range}
-use Rattle.cycle.specs.Periods as cycles
-use Rattle.cycle.proofs.Laws.{period_kept}
+use Rattle.symbols.specs.Symbols.{same_symbols}
+use Rattle.cycle.specs.Rest.{rests}
 use Rattle.d_reader.specs.Counters.{read_bit}
 use Rattle.d_reader.specs.ReaderRange.{reader_in_range}
 use Rattle.d_reader.specs.declared.Reader.{Reader}
@@ -26,11 +24,10 @@ use Rattle.d_reader.specs.declared.ReaderAnswer.{ReaderAnswer}
 use Rattle.d_reader.specs.declared.ReaderAnswer.TheVariants.{Nothing, Heard, Torn, Refused}
 use Rattle.d_reader.proofs.RangesKept as reader
 use Rattle.d_reader.proofs.RangesKept.{read_in_range}
+use Rattle.bus_rules.specs.Quick.{shown_from}
 use Rattle.bus_record.specs.Record.{record_in_range}
 use Rattle.bus_record.specs.Reading.{quiet_reading, said_with, spoken_to, spoken_to_four, read_in}
-use Rattle.bus_record.specs.NetworkSide.{reader_after, hearing_step, timer_step, network_listens, counted_after, shown_in, answer_with, with_cycle_on, answer_after}
-use Rattle.bus_record.specs.Crossing.{cycle_on}
-use Rattle.bus_record.specs.declared.crossing.Crossed.{Crossed}
+use Rattle.bus_record.specs.NetworkSide.{reader_after, hearing_step, timer_step, network_listens, counted_after, answer_with, answer_after}
 use Rattle.bus_record.specs.RecordKept.{FreshInRange, PeriodKeeps}
 use Rattle.bus_record.specs.declared.record.BusRecord.{BusRecord}
 use Rattle.bus_record.specs.declared.reading.Spoken.{Spoken}
@@ -41,7 +38,7 @@ pub record RecordFits (bus : BusRecord) : Type 0 where
   pub periods_fit : periods_in_range bus.periods ≡ true
   pub opportunities_fit : opportunities_in_range bus.periods bus.opportunities ≡ true
   pub reader_fits : reader_in_range bus.reader ≡ true
-  pub cycle_fits : cycle_in_range bus.cycle ≡ true
+  pub cycle_rests : rests bus.cycle ≡ true
 
 pub record_fits : (bus : BusRecord) → record_in_range bus ≡ true → RecordFits bus
 unfolding record_in_range
@@ -50,7 +47,7 @@ record_fits bus h =
     let p : Bool = periods_in_range bus.periods in
     let o : Bool = opportunities_in_range bus.periods bus.opportunities in
     let d : Bool = reader_in_range bus.reader in
-    let f : (((n && p) && o) && d) ≡ true = and_left (((n && p) && o) && d) (cycle_in_range bus.cycle) h in
+    let f : (((n && p) && o) && d) ≡ true = and_left (((n && p) && o) && d) (rests bus.cycle) h in
     let a : ((n && p) && o) ≡ true = and_left ((n && p) && o) d f in
     let b : (n && p) ≡ true = and_left (n && p) o a in
     record {
@@ -58,12 +55,12 @@ record_fits bus h =
       periods_fit = and_right n p b;
       opportunities_fit = and_right (n && p) o a;
       reader_fits = and_right ((n && p) && o) d f;
-      cycle_fits = and_right (((n && p) && o) && d) (cycle_in_range bus.cycle) h;
+      cycle_rests = and_right (((n && p) && o) && d) (rests bus.cycle) h;
     }
 
 pub fits_record : (bus : BusRecord) → RecordFits bus → record_in_range bus ≡ true
 unfolding record_in_range
-fits_record bus f = simp (f.network_fits, f.periods_fit, f.opportunities_fit, f.reader_fits, f.cycle_fits)
+fits_record bus f = simp (f.network_fits, f.periods_fit, f.opportunities_fit, f.reader_fits, f.cycle_rests)
 
 -- ---- The reader.
 said_reader : (x : ReaderAnswer) (r : Reader) (s : Spoken) → (said_with x r s).reader ≡ r
@@ -105,22 +102,17 @@ counted_fits state p o r h =
     by_test (eqb state G3) (λ t. rw t (four_more_in_range p o r h)) (λ t. rw t (none_more_in_range p o r h))
 
 pub fresh_in_range : FreshInRange
-unfolding record_in_range network_in_range reader_in_range fits within
+unfolding record_in_range network_in_range reader_in_range rests same_symbols
 fresh_in_range = refl
 
--- ---- The cycle.
-pub cycle_on_fits : (bus : BusRecord) (x : Crossed) → cycle_in_range bus.cycle ≡ true → cycle_in_range (cycle_on bus x) ≡ true
-unfolding cycle_on cycles.period
-cycle_on_fits bus x h = period_kept (record { fa = x.fa; s = x.s; g3 = _; f7 = x.f7 }) bus.cycle h
-
 pub period_keeps : PeriodKeeps
-unfolding answer_after with_cycle_on answer_with
-period_keeps bus m x buf told h r =
+unfolding answer_after answer_with
+period_keeps bus m buf told h r =
     let f : RecordFits bus = record_fits bus h in
     fits_record _ (record {
-      network_fits = listens_fits (shown_in bus m x) bus.periods bus.network f.network_fits;
+      network_fits = listens_fits (shown_from m.info1 m.info3) bus.periods bus.network f.network_fits;
       periods_fit = next_in_range bus.periods f.periods_fit;
       opportunities_fit = counted_fits bus.network.state bus.periods bus.opportunities r f.opportunities_fit;
       reader_fits = reader_after_fits _ _ (read_fits bus.network.state m.ds buf bus.reader f.reader_fits);
-      cycle_fits = cycle_on_fits bus x f.cycle_fits;
+      cycle_rests = f.cycle_rests;
     })

@@ -6,8 +6,7 @@
 use Rattle.std.specs.Prelude.{Bool, cond, List, ℕ, get_or}
 use Rattle.symbols.specs.Calls.{leaves, has_line_length}
 use Rattle.frame.specs.declared.fields.Four.{Four}
-use Rattle.frame.specs.declared.fields.CycleBits.{CycleBits}
-use Rattle.cycle.specs.Cycle.{taken, bits_at}
+use Rattle.info.specs.Info.{unset}
 use Rattle.combining.specs.Hit.{keep_letter, hit}
 use Rattle.combining.specs.Calls.{hit_fits}
 use Rattle.heard_line.specs.Sensing.{shown_down}
@@ -32,9 +31,9 @@ hit_in pending letters = cond pending (Hit.given letters) Hit.none
 unfoldable pub first_tally : BusRecord → List ℕ → Tally
 first_tally r letters = exchange.first_tally r.network.state (letters_at_e (hit_in r.hit letters)) r.echo
 
--- the line that a network end in `state` sends with the cycle's bits, written into a line that is lent
-unfoldable pub built_down : CycleBits → ℕ → Four → List ℕ → List ℕ
-built_down bits state es line = leaves (has_line_length line) (sent_down bits state es) line
+-- the line that a network end in `state` sends where no cycle runs, written into a line that is lent
+unfoldable pub built_down : ℕ → Four → List ℕ → List ℕ
+built_down state es line = leaves (has_line_length line) (sent_down unset state es) line
 
 -- the four E that were sent: each echoes the D heard before it
 abbrev pub sent_es : BusRecord → Four → Four
@@ -43,7 +42,7 @@ sent_es r ds = record { first = r.echo; second = ds.first; third = ds.second; fo
 -- what is heard of the line, where `ds` are the four D heard in the exchange
 unfoldable pub heard_down : BusRecord → Four → List ℕ → Downward
 heard_down r ds letters =
-    let line = sent_down (bits_at (taken r.cycle)) r.network.state (sent_es r ds) in
+    let line = sent_down unset r.network.state (sent_es r ds) in
     cond r.hit (shown_down (leaves (hit_fits letters line) (hit letters line) line)) (shown_by r.network.state)
 
 -- ---- A period's exchange over all terminals.

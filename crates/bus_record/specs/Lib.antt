@@ -2,7 +2,6 @@
 -- its range (RecordKept).
 pub mod Record
 pub mod Echo
-pub mod Crossing
 pub mod Reading
 pub mod NetworkSide
 pub mod RecordKept

@@ -2,8 +2,7 @@
 -- then come the timers due at the next one's start. Crate `bus_call_specs`' law `step_shown` holds
 -- it to document 01's period.
 -- Interface: `no_notes`, `leaves_g3`, `reader_after`, `network_listens`, `network_rests`,
--- `counted_after`, `sent_in`, `shown_in`, `answer_with`, `answer_after`, `octets_after`, `refused_run`.
--- Assumes nothing.
+-- `counted_after`, `answer_with`, `answer_after`, `octets_after`, `refused_run`. Assumes nothing.
 use Rattle.std.specs.Prelude.{Bool, false, cond, not, ◌&&◌, ◌||◌, List, ℕ, eqb, ltb}
 use Rattle.table_6_3.specs.Table63.{G1, G2, G3, G4}
 use Rattle.timing.specs.Calls.{next_period, four_more}
@@ -15,17 +14,12 @@ use Rattle.network.specs.declared.Network.{Network}
 use Rattle.network.specs.declared.NetworkStep.{NetworkStep}
 use Rattle.d_reader.specs.Counters.{fresh_reader}
 use Rattle.d_reader.specs.declared.Reader.{Reader}
-use Rattle.frame.specs.declared.fields.Four.{Four}
-use Rattle.cycle.specs.Cycle.{tells}
-use Rattle.cycle.specs.declared.record.Cycle.{Cycle}
-use Rattle.bus_rules.specs.Quick.{shown_with, shown_from}
+use Rattle.bus_rules.specs.Quick.{shown_from}
 use Rattle.exchange.specs.declared.tally.Tally.{Tally}
 pub use Rattle.period_hearing.specs.Hears.{no_notes}
 use Rattle.period_hearing.specs.declared.hears.UnitNotes.{UnitNotes}
 use Rattle.bus_record.specs.Reading.{read_in, octets_in}
-use Rattle.bus_record.specs.Record.{with_counts, with_network, with_cycle, with_echo, with_hit}
-use Rattle.bus_record.specs.Crossing.{cycle_on}
-use Rattle.bus_record.specs.declared.crossing.Crossed.{Crossed}
+use Rattle.bus_record.specs.Record.{with_counts, with_network, with_echo, with_hit}
 use Rattle.bus_record.specs.declared.record.BusRecord.{BusRecord}
 use Rattle.bus_record.specs.declared.reading.Spoken.{Spoken}
 use Rattle.bus_record.specs.declared.side.NetworkHeard.{NetworkHeard}
@@ -73,20 +67,6 @@ network_rests line n =
 unfoldable pub counted_after : ℕ → Opportunities → Opportunities
 counted_after state o = cond (eqb state G3) (four_more o) o
 
--- the D bits that are sent together: those heard, with D25 as it was before INFO 1 inverted it
-abbrev pub sent_in : Tally → Four
-sent_in m =
-    record {
-      first = m.ds.first;
-      second = cond m.info1 (not m.ds.second) m.ds.second;
-      third = m.ds.third;
-      fourth = m.ds.fourth;
-    }
-
--- what the terminals' line shows: where a cycle runs, by its FA and D, too
-unfoldable pub shown_in : BusRecord → Tally → Crossed → Upward
-shown_in r m x = cond r.cycle.running (shown_with m.info1 m.info3 x.fa (sent_in m)) (shown_from m.info1 m.info3)
-
 -- whether there is a note: of the terminals, of the reader, of a frame completed, of the network
 -- end
 unfoldable pub period_has_note : Bool → Tally → Spoken → UnitNotes → Bool
@@ -109,26 +89,12 @@ answer_with r m spoken side told =
       reply = 0;
     }
 
--- the cycle goes on, from `before` the period, and may tell of what it has heard
-unfoldable pub with_cycle_on : Cycle → RunAnswer → RunAnswer
-with_cycle_on c a =
-    record {
-      bus = with_cycle c a.bus;
-      network = a.network;
-      body = a.body;
-      said = a.said;
-      done1 = a.done1;
-      done2 = a.done2;
-      told = a.told || tells c;
-      reply = a.reply;
-    }
-
--- the network end's side of a period, after the exchange that left tally m, in which x crossed the
--- lines for the cycle, and the terminals' hearing; and the reader's octets then
-unfoldable pub answer_after : BusRecord → Tally → Crossed → List ℕ → Bool → RunAnswer
-answer_after r m x buf told =
-    with_cycle_on (cycle_on r x)
-    (answer_with r m (read_in r.network.state m.ds buf r.reader) (network_listens (shown_in r m x) r.periods r.network) told)
+-- the network end's side of a period, after the exchange that left tally m and the terminals'
+-- hearing; and the reader's octets then
+unfoldable pub answer_after : BusRecord → Tally → List ℕ → Bool → RunAnswer
+answer_after r m buf told =
+    answer_with r m (read_in r.network.state m.ds buf r.reader)
+    (network_listens (shown_from m.info1 m.info3) r.periods r.network) told
 
 unfoldable pub octets_after : BusRecord → Tally → List ℕ → List ℕ
 octets_after r m buf = octets_in r.network.state m.ds r.reader buf

@@ -7,14 +7,13 @@ use Rattle.exchange.specs.declared.tally.Tally.{Tally}
 use Rattle.bus_record.specs.Record.{fresh_record, record_in_range}
 use Rattle.bus_record.specs.NetworkSide.{answer_after}
 use Rattle.bus_record.specs.declared.record.BusRecord.{BusRecord}
-use Rattle.bus_record.specs.declared.crossing.Crossed.{Crossed}
 
 abbrev pub FreshInRange : Type 0
 FreshInRange = record_in_range fresh_record ≡ true
 
--- a period more, where one can be run: whatever the exchange, what crossed the lines, the reader's
--- octets and the terminals' notes
+-- a period more, where one can be run: whatever the exchange, the reader's octets and the
+-- terminals' notes
 abbrev pub PeriodKeeps : Type 0
 PeriodKeeps =
-    (bus : BusRecord) (m : Tally) (x : Crossed) (buf : List ℕ) (told : Bool) → record_in_range bus ≡ true → all_run bus.periods ≡ false
-    → record_in_range (answer_after bus m x buf told).bus ≡ true
+    (bus : BusRecord) (m : Tally) (buf : List ℕ) (told : Bool) → record_in_range bus ≡ true → all_run bus.periods ≡ false
+    → record_in_range (answer_after bus m buf told).bus ≡ true

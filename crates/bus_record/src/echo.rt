@@ -4,22 +4,19 @@ ghost use Rattle.std.specs.Prelude.{◌≡◌};
 ghost use Rattle.bus_rules.specs.Quick.{shown_by};
 ghost use Rattle.exchange.specs.Shown.{letters_at_e};
 ghost use Rattle.bus_record.specs.Echo.{letter_at, hit_in, first_tally, built_down, heard_down};
-ghost use Rattle.cycle.specs.Cycle.{taken, bits_at};
-ghost use Rattle.symbols.specs.Calls.{leaves, has_line_length};
-ghost use Rattle.info.specs.Info.{info4_with};
 
 use super::record::BusRecord;
 use combining::hit::{KEEP_LETTER, apply_hit};
 use exchange::tally::{Letters, Tally};
-use frame::fields::{CycleBits, Four};
+use frame::fields::Four;
 use heard_line::heard::Downward;
 use heard_line::sensing::{SensedDown, sense_down};
-use info::info::{info0, info2_with, info4, info4_with};
+use info::info::{info0, info2, info4};
 use symbols::{LINE_LENGTH, NONE};
 use table_6_3::info_sent;
 
 // Gives the letter at index i, the keep letter past the end.
-pub(crate) fn letter_at(letters: &[u8], i: usize) -> u8
+fn letter_at(letters: &[u8], i: usize) -> u8
     ensures { result ≡ letter_at letters.now i }
 {
     if i < letters.len() {
@@ -70,34 +67,15 @@ pub fn shown_by(state: u8) -> Downward
     }
 }
 
-// Gives the bits that the cycle sets in the coming exchange.
-pub(crate) fn cycle_bits(bus: BusRecord) -> CycleBits
-    ensures { result ≡ bits_at (taken bus.cycle) }
-{
-    let cycle = bus.cycle.taken();
-    cycle.bits()
-}
-
-// Writes INFO 4 with the cycle's bits: where none is set, by its few pulses.
-fn put_info4(bits: CycleBits, es: Four, line: &mut [u8])
-    ensures { line.new ≡ leaves (has_line_length line.old) (info4_with bits es) line.old }
-{
-    if bits.fa | bits.m | bits.s {
-        info4_with(bits, es, line);
-    } else {
-        info4(es, line);
-    }
-}
-
-// Builds the line that a network end in `state` sends, with the cycle's bits and the four E `es`.
-fn build_down(bits: CycleBits, state: u8, es: Four, line: &mut [u8])
-    ensures { line.new ≡ built_down bits state es line.old }
+// Builds the line that a network end in `state` sends, with the four E `es`.
+fn build_down(state: u8, es: Four, line: &mut [u8])
+    ensures { line.new ≡ built_down state es line.old }
 {
     let info = info_sent(state);
     if info == 4 {
-        put_info4(bits, es, line);
+        info4(es, line);
     } else if info == 2 {
-        info2_with(bits, line);
+        info2(line);
     } else {
         info0(line);
     }
@@ -119,7 +97,7 @@ pub fn heard_down(bus: BusRecord, ds: Four, letters: &[u8]) -> Downward
         fourth: ds.third,
     };
     let mut line = [NONE; LINE_LENGTH];
-    build_down(cycle_bits(bus), bus.network.state, es, &mut line);
+    build_down(bus.network.state, es, &mut line);
     apply_hit(&mut line, letters);
     match sense_down(&line) {
         SensedDown::Line(shown) => shown,

@@ -1,5 +1,4 @@
 // The bus record, and what a period does beside what it does to each terminal.
-pub mod crossing;
 pub mod echo;
 pub mod reading;
 pub mod record;

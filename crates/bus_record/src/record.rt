@@ -14,7 +14,7 @@ pub struct BusRecord {
     pub periods: Periods,
     pub opportunities: Opportunities,
     pub reader: Reader,
-    // The cycle of Q and S bits: the first message starts it.
+    // The cycle of Q and S bits: nothing starts it yet.
     pub cycle: Cycle,
     // The last combined D that the network end heard, which the next E echoes.
     pub echo: bool,
@@ -58,15 +58,6 @@ impl BusRecord {
         bus
     }
 
-    // Gives the record with another cycle of Q and S bits.
-    pub fn with_cycle(self, cycle: Cycle) -> Self
-        ensures { result ≡ spec.with_cycle cycle self }
-    {
-        let mut bus = self;
-        bus.cycle = cycle;
-        bus
-    }
-
     // Gives the record with another last D.
     pub fn with_echo(self, echo: bool) -> Self
         ensures { result ≡ spec.with_echo echo self }
@@ -93,7 +84,7 @@ impl BusRecord {
         let periods = self.periods.in_range();
         let opportunities = self.opportunities.in_range(self.periods);
         let reader = self.reader.in_range();
-        let cycle = self.cycle.in_range();
+        let cycle = self.cycle.rests();
         network & periods & opportunities & reader & cycle
     }
 }

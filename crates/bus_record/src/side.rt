@@ -1,18 +1,14 @@
 // The network end's side of a period: it reads D, hears the upward line, and then come the timers
 // due at the next one's start.
 ghost use Rattle.std.specs.Prelude.{◌≡◌};
-ghost use Rattle.bus_rules.specs.Quick.{shown_with, shown_from};
+ghost use Rattle.bus_rules.specs.Quick.{shown_from};
 ghost use Rattle.bus_record.specs.NetworkSide.{reader_after, network_rests, network_listens, counted_after};
-ghost use Rattle.bus_record.specs.NetworkSide.{sent_in, shown_in, answer_with, with_cycle_on, answer_after, octets_after};
-ghost use Rattle.bus_record.specs.NetworkSide.{refused_run};
+ghost use Rattle.bus_record.specs.NetworkSide.{answer_with, answer_after, octets_after, refused_run};
 
-use super::crossing::{Crossed, cycle_on};
 use super::reading::{Spoken, read_in};
 use super::record::BusRecord;
-use cycle::record::Cycle;
 use d_reader::Reader;
 use exchange::tally::Tally;
-use frame::fields::Four;
 use heard_line::heard::Upward;
 use network::Network;
 use notes_and_cells::cell::NO_NOTES;
@@ -54,50 +50,6 @@ pub fn shown_from(info1: bool, info3: bool) -> Upward
         pulse: info1 | info3,
         framed: info3 & !info1,
         info1: info1 & !info3,
-    }
-}
-
-// Gives the same where a cycle runs: by the FA and the D that are sent together, too.
-fn shown_with(info1: bool, info3: bool, fa: bool, ds: Four) -> Upward
-    ensures { result ≡ shown_with info1 info3 fa ds }
-{
-    if info1 {
-        let ones = ds.first & ds.second & ds.third & ds.fourth;
-        return Upward {
-            pulse: true,
-            framed: false,
-            info1: fa & ones,
-        };
-    }
-    Upward {
-        pulse: info3,
-        framed: info3 & !(ds.first & fa),
-        info1: false,
-    }
-}
-
-// Gives the D bits that are sent together: those heard, with D25 as it was before INFO 1 inverted
-// it.
-fn sent_in(tally: Tally) -> Four
-    ensures { result ≡ sent_in tally }
-{
-    let ds = tally.ds;
-    Four {
-        first: ds.first,
-        second: ds.second != tally.info1,
-        third: ds.third,
-        fourth: ds.fourth,
-    }
-}
-
-// Gives what the terminals' line shows after the exchange.
-fn shown_in(bus: BusRecord, tally: Tally, x: Crossed) -> Upward
-    ensures { result ≡ shown_in bus tally x }
-{
-    if bus.cycle.running {
-        shown_with(tally.info1, tally.info3, x.fa, sent_in(tally))
-    } else {
-        shown_from(tally.info1, tally.info3)
     }
 }
 
@@ -207,36 +159,18 @@ fn ran_with(
     }
 }
 
-// Lets the cycle go on: with it the answer may tell of what was heard.
-fn with_cycle_on(cycle: Cycle, answer: RunAnswer) -> RunAnswer
-    ensures { result ≡ with_cycle_on cycle answer }
-{
-    let mut after = answer;
-    after.told = answer.told | cycle.tells();
-    after.bus = answer.bus.with_cycle(cycle);
-    after
-}
-
-// Runs the network end's side of a period, after the exchange, in which `x` crossed the lines for the
-// cycle, and the terminals' hearing.
-pub fn network_side(
-    bus: BusRecord,
-    tally: Tally,
-    x: Crossed,
-    octets: &mut [u8],
-    told: bool,
-) -> RunAnswer
-    ensures value { result ≡ answer_after bus tally x octets.old told }
+// Runs the network end's side of a period, after the exchange and the terminals' hearing.
+pub fn network_side(bus: BusRecord, tally: Tally, octets: &mut [u8], told: bool) -> RunAnswer
+    ensures value { result ≡ answer_after bus tally octets.old told }
     ensures octets_after { octets.new ≡ octets_after bus tally octets.old }
 {
     let spoken = read_in(bus.network.state, bus.reader, tally.ds, octets);
-    let side = network_listens(bus.network, shown_in(bus, tally, x), bus.periods);
-    let ran = ran_with(bus, tally, spoken, side, told);
-    if bus.cycle.running {
-        with_cycle_on(cycle_on(bus, x), ran)
-    } else {
-        ran
-    }
+    let side = network_listens(
+        bus.network,
+        shown_from(tally.info1, tally.info3),
+        bus.periods,
+    );
+    ran_with(bus, tally, spoken, side, told)
 }
 
 // Gives the record as it is, with a reply: nothing is run.

@@ -29,8 +29,8 @@ use Rattle.terminal.specs.Calls as terminalCalls
 use Rattle.terminal.specs.declared.Terminal.{Terminal}
 use Rattle.terminal.proofs.Laws.{handed_over_called}
 use Rattle.bus_rules.specs.Bus.{Bus, terminals}
-use Rattle.notes_and_cells.specs.Events.{ON, OFF, AR, DR, D1, D2, HIT, S}
-use Rattle.bus_rules.specs.Event.{among, network_events, station_of, class_of, event_for, too_large, bars_network, bars_terminal, bars, call_reasons, state_reasons, reasons, first_holding, refusal, network_does, terminal_does}
+use Rattle.notes_and_cells.specs.Events.{ON, OFF, AR, DR, D1, D2, HIT}
+use Rattle.bus_rules.specs.Event.{among, network_events, station_of, class_of, event_for, bars_network, bars_terminal, bars, call_reasons, state_reasons, reasons, first_holding, refusal, network_does, terminal_does}
 use Rattle.bus_rules.proofs.Refusals.{numbers_of, holds, none_holds, first_append}
 
 -- ---- power and requests: the reply is 5 where the rules bar the event, and 0 at every cell
@@ -112,7 +112,7 @@ frame_reply value t = cond (eqb t.state F7) (cond (is_body value) (cond (eqb t.a
 unfoldable pub replied : Bus → ℕ → ℕ → List ℕ → ℕ
 replied b unit number value =
     cond (eqb unit 0)
-    (cond (eqb number HIT || eqb number S) 0 (network_does number b.periods b.network).reply)
+    (cond (eqb number HIT) 0 (network_does number b.periods b.network).reply)
     (cond (eqb (class_of number) 0) (terminal_does number b.periods (station_of b unit).terminal).reply (frame_reply value (station_of b unit).terminal))
 
 pub frame_reasons : (value : List ℕ) (t : Terminal) →
@@ -142,10 +142,6 @@ module _ (unit number : ℕ) (value : List ℕ) where
     unfolding call_reasons
     for_its_unit = not-false (event_for unit number) (not_held 4)
 
-    pub not_too_large : too_large number value ≡ false
-    unfolding call_reasons
-    not_too_large = not_held 15
-
 module _ (b : Bus) (unit : ℕ) (value : List ℕ) where
   -- the number that the state of the bus decides
   abbrev by_state : ℕ → ℕ
@@ -156,7 +152,7 @@ module _ (b : Bus) (unit : ℕ) (value : List ℕ) where
   network_replies t number k =
       at_among (λ number. by_state number ≡ replied b unit number value) number network_events k (
         rw t (sym (network_bars AR b.periods b.network refl)),
-        (rw t (sym (network_bars DR b.periods b.network refl)), (rw t, (rw t, tt))),
+        (rw t (sym (network_bars DR b.periods b.network refl)), (rw t, tt)),
       )
 
   terminal_replies : eqb unit 0 ≡ false → (number : ℕ) → by_state number ≡ replied b unit number value

@@ -1,16 +1,16 @@
 -- The laws of `specs/Off.antt`.
 use mathlib.Core.Path.{◌≡◌, refl, ap, ◌∙◌}
-use mathlib.Core.Bool.{Bool, true, false, cond, ◌&&◌}
+use mathlib.Core.Bool.{Bool, false, cond}
 use mathlib.Core.List.{List, [], ◌∷◌, map}
 use Prim.Native.Nat.{ℕ, suc, ◌-◌}
 use lib.Dec.{eqb}
-use Rattle.test_lemmas.proofs.ByCases.{by_test, clash, and_left, and_right}
+use Rattle.test_lemmas.proofs.ByCases.{by_test}
 use Rattle.frame.specs.Four.{filled_with_ones}
 use Rattle.frame.specs.declared.fields.CycleBits.{CycleBits}
 use Rattle.info.specs.Info.{unset}
 use Rattle.combining.specs.Combine.{combined}
 use Rattle.combining.specs.Sent.{sent_line}
-use Rattle.cycle.specs.Cycle.{q_given, s_given, taken, bits_at, heard_in}
+use Rattle.cycle.specs.Cycle.{taken, bits_at, heard_in}
 use Rattle.cycle.specs.declared.record.Cycle.{Cycle}
 use Rattle.cycle.specs.Periods as cycles
 use Rattle.cycle.proofs.Laws.{not_running}
@@ -22,12 +22,11 @@ use Rattle.bus_rules.specs.Exchange.{Sender, Opportunity, struck_by, sent_down, 
 use Rattle.bus_rules.specs.Order.{no_cycle, unit_by_unit}
 use Rattle.bus_rules.specs.CycleNotes.{q_notes, s_notes, cycle_notes}
 use Rattle.bus_rules.specs.Period.{cycle_after, heard_by, timed, period_run}
-use Rattle.bus_rules.specs.Event.{network_done, hit_given, q_done, s_done, gives_message, message_done, station_done, event_done}
+use Rattle.bus_rules.specs.Event.{network_done, hit_given, station_done, event_done}
 use Rattle.bus_rules.specs.Calls.{Call, reply, does, after, after_all}
 use Rattle.bus_rules.specs.Calls.Call.{event, period}
 use Rattle.bus_rules.specs.Off.{down_off, up_off, LinesOff}
 use Rattle.bus_rules.specs.Off as off
-use Rattle.bus_rules.proofs.Refusals.{or_false}
 
 -- ---- The cycle in the exchange, and after it.
 pub cycle_then : (b : Bus) → (exchanged b).cycle ≡ taken b.cycle
@@ -53,47 +52,26 @@ pub period_off : (b : Bus) → b.cycle.running ≡ false → (period_run b).cycl
 unfolding period_run timed heard_by
 period_off b h = after_off b h
 
-pub event_off : (unit number : ℕ) (value : List ℕ) (b : Bus) → gives_message unit number ≡ false → (event_done unit number value b).cycle ≡ b.cycle
+pub event_off : (unit number : ℕ) (value : List ℕ) (b : Bus) → (event_done unit number value b).cycle ≡ b.cycle
 unfolding event_done hit_given network_done station_done
-event_off unit number value b m =
-    rw m (by_test (eqb unit 0) (λ t. rw t (by_test (eqb number HIT) (λ u. rw u) (λ u. rw u))) (λ t. rw t))
+event_off unit number value b =
+    by_test (eqb unit 0) (λ t. rw t (by_test (eqb number HIT) (λ u. rw u) (λ u. rw u))) (λ t. rw t)
 
-left_false : (a b : Bool) → b ≡ true → (a && b) ≡ false → a ≡ false
-left_false true b e h = clash b e h
-left_false false b e h = refl
+call_off : (b : Bus) (c : Call) → b.cycle.running ≡ false → (does b c).cycle ≡ b.cycle
+unfolding does
+call_off b (event unit number value) h = event_off unit number value b
+call_off b period h = period_off b h
 
-call_off : (b : Bus) (c : Call) → b.cycle.running ≡ false → eqb (reply b c) 0 ≡ true → off.gives_one b c ≡ false → (does b c).cycle ≡ b.cycle
-unfolding does off.gives_one
-call_off b (event unit number value) h t g = event_off unit number value b (left_false (gives_message unit number) _ t g)
-call_off b period h t g = period_off b h
-
-call_stays_off : (b : Bus) (c : Call) → b.cycle.running ≡ false → off.gives_one b c ≡ false → (after b c).cycle ≡ b.cycle
+pub call_stays_off : (b : Bus) (c : Call) → b.cycle.running ≡ false → (after b c).cycle ≡ b.cycle
 unfolding after
-call_stays_off b c h g = by_test (eqb (reply b c) 0) (λ t. rw t (call_off b c h t g)) (λ t. rw t)
+call_stays_off b c h = by_test (eqb (reply b c) 0) (λ t. rw t (call_off b c h)) (λ t. rw t)
 
 pub cycle_stays_off : off.CycleStaysOff
-unfolding after_all off.any_gives
-cycle_stays_off b [] h g = refl
-cycle_stays_off b (c ∷ more) h g =
-    let none = or_false (off.gives_one b c) (off.any_gives (after b c) more) g in
-    let e = call_stays_off b c h none.0 in
-    cycle_stays_off (after b c) more (ap (λ (d : Cycle). d.running) e ∙ h) none.1 ∙ e
-
--- ---- A message starts it.
-started : (unit : ℕ) (value : List ℕ) (b : Bus) → b.cycle.running ≡ false
-    → ((message_done unit value b).cycle.running ≡ true) × ((message_done unit value b).cycle.place ≡ 0)
-unfolding message_done q_done s_done q_given s_given
-started unit value b h = by_test (eqb unit 0) (λ t. rw t (refl, either h)) (λ t. rw t (refl, either h))
-  where
-    either : b.cycle.running ≡ false → cond b.cycle.running b.cycle.place 0 ≡ 0
-    either e = rw e
-
-pub message_starts : off.MessageStarts
-unfolding off.gives_one after does event_done
-message_starts b unit number value h g =
-    let taken-up = and_right (gives_message unit number) (eqb (reply b (event unit number value)) 0) g in
-    let gives = and_left (gives_message unit number) (eqb (reply b (event unit number value)) 0) g in
-    rw (taken-up, gives) (started unit value b h)
+unfolding after_all
+cycle_stays_off b [] h = refl
+cycle_stays_off b (c ∷ more) h =
+    let e = call_stays_off b c h in
+    cycle_stays_off (after b c) more (ap (λ (d : Cycle). d.running) e ∙ h) ∙ e
 
 -- ---- The lines.
 bits_off : (c : Cycle) → c.running ≡ false → bits_at c ≡ unset

@@ -7,7 +7,7 @@ use Prim.Native.Nat.{ℕ, zero, suc, ◌+◌, ◌-◌, ◌*◌, ◌≤◌, ◌<�
 use native.Mathlib.Omega.{arith}
 use lib.Dec.{eqb, leb}
 use lib.ListN.{length, replicate}
-use borrow.Author.Tests.{eqb-true, eqb-false, leb-false, ltb-false}
+use borrow.Author.Tests.{eqb-true, leb-false}
 use Rattle.test_lemmas.proofs.ByCases.{by_test, clash}
 use Rattle.symbols.specs.Symbols.{line_length, within, fits}
 use Rattle.combining.specs.Hit.{none_letter}
@@ -26,10 +26,9 @@ use Rattle.timing.specs.Counts.{most_periods}
 use Rattle.timing.specs.declared.counts.Periods.{Periods}
 use Rattle.timing.specs.Calls.{at_period}
 use Rattle.contention.proofs.Change.{length_change}
-use Rattle.cycle.specs.Cycle.{no_q, s_messages, cycle_in_range, q_given, s_given}
-use Rattle.cycle.specs.declared.record.Cycle.{Cycle}
+use Rattle.cycle.specs.Cycle.{cycle_in_range}
 use Rattle.cycle.specs.Periods as cycles
-use Rattle.cycle.proofs.Laws.{period_kept, q_given_kept, s_given_kept}
+use Rattle.cycle.proofs.Laws.{period_kept}
 use Rattle.heard_line.specs.Sensing.{shown_up, shown_down}
 use Rattle.network.specs.Network as network
 use Rattle.network.specs.Calls as networkCalls
@@ -42,11 +41,11 @@ use Rattle.terminal.specs.declared.Terminal.{Terminal}
 use Rattle.terminal.specs.declared.TerminalStep.{TerminalStep}
 use Rattle.terminal.proofs.Laws as terminal-laws
 use Rattle.terminal.proofs.RangesKept as terminal-kept
-use Rattle.bus_rules.specs.Bus.{Station, Bus, terminals, fresh_station, fresh_bus, station_at, with_cycle}
+use Rattle.bus_rules.specs.Bus.{Station, Bus, terminals, fresh_station, fresh_bus, station_at}
 use Rattle.bus_rules.specs.Exchange.{in_f7, access_step_of, station_after_e, exchanged, whole_down, whole_up}
 use Rattle.bus_rules.specs.Period.{network_hears, terminal_hears, stepped, done_codes, cycle_after, heard_by, timed, period_run}
-use Rattle.bus_rules.specs.Event.{among, station_of, class_of, refusal, message_in, network_does, network_done, hit_given, q_done, s_done, gives_message, message_done, terminal_does, with_frame, station_after, station_done, event_done}
-use Rattle.notes_and_cells.specs.Events.{ON, OFF, AR, D1, D2, HIT, Q, S}
+use Rattle.bus_rules.specs.Event.{among, station_of, class_of, refusal, network_does, network_done, hit_given, terminal_does, with_frame, station_after, station_done, event_done}
+use Rattle.notes_and_cells.specs.Events.{ON, OFF, AR, D1, D2, HIT}
 use Rattle.bus_rules.specs.Calls.{Call, reply, does, after, after_all}
 use Rattle.bus_rules.specs.Calls.Call.{event, period}
 use Rattle.bus_rules.specs.Stretch.{station_then}
@@ -182,9 +181,9 @@ terminals_heard_lem b l r i = rw (station_heard i (exchanged b) b) (hears_in b.p
 terminals_timed_lem : (b : Bus) → InRange b → Each Fit (timed b).stations
 terminals_timed_lem b r i = rw (station_timed i b) (timer_in b.periods r.periods_fit (station_at i b) (r.terminals_fit i))
 
-cycle_in_lem : (b : Bus) → cycle_in_range b.cycle ≡ true → cycle_in_range (cycle_after (exchanged b)) ≡ true
+cycle_in : (b : Bus) → cycle_in_range b.cycle ≡ true → cycle_in_range (cycle_after (exchanged b)) ≡ true
 unfolding cycle_after cycles.period
-cycle_in_lem b h =
+cycle_in b h =
     rw (cycle_then b)
     (period_kept (record { fa = _; s = _; g3 = _; f7 = _ }) b.cycle h)
 
@@ -199,7 +198,7 @@ heard_in_lem b l r =
           rw (network_hears_called b.periods now (whole_up (exchanged b)) b.network r.network_fits) at
           (network_kept.heard_in_range (at_period b.periods) b.network r.network_fits (shown_up (whole_up (exchanged b))));
       hit_fits_lem = refl;
-      cycle_fits = cycle_in_lem b r.cycle_fits;
+      cycle_fits = cycle_in b r.cycle_fits;
       eight = length_heard b ∙ r.eight;
       terminals_fit = terminals_heard_lem b now r;
     }
@@ -270,53 +269,16 @@ letters_fit true true h e = refl
 letters_fit true false h e = clash true refl h
 letters_fit false f h e = clash false e refl
 
--- a message that is not too large fits the cycle
-cycled_in : (c : Cycle) (b : Bus) → cycle_in_range c ≡ true → InRange b → InRange (with_cycle c b)
-cycled_in c b f r =
-    record {
-      periods_fit = r.periods_fit;
-      opportunities_fit = r.opportunities_fit;
-      network_fits = r.network_fits;
-      hit_fits_lem = r.hit_fits_lem;
-      cycle_fits = f;
-      eight = r.eight;
-      terminals_fit = r.terminals_fit;
-    }
-
-unit_index : (unit : ℕ) → (unit ≡ 0 → ⊥) → unit ≤ terminals → unit - 1 < terminals
-unit_index zero n l = absurd (n refl)
-unit_index (suc u) n l = omega (arith, l)
-
-message_in_lem : (unit number : ℕ) (value : List ℕ) (b : Bus) → refusal b unit number value ≡ 0 → gives_message unit number ≡ true → InRange b →
-    InRange (message_done unit value b)
-unfolding message_done q_done s_done
-message_in_lem unit number value b h m r =
-    let a = accepted b unit number value h in
-    by_test (eqb unit 0)
-    (λ t.
-    let e = eqb-true number S (rw t at m) in
-    rw t
-    (cycled_in (s_given (message_in value) b.cycle) b
-    (s_given_kept (message_in value) b.cycle (leb-false s_messages (message_in value) (rw e at a.not_too_large)) r.cycle_fits) r))
-    (λ t.
-    let e = eqb-true number Q (rw t at m) in
-    rw t
-    (cycled_in (q_given (unit - 1) (message_in value) b.cycle) b
-    (q_given_kept (unit - 1) (message_in value) b.cycle (unit_index unit (eqb-false unit 0 t) (ltb-false terminals unit a.unit_known))
-    (ltb-false no_q (message_in value) (rw e at a.not_too_large)) r.cycle_fits) r))
-
 pub event_in : (unit number : ℕ) (value : List ℕ) (b : Bus) → refusal b unit number value ≡ 0 → InRange b → InRange (event_done unit number value b)
 unfolding event_done
 event_in unit number value b h r =
-    by_test (gives_message unit number) (λ m. rw m (message_in_lem unit number value b h m r))
-    (λ m. rw m
-    (by_test (eqb unit 0)
+    by_test (eqb unit 0)
     (λ t.
     rw t
     (by_test (eqb number HIT)
     (λ u. rw u (given_in value b (letters_fit (eqb number HIT) _ (accepted b unit number value h).letters u) r))
     (λ u. rw u (network_in_lem number b r))))
-    (λ t. rw t (changed_in unit number value b (station_in_lem unit number value b h r.periods_fit (r.terminals_fit (unit - 1))) r))))
+    (λ t. rw t (changed_in unit number value b (station_in_lem unit number value b h r.periods_fit (r.terminals_fit (unit - 1))) r))
 
 -- ---- every call, every list of calls
 pub call_in : (b : Bus) (c : Call) → InRange b → InRange (after b c)
@@ -395,18 +357,11 @@ event_called b unit number value h r =
     }
 
 -- ---- what the record counts
-message_counts : (unit : ℕ) (value : List ℕ) (b : Bus) →
-    ((message_done unit value b).periods ≡ b.periods) × ((message_done unit value b).opportunities ≡ b.opportunities)
-unfolding message_done q_done s_done
-message_counts unit value b = by_test (eqb unit 0) (λ t. rw t (refl, refl)) (λ t. rw t (refl, refl))
-
 event_counts : (unit number : ℕ) (value : List ℕ) (b : Bus) →
     ((event_done unit number value b).periods ≡ b.periods) × ((event_done unit number value b).opportunities ≡ b.opportunities)
 unfolding event_done hit_given network_done station_done
 event_counts unit number value b =
-    by_test (gives_message unit number) (λ m. rw m (message_counts unit value b))
-    (λ m. rw m
-    (by_test (eqb unit 0) (λ t. rw t (by_test (eqb number HIT) (λ u. rw u (refl, refl)) (λ u. rw u (refl, refl)))) (λ t. rw t (refl, refl))))
+    by_test (eqb unit 0) (λ t. rw t (by_test (eqb number HIT) (λ u. rw u (refl, refl)) (λ u. rw u (refl, refl)))) (λ t. rw t (refl, refl))
 
 pub either_zero : (t : Bool) → cond {A = ℕ} t 0 0 ≡ 0
 either_zero true = refl

@@ -89,7 +89,7 @@ at_listed [] i h n e = absurd (omega arith)
 at_listed (r ∷ rs) zero h n e = rw (eq-eqb n r.0 e)
 at_listed (r ∷ rs) (suc i) h n e = by_test (eqb n r.0) (λ t. rw t) (λ t. rw t (at_listed rs i (omega arith) n e))
 
-pub or_false : (a b : Bool) → (a || b) ≡ false → (a ≡ false) × (b ≡ false)
+or_false : (a b : Bool) → (a || b) ≡ false → (a ≡ false) × (b ≡ false)
 or_false true b h = clash true refl h
 or_false false b h = (refl, h)
 

@@ -30,7 +30,7 @@ use Rattle.bus_rules.specs.Bus.{Station, Bus, terminals, fresh_station}
 use Rattle.bus_rules.specs.Exchange.{Opportunity, in_f7, stations_of, onward, begins, opportunities_of, exchanged, whole_down, whole_up}
 use Rattle.bus_rules.specs.BusChannel.{contender_of, contenders_of, channel_of, Imaged, AllImaged}
 use Rattle.bus_rules.specs.Period.{reading_after, network_hears, terminal_hears, stepped, heard_by, timed, period_run}
-use Rattle.bus_rules.specs.Event.{station_of, class_of, event_for, too_large, bars, gives_frame, call_reasons, state_reasons, reasons, refusal, network_does, network_done, hit_given, q_done, s_done, gives_message, message_done, terminal_does, with_frame, station_after, station_done, event_done}
+use Rattle.bus_rules.specs.Event.{station_of, class_of, event_for, bars, gives_frame, call_reasons, state_reasons, reasons, refusal, network_does, network_done, hit_given, terminal_does, with_frame, station_after, station_done, event_done}
 use Rattle.notes_and_cells.specs.Events.{D1, D2, HIT}
 use Rattle.bus_rules.specs.Calls.{Call, reply, does, after, after_all}
 use Rattle.bus_rules.specs.Calls.Call.{event, period}
@@ -78,7 +78,6 @@ pub record Accepted (b : Bus) (unit number : ℕ) (value : List ℕ) : Type 0 wh
   pub letters : (eqb number HIT && not (fits line_length none_letter value)) ≡ false
   pub unit_known : ltb terminals unit ≡ false
   pub for_unit : not (event_for unit number) ≡ false
-  pub not_too_large : too_large number value ≡ false
   pub not_barred : bars b unit number ≡ false
   pub in_f7_lem : (gives_frame number && not (eqb (station_of b unit).terminal.state F7)) ≡ false
   pub a_body : (gives_frame number && not (is_body value)) ≡ false
@@ -88,7 +87,7 @@ pub accepted : (b : Bus) (unit number : ℕ) (value : List ℕ) → refusal b un
 unfolding reply reasons call_reasons state_reasons
 accepted b unit number value h =
     let n = accepted_holds b unit number value h in
-    record { letters = n 2; unit_known = n 3; for_unit = n 4; not_too_large = n 15; not_barred = n 5; in_f7_lem = n 6; a_body = n 7; none_held = n 8 }
+    record { letters = n 2; unit_known = n 3; for_unit = n 4; not_barred = n 5; in_f7_lem = n 6; a_body = n 7; none_held = n 8 }
 
 -- what a terminal has met that takes a frame
 pub record Takes (s : Station) (body : List ℕ) : Type 0 where
@@ -133,21 +132,15 @@ station_taken number now value u s h = rw u (frame_taken s (class_of number) val
 
 unfoldable pub event_actions : ℕ → ℕ → List ℕ → Bus → List Action
 event_actions unit number value b =
-    cond (gives_message unit number) []
-    (cond (eqb unit 0)
+    cond (eqb unit 0)
     (cond (eqb number HIT) [] (clearing (eqb b.network.state G3) (eqb (network_does number b.periods b.network).network.state G3)))
     (cond (eqb (class_of number) 0)
     (crossing (unit - 1) (in_f7 (station_of b unit)) (in_f7 (stepped (terminal_does number b.periods) (station_of b unit))))
-    (hand (unit - 1) (class_of number) value ∷ [])))
+    (hand (unit - 1) (class_of number) value ∷ []))
 
 one_changes : (f : Station → Station) (g : Contender → Contender) (i : ℕ) (b : Bus) → contender_of (f (get_or b.stations i fresh_station)) ≡ g (contender_of (get_or b.stations i fresh_station)) →
     with_contenders (channel_of b) (contenders_of (change f i b.stations)) ≡ with_contenders (channel_of b) (change g i (contenders_of b.stations))
 one_changes f g i b e = ap (with_contenders (channel_of b)) (change_map f contender_of g fresh_station i b.stations e)
-
--- a message is nothing to the channel
-message_channel : (unit : ℕ) (value : List ℕ) (b : Bus) → channel_of (message_done unit value b) ≡ channel_of b
-unfolding message_done q_done s_done channel_of
-message_channel unit value b = by_test (eqb unit 0) (λ t. rw t) (λ t. rw t)
 
 pub event_channel : (unit number : ℕ) (value : List ℕ) (b : Bus) → refusal b unit number value ≡ 0 →
     channel_of (event_done unit number value b) ≡ run normal1 normal2 (channel_of b) (event_actions unit number value b)
@@ -157,12 +150,11 @@ event_channel unit number value b h =
     let s = station_of b unit in
     let was = in_f7 s in
     let is = in_f7 (stepped (terminal_does number b.periods) s) in
-    by_test (gives_message unit number) (λ m. rw m (message_channel unit value b))
-    (λ m. rw m (by_test (eqb unit 0)
+    by_test (eqb unit 0)
     (λ t. rw t (by_test (eqb number HIT) (λ u. rw u) (λ u. rw u (sym (run_clearing normal1 normal2 _ _ (channel_of b))))))
     (λ t. rw t (by_test (eqb (class_of number) 0)
     (λ u. rw u (one_changes f (crossed was is) (unit - 1) b (station_crossed number b.periods value u s) ∙ sym (run_crossing normal1 normal2 was is (unit - 1) (channel_of b))))
-    (λ u. rw u (one_changes f (holding (class_of number) value) (unit - 1) b (station_taken number b.periods value u s (accepted_frame b unit number value h u))))))))
+    (λ u. rw u (one_changes f (holding (class_of number) value) (unit - 1) b (station_taken number b.periods value u s (accepted_frame b unit number value h u))))))
 
 -- ---- a period
 

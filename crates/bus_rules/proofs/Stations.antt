@@ -1,5 +1,5 @@
 -- Each terminal of a bus through a period and an event.
-use mathlib.Core.Path.{◌≡◌, refl, ◌∙◌, ap}
+use mathlib.Core.Path.{◌≡◌, refl, ◌∙◌}
 use mathlib.Core.Bool.{Bool}
 use mathlib.Core.List.{List, [], ◌∷◌, map}
 use Prim.Native.Nat.{ℕ, zero, suc, ◌+◌, ◌-◌}
@@ -13,7 +13,7 @@ use Rattle.terminal.specs.Terminal as terminal
 use Rattle.bus_rules.specs.Bus.{Station, Bus, fresh_station, station_at}
 use Rattle.bus_rules.specs.Exchange.{Sender, Opportunity, stations_of, station_after_e, hears_e, e_comes, senders_after, onward, as_sender, begins, exchanged, whole_down}
 use Rattle.bus_rules.specs.Period.{terminal_hears, stepped, heard_by, timed, period_run}
-use Rattle.bus_rules.specs.Event.{station_of, network_done, hit_given, q_done, s_done, gives_message, message_done, station_after, station_done, event_done}
+use Rattle.bus_rules.specs.Event.{station_of, network_done, hit_given, station_after, station_done, event_done}
 use Rattle.notes_and_cells.specs.Events.{HIT}
 use Rattle.bus_rules.specs.Calls.{Call, reply, does, after, after_all}
 use Rattle.bus_rules.specs.Calls.Call.{event, period}
@@ -65,19 +65,10 @@ length_period : (b : Bus) → length (period_run b).stations ≡ length b.statio
 unfolding period_run
 length_period b = length_timed (heard_by (exchanged b) b) ∙ length_heard b
 
--- a message changes no terminal
-message_stations : (unit : ℕ) (value : List ℕ) (b : Bus) → (message_done unit value b).stations ≡ b.stations
-unfolding message_done q_done s_done
-message_stations unit value b = by_test (eqb unit 0) (λ t. rw t) (λ t. rw t)
-
 length_event : (unit number : ℕ) (value : List ℕ) (b : Bus) → length (event_done unit number value b).stations ≡ length b.stations
 unfolding event_done hit_given network_done station_done
 length_event unit number value b =
-    by_test (gives_message unit number)
-    (λ m. rw m (ap length (message_stations unit value b)))
-    (λ m.
-    rw m
-    (by_test (eqb unit 0) (λ t. rw t (by_test (eqb number HIT) (λ u. rw u) (λ u. rw u))) (λ t. rw t (length_change _ (unit - 1) b.stations))))
+    by_test (eqb unit 0) (λ t. rw t (by_test (eqb number HIT) (λ u. rw u) (λ u. rw u))) (λ t. rw t (length_change _ (unit - 1) b.stations))
 
 length_after : (b : Bus) (c : Call) → length (after b c).stations ≡ length b.stations
 unfolding after does
@@ -109,12 +100,8 @@ module _ (P : Station → Type 0) where
       Each P (event_done unit number value b).stations
   unfolding event_done hit_given network_done station_done
   each_event unit number value b p h =
-      by_test (gives_message unit number)
-      (λ m. rw (m, message_stations unit value b) h)
-      (λ m.
-      rw m
-      (by_test (eqb unit 0) (λ t. rw t (by_test (eqb number HIT) (λ u. rw u h) (λ u. rw u h)))
-      (λ t. rw t (each_change (station_after number value b.periods) (unit - 1) b.stations p h))))
+      by_test (eqb unit 0) (λ t. rw t (by_test (eqb number HIT) (λ u. rw u h) (λ u. rw u h)))
+      (λ t. rw t (each_change (station_after number value b.periods) (unit - 1) b.stations p h))
 
   -- what a turn keeps, the exchange keeps
   module _ (keeps : (e : Bool) (s : Station) → P s → P (station_after_e e s)) where

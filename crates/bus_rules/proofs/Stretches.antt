@@ -23,7 +23,7 @@ use Rattle.bus_rules.specs.Bus.{Station, Hit, Bus, fresh_station, station_at}
 use Rattle.bus_rules.specs.Exchange.{Opportunity, in_f7, in_g3, stations_of, any_info1, e_comes, d_comes, senders_after, onward, begins, opportunities_of, exchanged, whole_down, whole_up}
 use Rattle.bus_rules.specs.BusChannel.{contender_of, contenders_of, channel_of, AllImaged}
 use Rattle.bus_rules.specs.Period.{network_hears, terminal_hears, stepped, heard_by, timed, period_run}
-use Rattle.bus_rules.specs.Event.{gives_message, station_of, class_of, refusal, network_does, network_done, terminal_does, station_after, station_done, event_done}
+use Rattle.bus_rules.specs.Event.{station_of, class_of, refusal, network_does, network_done, terminal_does, station_after, station_done, event_done}
 use Rattle.notes_and_cells.specs.Events.{HIT}
 use Rattle.bus_rules.specs.Calls.{Call, reply, does, after}
 use Rattle.bus_rules.specs.Calls.Call.{event, period}
@@ -155,31 +155,30 @@ within_f7 [] i h = absurd (true≢false (sym h))
 within_f7 (s ∷ ss) zero h = omega arith
 within_f7 (s ∷ ss) (suc i) h = omega (arith, within_f7 ss i h)
 
-terminal_stays : (b : Bus) (unit number : ℕ) (value : List ℕ) → gives_message unit number ≡ false → eqb unit 0 ≡ false → eqb (class_of number) 0 ≡ true → Stays b (event_done unit number value b) →
+terminal_stays : (b : Bus) (unit number : ℕ) (value : List ℕ) → eqb unit 0 ≡ false → eqb (class_of number) 0 ≡ true → Stays b (event_done unit number value b) →
     in_f7 (station_of b unit) ≡ true → in_f7 (stepped (terminal_does number b.periods) (station_of b unit)) ≡ true
 unfolding event_done station_done station_after
-terminal_stays b unit number value m t u s h =
+terminal_stays b unit number value t u s h =
     let f = station_after number value b.periods in
     let e : (station_at (unit - 1) (event_done unit number value b)).terminal.state ≡ F7 = s.still_f7 (unit - 1) (eqb-true (station_of b unit).terminal.state F7 h) in
-    let e2 : (f (station_of b unit)).terminal.state ≡ F7 = rw (m, t, change_there f fresh_station (unit - 1) b.stations (within_f7 b.stations (unit - 1) h)) at e in
+    let e2 : (f (station_of b unit)).terminal.state ≡ F7 = rw (t, change_there f fresh_station (unit - 1) b.stations (within_f7 b.stations (unit - 1) h)) at e in
     eq-eqb (stepped (terminal_does number b.periods) (station_of b unit)).terminal.state F7 (rw u at e2)
 
-network_stays : (b : Bus) (unit number : ℕ) (value : List ℕ) → gives_message unit number ≡ false → eqb unit 0 ≡ true → eqb number HIT ≡ false → Stays b (event_done unit number value b) →
+network_stays : (b : Bus) (unit number : ℕ) (value : List ℕ) → eqb unit 0 ≡ true → eqb number HIT ≡ false → Stays b (event_done unit number value b) →
     eqb (network_does number b.periods b.network).network.state G3 ≡ true
 unfolding event_done network_done
-network_stays b unit number value m t u s = eq-eqb (network_does number b.periods b.network).network.state G3 (rw (m, t, u) at s.still_g3)
+network_stays b unit number value t u s = eq-eqb (network_does number b.periods b.network).network.state G3 (rw (t, u) at s.still_g3)
 
 event_stretch : (b : Bus) (unit number : ℕ) (value : List ℕ) → Stays b (event_done unit number value b) →
     channel.Stretch normal1 normal2 (channel_of b) (event_actions unit number value b)
 unfolding channel.Stretch event_actions
 event_stretch b unit number value s =
-    by_test (gives_message unit number) (λ m. rw m tt)
-    (λ m. rw m (by_test (eqb unit 0)
+    by_test (eqb unit 0)
     (λ t. rw t (by_test (eqb number HIT) (λ u. rw u tt)
-    (λ u. rw u (clearing_calm normal1 normal2 (channel_of b) _ _ (network_stays b unit number value m t u s)))))
+    (λ u. rw u (clearing_calm normal1 normal2 (channel_of b) _ _ (network_stays b unit number value t u s)))))
     (λ t. rw t (by_test (eqb (class_of number) 0)
-    (λ u. rw u (crossing_calm normal1 normal2 (channel_of b) (unit - 1) _ _ (terminal_stays b unit number value m t u s)))
-    (λ u. rw u (tt, tt))))))
+    (λ u. rw u (crossing_calm normal1 normal2 (channel_of b) (unit - 1) _ _ (terminal_stays b unit number value t u s)))
+    (λ u. rw u (tt, tt))))
 
 -- ---- a call in a stretch, and all calls
 call_stretch : (b : Bus) (c : Call) → AllImaged b.stations → Calm b c → Stays b (after b c) → channel.Stretch normal1 normal2 (channel_of b) (actions_of b c)
@@ -234,10 +233,9 @@ period_opportunities b h =
 event_opportunities : (b : Bus) (unit number : ℕ) (value : List ℕ) → channel.opportunities normal1 normal2 (channel_of b) (event_actions unit number value b) ≡ []
 unfolding channel.opportunities event_actions
 event_opportunities b unit number value =
-    by_test (gives_message unit number) (λ m. rw m)
-    (λ m. rw m (by_test (eqb unit 0)
+    by_test (eqb unit 0)
     (λ t. rw t (by_test (eqb number HIT) (λ u. rw u) (λ u. rw u (clearing_none normal1 normal2 (channel_of b) _ _))))
-    (λ t. rw t (by_test (eqb (class_of number) 0) (λ u. rw u (crossing_none normal1 normal2 (channel_of b) (unit - 1) _ _)) (λ u. rw u)))))
+    (λ t. rw t (by_test (eqb (class_of number) 0) (λ u. rw u (crossing_none normal1 normal2 (channel_of b) (unit - 1) _ _)) (λ u. rw u)))
 
 call_opportunities : (b : Bus) (c : Call) → AllImaged b.stations → channel.opportunities normal1 normal2 (channel_of b) (actions_of b c) ≡ map channel_at (opportunities_of_call b c)
 unfolding channel.opportunities actions_of opportunities_of_call

@@ -29,7 +29,7 @@ use Rattle.bus_rules.specs.Order.{no_cycle, unit_by_unit}
 use Rattle.bus_rules.specs.CycleNotes.{q_notes, s_notes, cycle_notes}
 use Rattle.bus_rules.specs.Period.{network_hears, terminal_hears, said_notes, done_codes, hearing_codes, timer_codes, cycle_after, heard_by, period_notes}
 use Rattle.bus_rules.specs.TwoParts.{notes_heard, notes_timed, TwoParts}
-use Rattle.bus_rules.specs.Event.{gives_message, station_of, class_of, network_does, terminal_does, event_notes}
+use Rattle.bus_rules.specs.Event.{station_of, class_of, network_does, terminal_does, event_notes}
 use Rattle.notes_and_cells.specs.Events.{AR, HIT}
 use Rattle.bus_rules.specs.Calls.{Call, reply, tells, after, notes}
 use Rattle.bus_rules.specs.Calls.Call.{event, period}
@@ -388,9 +388,7 @@ module _ (unit number : ℕ) (value : List ℕ) (b : Bus) where
   event_plain : (P : List Note → Type 0) → P [] → ((u : ℕ) (codes : List ℕ) → plain codes → P (notes_of b.periods u codes)) → P (event_notes unit number value b)
   unfolding event_notes
   event_plain P none some =
-      by_test (gives_message unit number) (λ m. rw m none)
-      (λ m. rw m
-      (by_test (eqb unit 0)
+      by_test (eqb unit 0)
       (λ t.
       rw t
       (by_test (eqb number HIT) (λ u. rw u none) (λ u. rw u (some 0 _ (network_does_plain number b.periods b.network)))))
@@ -398,7 +396,7 @@ module _ (unit number : ℕ) (value : List ℕ) (b : Bus) where
       rw t
       (by_test (eqb (class_of number) 0)
       (λ u. rw u (some unit _ (terminal_does_plain number b.periods (station_of b unit).terminal)))
-      (λ u. rw u none)))))
+      (λ u. rw u none)))
 
   heard_event : heard_in (event_notes unit number value b) ≡ []
   unfolding heard_in

@@ -3,12 +3,15 @@
 -- received, unless it is all ones for Q or all zeros for S". They follow from the cycle after the
 -- period's exchange (crate `cycle`: `q_told`, 15 for none, and `s_told`, 0 for none).
 -- Interface: `cycle_notes`. Assumes nothing.
-use Rattle.std.specs.Prelude.{cond, List, [], ◌∷◌, ℕ, ◌-◌, eqb}
+use Rattle.std.specs.Prelude.{cond, List, [], ◌∷◌, ℕ, ◌-◌, ◌/◌, ◌%◌, eqb}
 use Rattle.cycle.specs.Cycle.{no_q, q_told, s_told}
 use Rattle.cycle.specs.declared.record.Cycle.{Cycle}
 use Rattle.notes_and_cells.specs.Notes.{Q, S}
-use Rattle.notes_and_cells.specs.NumberOfOctets.{three_octets}
 use Rattle.bus_rules.specs.Bus.{Note}
+
+-- a number below 16,777,216 as three octets, low-order first
+abbrev pub three_octets : ℕ → List ℕ
+three_octets n = n % 256 ∷ n / 256 % 256 ∷ n / 65536 % 256 ∷ []
 
 unfoldable pub q_notes : ℕ → Cycle → List Note
 q_notes now c = cond (eqb (q_told c) no_q) [] (record { period = now; unit = 0; code = Q; value = q_told c ∷ [] } ∷ [])

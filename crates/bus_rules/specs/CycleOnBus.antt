@@ -15,7 +15,7 @@ use Rattle.table_6_3.specs.Table63.{G3}
 use Rattle.bus_rules.specs.Bus.{Station, Bus, terminals}
 use Rattle.bus_rules.specs.Exchange.{Opportunity, stations_of, in_f7, exchanged, whole_down, fa_down, whole_up}
 use Rattle.bus_rules.specs.Period.{mask_of, period_run}
-use Rattle.bus_rules.specs.Event.{gives_message, event_done}
+use Rattle.bus_rules.specs.Event.{event_done}
 
 -- What a period hears for the cycle: the upward FA and the downward S of the whole lines, after the
 -- hit; who is in G3 and in F7 as the exchange begins, whatever hearing makes of it.
@@ -44,8 +44,7 @@ JointOnBus =
     (m : Opportunity) → length (stations_of m.senders) ≡ terminals
     → fa_bit (levels (whole_up m)) ≡ joint_fa (fa_down m) (mask_of sends_info3 (stations_of m.senders)) m.cycle
 
--- No event but `q` and `s` gives or takes a message, or moves the cycle: `off`, `dr` and whatever else
+-- No event of document 01 gives or takes a message, or moves the cycle: `off`, `dr` and whatever else
 -- leaves F7 or G3 do not.
 abbrev pub EventKeepsCycle : Type 0
-EventKeepsCycle =
-    (unit number : ℕ) (value : List ℕ) (b : Bus) → gives_message unit number ≡ false → (event_done unit number value b).cycle ≡ b.cycle
+EventKeepsCycle = (unit number : ℕ) (value : List ℕ) (b : Bus) → (event_done unit number value b).cycle ≡ b.cycle

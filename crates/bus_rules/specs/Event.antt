@@ -1,13 +1,11 @@
 -- Rules: an event of the book on the bus (document 01, "Bench book and report" and "Reasons a call
--- is turned down"; document 02, 2.1): any unit number, any event number, any value.
--- Interface: `among`, `network_events`, `terminal_events`, `event_for`, `message_in`, `too_large`,
--- `call_reasons`, `state_reasons`, `book_refusals`, `first_holding`, `refusal`, `gives_message`,
--- `message_done`, `event_done`, `event_notes`. Assumes nothing.
-use Rattle.std.specs.Prelude.{Bool, true, false, cond, not, ◌&&◌, ◌||◌, List, [], ◌∷◌, ◌++◌, map, ◌≡◌, refl, ℕ, ◌-◌, eqb, ltb, leb, length}
+-- is turned down"): any unit number, any event number, any value.
+-- Interface: `among`, `network_events`, `terminal_events`, `event_for`, `call_reasons`, `state_reasons`,
+-- `book_refusals`, `first_holding`, `refusal`, `event_done`, `event_notes`. Assumes nothing.
+use Rattle.std.specs.Prelude.{Bool, true, false, cond, not, ◌&&◌, ◌||◌, List, [], ◌∷◌, ◌++◌, map, ◌≡◌, refl, ℕ, ◌-◌, eqb, ltb, length}
 use Rattle.symbols.specs.Symbols.{line_length, fits}
 use Rattle.combining.specs.Hit.{none_letter}
-use Rattle.notes_and_cells.specs.Events.{ON, OFF, AR, DR, D1, D2, HIT, END, Q, S}
-use Rattle.notes_and_cells.specs.NumberOfOctets.{low_first}
+use Rattle.notes_and_cells.specs.Events.{ON, OFF, AR, DR, D1, D2, HIT, END}
 use Rattle.notes_and_cells.specs.Notes.{noted}
 use Rattle.table_6_2.specs.Table62.{F7}
 use Rattle.table_6_2.specs.Table62 as Table62
@@ -15,14 +13,13 @@ use Rattle.table_6_3.specs.Table63 as Table63
 use Rattle.hdlc.specs.Image.{image, is_body}
 use Rattle.dchannel.specs.Handing.{taken_up}
 use Rattle.contention.specs.Change.{change}
-use Rattle.cycle.specs.Cycle.{no_q, s_messages, q_given, s_given}
 use Rattle.network.specs.Network as network
 use Rattle.terminal.specs.Terminal as terminal
 use Rattle.network.specs.declared.Network.{Network}
 use Rattle.network.specs.declared.NetworkStep.{NetworkStep}
 use Rattle.terminal.specs.declared.Terminal.{Terminal}
 use Rattle.terminal.specs.declared.TerminalStep.{TerminalStep}
-use Rattle.bus_rules.specs.Bus.{Station, Hit, Bus, Note, terminals, station_at, with_hit, with_stations, with_cycle, notes_of}
+use Rattle.bus_rules.specs.Bus.{Station, Hit, Bus, Note, terminals, station_at, with_hit, with_stations, notes_of}
 use Rattle.bus_rules.specs.Period.{network_now, stepped}
 
 -- whether a number is one of some
@@ -39,34 +36,25 @@ unfoldable pub class_of : ℕ → ℕ
 class_of event = cond (eqb event D1) 1 (cond (eqb event D2) 2 0)
 
 -- 4: "`on`, `off` (terminals), `ar` (all), `dr` (unit 0), `d1`, `d2` (terminals ..), `hit` (unit 0
--- ..)", "`q` (terminals ..) and `s` (unit 0 ..)"
+-- ..)"
 abbrev pub network_events : List ℕ
-network_events = AR ∷ DR ∷ HIT ∷ S ∷ []
+network_events = AR ∷ DR ∷ HIT ∷ []
 
 abbrev pub terminal_events : List ℕ
-terminal_events = ON ∷ OFF ∷ AR ∷ D1 ∷ D2 ∷ Q ∷ []
+terminal_events = ON ∷ OFF ∷ AR ∷ D1 ∷ D2 ∷ []
 
 unfoldable pub event_for : ℕ → ℕ → Bool
 event_for unit event = cond (eqb unit 0) (among event network_events) (among event terminal_events)
 
--- Computed: whether none, `on`, `off`, `ar`, `dr`, `d1`, `d2`, `hit`, `end`, `q` and `s` are events
--- for unit 0, and for terminal 1.
+-- Computed: whether none, `on`, `off`, `ar`, `dr`, `d1`, `d2`, `hit` and `end` are events for unit 0,
+-- and for terminal 1.
 pub events_for_units :
-    (map (event_for 0) (0 ∷ ON ∷ OFF ∷ AR ∷ DR ∷ D1 ∷ D2 ∷ HIT ∷ END ∷ Q ∷ S ∷ [])
-    ≡ false ∷ false ∷ false ∷ true ∷ true ∷ false ∷ false ∷ true ∷ false ∷ false ∷ true ∷ [])
-    × (map (event_for 1) (0 ∷ ON ∷ OFF ∷ AR ∷ DR ∷ D1 ∷ D2 ∷ HIT ∷ END ∷ Q ∷ S ∷ [])
-    ≡ false ∷ true ∷ true ∷ true ∷ false ∷ true ∷ true ∷ false ∷ false ∷ true ∷ false ∷ [])
+    (map (event_for 0) (0 ∷ ON ∷ OFF ∷ AR ∷ DR ∷ D1 ∷ D2 ∷ HIT ∷ END ∷ [])
+    ≡ false ∷ false ∷ false ∷ true ∷ true ∷ false ∷ false ∷ true ∷ false ∷ [])
+    × (map (event_for 1) (0 ∷ ON ∷ OFF ∷ AR ∷ DR ∷ D1 ∷ D2 ∷ HIT ∷ END ∷ [])
+    ≡ false ∷ true ∷ true ∷ true ∷ false ∷ true ∷ true ∷ false ∷ false ∷ [])
 unfolding event_for
 events_for_units = (refl, refl)
-
--- The message that a value gives: the number that its octets stand for, however many, the low-order
--- one first.
-abbrev pub message_in : List ℕ → ℕ
-message_in value = low_first value
-
--- 15: "a Q value above 15 or S value above 1,048,575"
-abbrev pub too_large : ℕ → List ℕ → Bool
-too_large event value = cond (eqb event Q) (ltb no_q (message_in value)) (cond (eqb event S) (leb s_messages (message_in value)) false)
 
 -- 5: what the rules of the network end and of a terminal bar, by their tables' numbers of the
 -- events
@@ -87,14 +75,12 @@ abbrev pub gives_frame : ℕ → Bool
 gives_frame event = not (eqb (class_of event) 0)
 
 -- The reasons in the order of the checks, each a number and whether it holds: first those that the
--- call itself decides, then those that the state of the bus decides. 2 is for the letters of a hit;
--- 15 is "checked after 4".
+-- call itself decides, then those that the state of the bus decides. 2 is for the letters of a hit.
 unfoldable pub call_reasons : ℕ → ℕ → List ℕ → List (ℕ × Bool)
 call_reasons unit event value =
     (2, eqb event HIT && not (fits line_length none_letter value))
     ∷ (3, ltb terminals unit)
     ∷ (4, not (event_for unit event))
-    ∷ (15, too_large event value)
     ∷ []
 
 -- 7 is for a body, whose values are octets: a value here is any list of numbers, and `is_body` asks
@@ -110,10 +96,10 @@ state_reasons b unit event value =
 unfoldable pub reasons : Bus → ℕ → ℕ → List ℕ → List (ℕ × Bool)
 reasons b unit event value = call_reasons unit event value ++ state_reasons b unit event value
 
--- "In a book, 3 to 8 become the note `refused`", and "the new numbers become notes like 3 to 8": the
--- numbers of these reasons but 2, since a hit of right form has 48 letters
+-- "In a book, 3 to 8 become the note `refused`": the numbers of these reasons but 2, since a hit of
+-- right form has 48 letters
 abbrev pub book_refusals : List ℕ
-book_refusals = 3 ∷ 4 ∷ 15 ∷ 5 ∷ 6 ∷ 7 ∷ 8 ∷ []
+book_refusals = 3 ∷ 4 ∷ 5 ∷ 6 ∷ 7 ∷ 8 ∷ []
 
 -- "The checks run in the order below, and the first that holds gives the number; where none holds,
 -- the call is not refused": 0
@@ -136,21 +122,6 @@ network_done event b = network_now (network_does event b.periods b.network).netw
 -- "a second replaces the first"
 unfoldable pub hit_given : List ℕ → Bus → Bus
 hit_given letters b = with_hit (Hit.given letters) b
-
--- a message on the Q bits, to the terminal of a unit, and on the S bits, to the network end: in
--- every state
-unfoldable pub q_done : ℕ → List ℕ → Bus → Bus
-q_done unit value b = with_cycle (q_given (unit - 1) (message_in value) b.cycle) b
-
-unfoldable pub s_done : List ℕ → Bus → Bus
-s_done value b = with_cycle (s_given (message_in value) b.cycle) b
-
--- whether an event gives its unit a message
-abbrev pub gives_message : ℕ → ℕ → Bool
-gives_message unit event = cond (eqb unit 0) (eqb event S) (eqb event Q)
-
-unfoldable pub message_done : ℕ → List ℕ → Bus → Bus
-message_done unit value b = cond (eqb unit 0) (s_done value b) (q_done unit value b)
 
 -- power and requests of a terminal; no other event moves it
 unfoldable pub terminal_does : ℕ → ℕ → Terminal → TerminalStep
@@ -175,15 +146,12 @@ station_done unit event value b = with_stations (change (station_after event val
 
 unfoldable pub event_done : ℕ → ℕ → List ℕ → Bus → Bus
 event_done unit event value b =
-    cond (gives_message unit event) (message_done unit value b)
-    (cond (eqb unit 0) (cond (eqb event HIT) (hit_given value b) (network_done event b)) (station_done unit event value b))
+    cond (eqb unit 0) (cond (eqb event HIT) (hit_given value b) (network_done event b)) (station_done unit event value b)
 
--- a message and a hit note nothing
 unfoldable pub event_notes : ℕ → ℕ → List ℕ → Bus → List Note
 event_notes unit event value b =
-    cond (gives_message unit event) []
-    (cond (eqb unit 0)
+    cond (eqb unit 0)
     (cond (eqb event HIT) [] (notes_of b.periods 0 (noted (network_does event b.periods b.network).notes)))
     (cond (eqb (class_of event) 0)
     (notes_of b.periods unit (noted (terminal_does event b.periods (station_of b unit).terminal).notes))
-    []))
+    [])

@@ -1,9 +1,9 @@
 -- Laws: "Books without these events run without the cycle and print the same reports" (document 02,
--- 2.1): no call but a message starts the cycle, and where it does not run the lines and the notes
--- are document 01's. The statements are types; `proofs/Off.antt` proves each under the same name in
+-- 2.1): no call starts the cycle yet, and where it does not run the lines and the notes are
+-- document 01's. The statements are types; `proofs/Off.antt` proves each under the same name in
 -- small letters.
 -- Interface: none but for laws and proofs. Assumes nothing.
-use Rattle.std.specs.Prelude.{◌≡◌, Bool, true, false, cond, ◌&&◌, ◌||◌, List, [], ◌∷◌, map, ℕ, eqb}
+use Rattle.std.specs.Prelude.{◌≡◌, Bool, false, cond, List, [], map, ℕ, eqb}
 use Rattle.frame.specs.Four.{filled_with_ones}
 use Rattle.frame.specs.declared.fields.Four.{Four}
 use Rattle.info.specs.Info.{info0, info1, info2, info3, info4}
@@ -14,30 +14,11 @@ use Rattle.table_6_3.specs.Table63 as Table63
 use Rattle.bus_rules.specs.Bus.{Hit, Bus}
 use Rattle.bus_rules.specs.Exchange.{Sender, Opportunity, struck_by, exchanged, whole_down, whole_up}
 use Rattle.bus_rules.specs.Period.{heard_by_unit}
-use Rattle.bus_rules.specs.Event.{gives_message}
-use Rattle.bus_rules.specs.Calls.{Call, reply, after, after_all}
-use Rattle.bus_rules.specs.Calls.Call.{event, period}
+use Rattle.bus_rules.specs.Calls.{Call, after_all}
 
--- Whether a call gives a message: a `q` or `s` that is accepted. A refused one does not.
-unfoldable pub gives_one : Bus → Call → Bool
-gives_one b (event unit number value) = gives_message unit number && eqb (reply b (event unit number value)) 0
-gives_one b period = false
-
-unfoldable pub any_gives : Bus → List Call → Bool
-any_gives b [] = false
-any_gives b (c ∷ more) = gives_one b c || any_gives (after b c) more
-
--- No other call starts the cycle: after every list of such calls it is as it was.
+-- No call starts the cycle: after every list of calls it is as it was.
 abbrev pub CycleStaysOff : Type 0
-CycleStaysOff =
-    (b : Bus) (calls : List Call) → b.cycle.running ≡ false → any_gives b calls ≡ false → (after_all b calls).cycle ≡ b.cycle
-
--- "The cycle's period 1 is the period of the book's first such line accepted": then it runs, and the
--- coming period is its first.
-abbrev pub MessageStarts : Type 0
-MessageStarts =
-    (b : Bus) (unit number : ℕ) (value : List ℕ) → b.cycle.running ≡ false → gives_one b (event unit number value) ≡ true
-    → ((after b (event unit number value)).cycle.running ≡ true) × ((after b (event unit number value)).cycle.place ≡ 0)
+CycleStaysOff = (b : Bus) (calls : List Call) → b.cycle.running ≡ false → (after_all b calls).cycle ≡ b.cycle
 
 -- Document 01's lines: INFO 0, INFO 2 and INFO 4 downward, INFO 0, INFO 1 and INFO 3 upward, FA, M and
 -- S at 0.

@@ -25,13 +25,13 @@ unfolding period
 period_by part p h c d e =
     sym (p.heard h (taken c)) ∙ (ap (λ x. part (heard_in h.fa h.s h.g3 h.f7 x)) (taken_by_lem part p c d e) ∙ p.heard h (taken d))
 
-sent_by_lem : (part : Cycle → Cycle) → Part part → (what : Cycle → Bool) → ((c : Cycle) → what (part c) ≡ what c)
+sent_by : (part : Cycle → Cycle) → Part part → (what : Cycle → Bool) → ((c : Cycle) → what (part c) ≡ what c)
     → (hs : List Heard) (c d : Cycle) → part c ≡ part d → sent_in what hs c ≡ sent_in what hs d
 unfolding sent_in
-sent_by_lem part p what same [] c d e = refl
-sent_by_lem part p what same (h ∷ hs) c d e =
+sent_by part p what same [] c d e = refl
+sent_by part p what same (h ∷ hs) c d e =
     let bit : what (taken c) ≡ what (taken d) = sym (same (taken c)) ∙ (ap what (taken_by_lem part p c d e) ∙ same (taken d)) in
-    rw (bit, sent_by_lem part p what same hs (period h c) (period h d) (period_by part p h c d e))
+    rw (bit, sent_by part p what same hs (period h c) (period h d) (period_by part p h c d e))
 
 reached_by : (part : Cycle → Cycle) → Part part → (hs : List Heard) (c d : Cycle) → part c ≡ part d → part (periods hs c) ≡ part (periods hs d)
 unfolding periods
@@ -70,7 +70,7 @@ q_given_kept i value c r = rw r
 
 pub s_apart : (i value : ℕ) (hs : List Heard) (c : Cycle) → c.running ≡ true → s_sent hs (q_given i value c) ≡ s_sent hs c
 unfolding s_part bits_at
-s_apart i value hs c r = sent_by_lem s_part s_part_lem (λ d. (bits_at d).s) (λ d. refl) hs (q_given i value c) c (q_given_kept i value c r)
+s_apart i value hs c r = sent_by s_part s_part_lem (λ d. (bits_at d).s) (λ d. refl) hs (q_given i value c) c (q_given_kept i value c r)
 
 -- ---- The Q messages of the terminal at an index.
 unfoldable one : ℕ → List ℕ → List ℕ
@@ -114,14 +114,14 @@ unfolding q_part s_given
 s_given_kept value j c r = rw r
 
 pub q_apart : (value j : ℕ) (hs : List Heard) (c : Cycle) → c.running ≡ true → q_sent j hs (s_given value c) ≡ q_sent j hs c
-q_apart value j hs c r = sent_by_lem (q_part j) (q_part_lem j) (λ d. up_fa true j d) (up_same j) hs (s_given value c) c (s_given_kept value j c r)
+q_apart value j hs c r = sent_by (q_part j) (q_part_lem j) (λ d. up_fa true j d) (up_same j) hs (s_given value c) c (s_given_kept value j c r)
 
 others_same : (i value j : ℕ) (c : Cycle) → c.running ≡ true → eqb j i ≡ false → q_part j (q_given i value c) ≡ q_part j c
 unfolding q_part q_given one
 others_same i value j c r n = rw (r, get_or-set_other c.qwaiting i j value 0 (eqb-false j i n))
 
 pub q_others : (i value j : ℕ) (hs : List Heard) (c : Cycle) → c.running ≡ true → eqb j i ≡ false → q_sent j hs (q_given i value c) ≡ q_sent j hs c
-q_others i value j hs c r n = sent_by_lem (q_part j) (q_part_lem j) (λ d. up_fa true j d) (up_same j) hs (q_given i value c) c (others_same i value j c r n)
+q_others i value j hs c r n = sent_by (q_part j) (q_part_lem j) (λ d. up_fa true j d) (up_same j) hs (q_given i value c) c (others_same i value j c r n)
 
 -- ---- What is heard, and the place.
 unfoldable heard_part : Cycle → Cycle
@@ -161,8 +161,8 @@ pub place_same : (given : Cycle → Cycle) → Unheard given → (hs : List Hear
     → (fa_sent hs (given c) ≡ fa_sent hs c) × (m_sent hs (given c) ≡ m_sent hs c)
 unfolding Unheard heard_part bits_at
 place_same given u hs c r = (
-  sent_by_lem heard_part heard_part_lem (λ d. (bits_at d).fa) (λ d. refl) hs (given c) c (u c r),
-  sent_by_lem heard_part heard_part_lem (λ d. (bits_at d).m) (λ d. refl) hs (given c) c (u c r),
+  sent_by heard_part heard_part_lem (λ d. (bits_at d).fa) (λ d. refl) hs (given c) c (u c r),
+  sent_by heard_part heard_part_lem (λ d. (bits_at d).m) (λ d. refl) hs (given c) c (u c r),
 )
 
 pub told_same : (given : Cycle → Cycle) → Unheard given → (hs : List Heard) (c : Cycle) → c.running ≡ true

@@ -7,7 +7,7 @@ use native.Mathlib.Omega.{arith}
 use lib.ListN.{length, set}
 use lib.Seq.{set-set}
 use Rattle.test_lemmas.proofs.ByCases.{by_test}
-use Rattle.cycle.specs.Cycle.{last_place, with_waiting, q_given, s_given, moved_on}
+use Rattle.cycle.specs.Cycle.{last_place, q_given, s_given, moved_on}
 use Rattle.cycle.specs.Periods.{Heard, period, periods, sent_in, Whole, until_next}
 use Rattle.cycle.specs.declared.record.Cycle.{Cycle}
 use Rattle.cycle.proofs.Stretch.{moved, moves, moves_sent, waits_on, until_next_lem, at_next}
@@ -27,10 +27,32 @@ sent_with change what e same (h ∷ hs) c = rw (same c, e h c, sent_with change 
 
 -- ---- The messages as such changes, in a cycle that runs.
 unfoldable pub s_set : ℕ → Cycle → Cycle
-s_set value c = with_waiting value c.qwaiting c.place c.running c
+s_set value c = record {
+  swaiting = value;
+  ssent = c.ssent;
+  sheard = c.sheard;
+  qwaiting = c.qwaiting;
+  qsent = c.qsent;
+  qheard = c.qheard;
+  f7 = c.f7;
+  place = c.place;
+  running = c.running;
+  g3 = c.g3;
+}
 
 unfoldable pub q_set : ℕ → ℕ → Cycle → Cycle
-q_set i value c = with_waiting c.swaiting (set c.qwaiting i value) c.place c.running c
+q_set i value c = record {
+  swaiting = c.swaiting;
+  ssent = c.ssent;
+  sheard = c.sheard;
+  qwaiting = set c.qwaiting i value;
+  qsent = c.qsent;
+  qheard = c.qheard;
+  f7 = c.f7;
+  place = c.place;
+  running = c.running;
+  g3 = c.g3;
+}
 
 pub s_set_lem : (value : ℕ) (c : Cycle) → c.running ≡ true → s_given value c ≡ s_set value c
 unfolding s_given s_set

@@ -13,14 +13,12 @@ use Rattle.test_lemmas.proofs.ByCases.{by_test, and_both_true}
 use Rattle.frame.specs.Bits.{number_high_first, octet_bits}
 use Rattle.cycle.specs.Cycle.{last_place, no_q, no_messages, q_given, s_given, at_start, begun, taken, is_q, bits_at, has_bit, up_fa, s_shifted, q_shifted, q_after, s_after, next_place, moved_on, heard_in, q_told, s_told}
 use Rattle.cycle.specs.Periods.{Heard, period, periods, throughout, in_g3, in_f7, s_heard, fa_heard, q_of, Whole, in_periods}
-use Rattle.cycle.specs.Idle.{placed_at}
-use Rattle.cycle.specs.Laws.{Idle}
+use Rattle.cycle.specs.Laws.{Idle, placed_at}
 use Rattle.cycle.specs.Laws
 use Rattle.cycle.specs.declared.record.Cycle.{Cycle}
 use Rattle.cycle.proofs.Stretch.{places_from, by_place, whole, place_after, waits_on, next_place_lem}
 use Rattle.cycle.proofs.Carried as carried
 use Rattle.cycle.proofs.Present as present
-use Rattle.cycle.proofs.Told as told
 use Rattle.cycle.proofs.Ranges as ranges
 
 pub not_running : Laws.NotRunning
@@ -119,18 +117,6 @@ pub told_at_end : Laws.ToldAtEnd
 unfolding period q_told s_told
 told_at_end h c k =
     let off = heard_place h.fa h.s h.g3 h.f7 (taken c) (rw (taken_place c) k) in (rw off, λ i. rw off)
-
-pub tells_none : Laws.TellsNone
-tells_none = told.tells_none
-
-pub tells_some : Laws.TellsSome
-tells_some = told.tells_some
-
-pub silent_off : Laws.SilentOff
-silent_off c e = told.silent_within c (rw e)
-
-pub silent_within : Laws.SilentWithin
-silent_within h c k = let end = told_at_end h c k in tells_some (period h c) end.0 (λ i l. end.1 i)
 
 -- ---- Idle.
 same_flag : (b : Bool) → (b && b) ≡ b

@@ -49,7 +49,7 @@ ranged c e =
       place = leb-true c.place last_place (and_right (((qw && qs) && ((sw && ss) && sh)) && qh) pl e);
     }
 
-pub in_range : (c : Cycle) → Ranged c → cycle_in_range c ≡ true
+in_range : (c : Cycle) → Ranged c → cycle_in_range c ≡ true
 in_range c r =
     rw (
       r.qwaiting,

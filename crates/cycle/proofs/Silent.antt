@@ -18,13 +18,13 @@ either P false p q = q
 abbrev pub NoS : Cycle → Type 0
 NoS c = (c.swaiting ≡ 0) × (c.ssent ≡ 0)
 
-s_taken_lem : (c : Cycle) → NoS c → NoS (taken c)
+s_taken : (c : Cycle) → NoS c → NoS (taken c)
 unfolding taken begun
-s_taken_lem c n = either NoS (at_start c) (refl, n.0) n
+s_taken c n = either NoS (at_start c) (refl, n.0) n
 
 s_period : (h : Heard) (c : Cycle) → NoS (taken c) → NoS (taken (period h c))
 unfolding period heard_in moved_on s_shifted
-s_period h c n = s_taken_lem (period h c) (either NoS (taken c).running (n.0, rw n.1) n)
+s_period h c n = s_taken (period h c) (either NoS (taken c).running (n.0, rw n.1) n)
 
 pub s_silent : (hs : List Heard) (c : Cycle) → NoS (taken c) → s_sent hs c ≡ replicate (length hs) false
 unfolding sent_in bits_at
@@ -39,16 +39,16 @@ s_silent (h ∷ hs) c n = rw (n.1, s_silent hs (period h c) (s_period h c n)) (n
 abbrev pub NoQ : Cycle → Type 0
 NoQ c = (c.qwaiting ≡ no_messages) × (c.qsent ≡ no_messages)
 
-q_taken_lem : (c : Cycle) → NoQ c → NoQ (taken c)
+q_taken : (c : Cycle) → NoQ c → NoQ (taken c)
 unfolding taken begun
-q_taken_lem c n = either NoQ (at_start c) (refl, n.0) n
+q_taken c n = either NoQ (at_start c) (refl, n.0) n
 
 q_period : (h : Heard) (c : Cycle) → NoQ (taken c) → NoQ (taken (period h c))
 unfolding period heard_in moved_on
-q_period h c n = q_taken_lem (period h c) (either NoQ (taken c).running n n)
+q_period h c n = q_taken (period h c) (either NoQ (taken c).running n n)
 
 -- four 1s at every place that has a bit
-pub all_ones : (p : ℕ) → q_bit p 15 ≡ is_q p
+all_ones : (p : ℕ) → q_bit p 15 ≡ is_q p
 unfolding q_bit
 all_ones p = rw (at_each_below (λ k. has_bit 15 k) 4 (3 - p / 5) refl (omega arith)) (alone (is_q p))
   where

@@ -8,8 +8,6 @@ use Rattle.exchange.specs.contracts.tally.Tally as M
 use Rattle.exchange.proofs.tally.Tally.TheLaws as M'
 use Rattle.exchange.specs.contracts.rest.Rest as R
 use Rattle.exchange.proofs.rest.Rest.TheLaws as R'
-use Rattle.exchange.specs.contracts.present.Present as Pr
-use Rattle.exchange.proofs.present.Present.TheLaws as Pr'
 use Rattle.exchange.specs.contracts.part.Part as P
 use Rattle.exchange.proofs.part.Part.TheLaws as P'
 
@@ -24,6 +22,3 @@ parts = struct_kind P.the_type P'.the_laws P'.the_plain P'.the_copy P'.mir refl
 
 abbrev pub rests : Kind R.the_row
 rests = struct_kind R.the_type R'.the_laws R'.the_plain R'.the_copy R'.mir refl
-
-abbrev pub presents : Kind Pr.the_row
-presents = struct_kind Pr.the_type Pr'.the_laws Pr'.the_plain Pr'.the_copy Pr'.mir refl

@@ -1,6 +1,5 @@
 // The D opportunities of a period over the lent terminal records.
 pub mod opportunity;
 pub mod part;
-pub mod present;
 pub mod rest;
 pub mod tally;

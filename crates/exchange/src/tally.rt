@@ -52,7 +52,7 @@ fn sent_e(state: u8, d: bool) -> bool
 }
 
 // Applies a hit's letter to a bit.
-pub fn struck_bit(letter: u8, bit: bool) -> bool
+fn struck_bit(letter: u8, bit: bool) -> bool
     ensures { result ≡ struck_bit letter bit }
 {
     if letter == KEEP_LETTER {

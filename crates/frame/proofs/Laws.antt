@@ -41,13 +41,13 @@ pub m_down : Laws.MDown
 unfolding down_bits down_body octet_bits
 m_down f = rw (frames.down_levels f)
 
-pub s_down_lem : Laws.SDown
+pub s_down : Laws.SDown
 unfolding down_bits down_body octet_bits
-s_down_lem f = rw (frames.down_levels f)
+s_down f = rw (frames.down_levels f)
 
-pub fa_up_lem : Laws.FaUp
+pub fa_up : Laws.FaUp
 unfolding up_bits octet_bits
-fa_up_lem f = rw (frames.up_levels f)
+fa_up f = rw (frames.up_levels f)
 
 pub d_up : Laws.DUp
 unfolding up_bits octet_bits

@@ -166,7 +166,7 @@ octet_ones (suc n) (suc i) = octet_ones n i
 
 pub body_ones : (n : ℕ) → 1 ≤ n → n ≤ longest_body → IsBody (replicate n 255)
 body_ones n h k =
-    record { some_octet = rw (length-replicate {A = ℕ} n 255) h; at_most_lem = rw (length-replicate {A = ℕ} n 255) k; octet = octet_ones n }
+    record { some_octet = rw (length-replicate {A = ℕ} n 255) h; at_most = rw (length-replicate {A = ℕ} n 255) k; octet = octet_ones n }
 
 longest : (n : ℕ) → n ≡ longest_body → length (image (replicate n 255)) ≡ longest_image
 longest n e =
@@ -199,10 +199,10 @@ is_body_lem body h =
     let most = both (leb (length body) longest_body) (all_octets body) some.1 in
     record {
       some_octet = leb-true 1 (length body) some.0;
-      at_most_lem = leb-true (length body) longest_body most.0;
+      at_most = leb-true (length body) longest_body most.0;
       octet = all_octets_lem body most.1;
     }
 
 pub body_is : (body : List ℕ) → IsBody body → is_body body ≡ true
 unfolding is_body
-body_is body b = rw (le-leb 1 (length body) b.some_octet, le-leb (length body) longest_body b.at_most_lem) (octets_all body b.octet)
+body_is body b = rw (le-leb 1 (length body) b.some_octet, le-leb (length body) longest_body b.at_most) (octets_all body b.octet)

@@ -195,7 +195,7 @@ between_body body b =
     let n : ℕ = length body in
     let many : ltb (8 * n) 8 ≡ false = le-ltb (8 * n) 8 (omega (arith, b.some_octet)) in
     let whole : eqb (8 * n % 8) 0 ≡ true = eq-eqb (8 * n % 8) 0 (omega arith) in
-    let fits : leb (8 * n) (8 * longest_body) ≡ true = le-leb (8 * n) (8 * longest_body) (omega (arith, b.at_most_lem)) in
+    let fits : leb (8 * n) (8 * longest_body) ≡ true = le-leb (8 * n) (8 * longest_body) (omega (arith, b.at_most)) in
     let each : 8 * n / 8 ≡ n = omega arith in
     rw (length_body_bits body, many, whole, fits, each, octets_body_bits body b.octet)
 

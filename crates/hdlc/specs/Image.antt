@@ -34,7 +34,7 @@ longest_image = 16 + 8 * longest_body + (8 * longest_body) / 5
 -- "A body is 1 to 266 octets"
 pub record IsBody (body : List ℕ) : Type 0 where
   pub some_octet : 1 ≤ length body
-  pub at_most_lem : length body ≤ longest_body
+  pub at_most : length body ≤ longest_body
   pub octet : (i : ℕ) → get_or body i 0 < 256
 
 -- the same as a test (`is_IsBody`, `body_is` of proofs/ImageLaws.antt)

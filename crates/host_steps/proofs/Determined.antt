@@ -2,7 +2,7 @@
 use mathlib.Core.Bool.{true, false, cond}
 use mathlib.Core.List.{List, [], ◌∷◌, ◌++◌, append_assoc}
 use mathlib.Core.Path.{◌≡◌, refl, sym, ◌∙◌}
-use Prim.Native.Nat.{ℕ, zero, suc, ◌+◌, ◌-◌, ◌≤◌}
+use Prim.Native.Nat.{ℕ, zero, suc, ◌+◌, ◌≤◌}
 use native.Mathlib.Omega.{arith}
 use lib.Dec.{eqb}
 use lib.ListN.{length, take, drop, length-take, take-append-drop}
@@ -13,8 +13,6 @@ use Rattle.hdlc.specs.Bits.{bit_of}
 use Rattle.hdlc.specs.Image.{longest_body}
 use Rattle.timing.specs.Counts.{most_periods}
 use Rattle.bus_rules.specs.Bus.{Note, terminals, notes_of}
-use Rattle.cycle.specs.Cycle.{no_q, q_told, s_told}
-use Rattle.bus_rules.specs.CycleNotes.{q_notes, s_notes, cycle_notes}
 use Rattle.bus_rules.specs.Order.{unit_by_unit}
 use Rattle.bus_rules.specs.Calls.{Call}
 use Rattle.bus_rules.specs.Calls.Call.{event, period}
@@ -22,7 +20,7 @@ use Rattle.period_hearing.specs.declared.hears.UnitNotes.{UnitNotes}
 use Rattle.bus_record.specs.declared.side.RunAnswer.{RunAnswer}
 use Rattle.bus_call_specs.specs.Kept.{Kept}
 use Rattle.bus_call_specs.specs.Run.{run_answer}
-use Rattle.bus_call_specs.specs.Lists.{is_code, coded, told, replied, notes_told, run_told, done_notes, period_told, reader_told, terminals_heard, cycle_told, terminals_told, timers_told}
+use Rattle.bus_call_specs.specs.Lists.{is_code, coded, told, replied, notes_told, run_told, done_notes, period_told, reader_told, terminals_heard, terminals_told, timers_told}
 use Rattle.bus_call_specs.proofs.InOrder.{InOrder}
 use Rattle.bus_call_specs.proofs.Events.{unit_is}
 use Rattle.bus_call_specs.proofs.QuietRuns.{one_told}
@@ -63,26 +61,13 @@ small_of now unit (c ∷ codes) h u =
     (record { period_small = h; unit_small = u; value_short = omega arith }, small_of now unit codes h u)
 
 module _ (now : ℕ) (r : RunAnswer) (in_time : now ≤ most_periods + 1) where
-  -- one number's octets, and three
-  small_cycle : (unit : ℕ) → unit ≤ terminals → AllSmall (cycle_told now r unit)
-  unfolding cycle_told cycle_notes q_notes s_notes AllSmall
-  small_cycle unit u =
-      let c = r.bus.cycle in
-      by_test r.told
-      (λ t. by_test (eqb unit 0)
-      (λ z. by_test (eqb (q_told c) no_q) (λ q. rw (t, z, q) tt)
-      (λ q. rw (t, z, q) (record { period_small = in_time; unit_small = omega arith; value_short = omega arith }, tt)))
-      (λ z. by_test (eqb (s_told (unit - 1) c) 0) (λ q. rw (t, z, q) tt)
-      (λ q. rw (t, z, q) (record { period_small = in_time; unit_small = u; value_short = omega arith }, tt))))
-      (λ t. rw t tt)
-
   small_terminals : (i : ℕ) (ns : List UnitNotes) → i + length ns ≤ terminals → AllSmall (terminals_told now r i ns)
   unfolding unit_by_unit terminals_heard
   small_terminals i [] h = none_small
   small_terminals i (n ∷ ns) h =
       small_append (notes_of now (suc i) _) _
       (small_of now (suc i) (done_notes (bit_of r.done1 i) (bit_of r.done2 i) ++ noted n.hearing) in_time (omega arith))
-      (small_append (cycle_told now r (suc i)) _ (small_cycle (suc i) (omega arith)) (small_terminals (suc i) ns (omega arith)))
+      (small_terminals (suc i) ns (omega arith))
 
   small_timers : (i : ℕ) (ns : List UnitNotes) → i + length ns ≤ terminals → AllSmall (timers_told now i ns)
   unfolding unit_by_unit
@@ -111,7 +96,7 @@ small_period now r ns octets h eight long =
     small_append (reader_told now r octets ++ _) _
     (small_append (reader_told now r octets) _ (small_reader now r early octets long)
     (small_append (notes_of now 0 (noted r.network.hearing)) _ (small_of now 0 _ early (omega arith))
-    (small_append (cycle_told now r 0) _ (small_cycle now r early 0 (omega arith)) (small_terminals now r early 0 ns (omega arith)))))
+    (small_terminals now r early 0 ns (omega arith))))
     (small_append (notes_of (now + 1) 0 (noted r.network.timers)) _ (small_of (now + 1) 0 _ late (omega arith))
     (small_timers (now + 1) r late 0 ns (omega arith)))
 

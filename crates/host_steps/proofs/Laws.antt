@@ -212,24 +212,6 @@ quiet_run_ends s room until z first =
     rw (t, (left_fits s h most).shown_is) (omega (arith, quiet-ends.quiet_run_ends most (shown s) y e)))
     (λ t. absurd (eqb-false _ _ t (rw t at z)))
 
--- ---- A run of no periods.
-nothing_run : (s room : List ℕ) → laws.NothingRun s room 0
-unfolding host_run_reply host_run_bus host_run_notes reply_with bus_with notes_with kept_after kept_on notes_octets notes_in
-nothing_run s room =
-    by_test (eqb (reason s room) 0)
-    (λ t.
-    let z = eqb-true _ _ t in
-    let h = lent_bus s _ _ (reason s room) refl z in
-    record {
-      replies = rw t (none_refused s h ∙ sym z);
-      bus_stays = rw t (exact s h).stored_is;
-      end_alone = λ _. rw (t, none_refused s h, none_told s h);
-    })
-    (λ t. record { replies = rw t; bus_stays = rw t; end_alone = λ y. absurd (eqb-false _ _ t (rw t at y)) })
-
-pub no_periods_run : laws.NoPeriodsRun
-no_periods_run s room until past = let none : most_to until s ≡ 0 = omega arith in rw none (nothing_run s room)
-
 -- ---- Lists.
 
 -- the parts of a call, whose notes fit, and what it leaves is a bus

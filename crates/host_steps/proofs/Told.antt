@@ -12,7 +12,7 @@ use Rattle.hdlc.specs.Bits.{bit_of}
 use Rattle.bus_record.specs.NetworkSide.{refused_run}
 use Rattle.bus_call_specs.specs.Kept.{Kept}
 use Rattle.bus_call_specs.specs.Run.{run_answer, answer_on, kept_on, not_yet, kept_after}
-use Rattle.bus_call_specs.specs.Lists.{told, replied, notes_told, period_told, reader_told, terminals_heard, cycle_told, run_told}
+use Rattle.bus_call_specs.specs.Lists.{told, replied, notes_told, period_told, reader_told, terminals_heard, run_told}
 use Rattle.bus_call_specs.proofs.InOrder.{order_reply}
 use Rattle.bus_call_specs.proofs.RunLeft.{run_left}
 use Rattle.bus_octets.specs.Layout.{octets_in, bus_octets, shown, bus_length, is_bus}
@@ -50,12 +50,12 @@ module _ (s : List ℕ) (h : is_bus s ≡ true) (most : ℕ) where
   unfolding run_told
   run_notes_lem z = rw (z, octets_left)
 
--- ---- A run of no periods. It tells of no note, and so of none of a cycle that may have ended with the period before.
+-- ---- A run of no periods.
 module _ (s : List ℕ) (h : is_bus s ≡ true) where
   pub none_refused : (run_answer 0 (shown s)).reply ≡ 0
   unfolding run_answer answer_on not_yet refused_run
   none_refused = (exact s h).ready
 
   pub none_told : run_told 0 (shown s) ≡ []
-  unfolding run_told run_answer answer_on not_yet refused_run kept_after kept_on period_told reader_told unit_by_unit terminals_heard cycle_told notes_of noted bit_of shown
+  unfolding run_told run_answer answer_on not_yet refused_run kept_after kept_on period_told reader_told unit_by_unit terminals_heard notes_of noted bit_of shown
   none_told = rw (exact s h).ready refl

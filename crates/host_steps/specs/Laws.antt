@@ -8,10 +8,8 @@ use Rattle.bus_rules.specs.Calls.{Call, reply, after_all, notes_of_all}
 use Rattle.bus_rules.specs.Sound.{Sound}
 use Rattle.bus_call_specs.specs.Lists.{Carries, LentCall, OctetValue, made, lend, notes_told, calls_in, run_told}
 use Rattle.note_text.specs.Determined.{AllFitOctets}
-use Rattle.note_text.specs.Room.{laid}
 use Rattle.bus_octets.specs.Layout.{shown, is_bus}
 use Rattle.host_bus.specs.Fresh.{fresh_octets}
-use Rattle.host_bus.specs.Lent.{lent_reason}
 use Rattle.host_steps.specs.Stepping.{notes_octets, notes_room, host_reply, host_bus, host_notes, most_to, host_run_reply, host_run_bus}
 use Rattle.host_steps.specs.Stepping.{host_run_notes}
 
@@ -55,17 +53,6 @@ abbrev pub QuietRunEnds : Type 0
 QuietRunEnds =
     (s room : List ℕ) (until : ℕ) → host_run_reply s room (most_to until s) ≡ 0 → get_or (host_run_notes s room (most_to until s)) 0 0 ≡ 0
     → (shown (host_run_bus s room (most_to until s))).bus.periods.0 ≡ min (max until (shown s).bus.periods.0) most_periods
-
--- ---- A run until no more periods than have been run before runs none: the bus stays, and there are
--- no notes, also where the last period run ended a cycle of Q and S bits: their end alone is written.
--- 1 or 2 can be the reply, and nothing else but 0.
-pub record NothingRun (s room : List ℕ) (most : ℕ) : Type 0 where
-  pub replies : host_run_reply s room most ≡ lent_reason s (length room) notes_room
-  pub bus_stays : host_run_bus s room most ≡ s
-  pub end_alone : host_run_reply s room most ≡ 0 → host_run_notes s room most ≡ laid room 0 (0 ∷ [])
-
-abbrev pub NoPeriodsRun : Type 0
-NoPeriodsRun = (s room : List ℕ) (until : ℕ) → until ≤ (shown s).bus.periods.0 → NothingRun s room (most_to until s)
 
 -- ---- Lists of a host's calls on a bus: an event or a period, or a run until a given number of
 -- periods have been run in all, each with what is lent for its notes, of any length and contents.

@@ -13,7 +13,7 @@ use Rattle.timing.specs.Calls.{next_period}
 use Rattle.terminal.specs.declared.Terminal.{Terminal}
 use Rattle.period_hearing.specs.Hears.{silenced}
 use Rattle.period_hearing.specs.declared.hears.UnitNotes.{UnitNotes}
-use Rattle.bus_record.specs.NetworkSide.{no_notes, answer_with, with_cycle_on, answer_after, refused_run}
+use Rattle.bus_record.specs.NetworkSide.{no_notes, answer_with, answer_after, refused_run}
 use Rattle.bus_record.specs.declared.record.BusRecord.{BusRecord}
 use Rattle.bus_record.specs.declared.side.RunAnswer.{RunAnswer}
 use Rattle.lone_sender.specs.Lone.{lone_after_e, lone_after_four, followed, lone_stations, sender_in}
@@ -28,9 +28,8 @@ use Rattle.bus_call_specs.specs.Kept.{Kept, kept}
 use Rattle.bus_call_specs.specs.Ready.{run_goes_on}
 use Rattle.bus_call_specs.specs.Period.{period_answer, kept_run}
 use Rattle.bus_call_specs.specs.Run.{answer_on, kept_on}
-use Rattle.bus_call_specs.specs.Step.{step_told, step_crossed, step_answer, step_terminals, step_octets, step_notes}
+use Rattle.bus_call_specs.specs.Step.{step_told, step_answer, step_terminals, step_octets, step_notes}
 use Rattle.bus_record.specs.Echo.{step_tally, step_exchanged, step_line}
-use Rattle.bus_call_specs.proofs.CycleShown.{crossing_off}
 use Rattle.bus_call_specs.proofs.InOrder.{in_order}
 use Rattle.bus_call_specs.proofs.RunLoop.{Going, going_on}
 use Rattle.idle_periods.specs.Turn.{Turns}
@@ -48,7 +47,7 @@ module _ (images : List ℕ) (a : Alone) (g : goes_alone images a ≡ true) wher
   goes_so left some = let f = goes_facts images a g in rw (f.no_reply, f.none_told, f.more, lt-ltb 0 left some)
 
   next_period_lem : (os : List ℕ) → (alone_after images a os).answer.bus.periods.0 ≡ a.answer.bus.periods.0 + 1
-  unfolding alone_after answer_after with_cycle_on answer_with next_period
+  unfolding alone_after answer_after answer_with next_period
   next_period_lem os = rw (goes_facts images a g).more
 
 -- a period more is run, and is not refused
@@ -57,7 +56,7 @@ unfolding alone_after
 over_after images a os = refl
 
 reply_after : (images : List ℕ) (a : Alone) (os : List ℕ) → (alone_after images a os).answer.reply ≡ 0
-unfolding alone_after answer_after with_cycle_on answer_with
+unfolding alone_after answer_after answer_with
 reply_after images a os = refl
 
 -- ---- The run, from what was found.
@@ -79,13 +78,12 @@ module _ (images letters : List ℕ) (ended : RunAnswer) (end : Kept) (ts : List
 
   one_period : (a : Alone) (os : List ℕ) (ns : List UnitNotes) → GoesAt a os ns → Stands a → goes_alone images a ≡ true → AllClear a.answer.bus.periods.0 1 ts → a.over < total
       → GoesAt (alone_after images a os) (octets_then images a os) none_noted
-  unfolding alone_after octets_then step_answer step_crossed step_terminals step_octets step_notes step_told step_tally step_exchanged step_line
+  unfolding alone_after octets_then step_answer step_terminals step_octets step_notes step_told step_tally step_exchanged step_line
   one_period a os ns i s g c l =
       let p = period_alone images letters a ts g s.stations s.sender rest c in
       let fewer : total - a.over - 1 ≡ total - (a.over + 1) = omega arith in
       let on = going_on images letters ended end a.answer (total - a.over) (map_from (followed a.lone) 0 ts) os ns i (goes_so images a g (total - a.over) (omega arith)) in
-      let off = crossing_off a.answer.bus (step_exchanged a.answer.bus (map_from (followed a.lone) 0 ts) images letters) letters (goes_facts images a g).no_cycle_lem in
-      rw (off, p.told_is, p.terminals_are, p.notes_are, p.tally_is, fewer) at on
+      rw (p.told_is, p.terminals_are, p.notes_are, p.tally_is, fewer) at on
 
   -- and so many; n0 periods from period now0 on no timer is due, and k of them have been run
   module _ (now0 n0 : ℕ) (c : AllClear now0 n0 ts) where

@@ -1,5 +1,5 @@
 -- A period of a still bus, as the code goes through it: it hands back no notes and changes nothing but the counts.
-use mathlib.Core.Path.{◌≡◌, refl, ◌∙◌}
+use mathlib.Core.Path.{◌≡◌, refl}
 use mathlib.Core.Bool.{Bool, true, false, cond, not, ◌&&◌}
 use mathlib.Core.List.{List, [], ◌∷◌}
 use Prim.Native.Nat.{ℕ, suc, ◌+◌, ◌*◌, ◌<◌}
@@ -33,13 +33,9 @@ use Rattle.bus_record.specs.Echo.{hit_in, first_tally, heard_down, step_tally, s
 use Rattle.bus_record.specs.Reading.{quiet_reading, reader_waits, read_in, octets_in}
 use Rattle.bus_record.proofs.SpokenLaws.{four_ones}
 use Rattle.bus_record.proofs.NetworkRests.{rested, listens_rests}
-use Rattle.bus_record.specs.NetworkSide.{reader_after, rests_elsewhere, network_listens, network_rests, counted_after, shown_in, period_has_note, answer_with, answer_after, octets_after, no_notes, refused_run}
+use Rattle.bus_record.specs.NetworkSide.{reader_after, rests_elsewhere, network_rests, counted_after, period_has_note, answer_with, answer_after, octets_after, no_notes, refused_run}
 use Rattle.bus_record.specs.declared.record.BusRecord.{BusRecord}
-use Rattle.bus_call_specs.specs.Step.{step_terminals, step_notes, step_told, step_crossed, step_answer, step_octets}
-use Rattle.bus_record.proofs.SideLaws.{shown_off, answer_off}
-use Rattle.bus_record.specs.declared.crossing.Crossed.{Crossed}
-use Rattle.bus_record.specs.declared.side.RunAnswer.{RunAnswer}
-use Rattle.heard_line.specs.declared.heard.Upward.{Upward}
+use Rattle.bus_call_specs.specs.Step.{step_terminals, step_notes, step_told, step_answer, step_octets}
 use Rattle.idle_periods.specs.Still.{quiet, counted_over, leapt}
 use Rattle.idle_periods.proofs.Stays.{AllStay, Still}
 
@@ -107,13 +103,12 @@ module _ (images octets letters : List ℕ) (j : ℕ) (b : BusRecord) (ts : List
   run : b.periods.0 < most_periods
   run = omega (arith, s.one_left)
 
-  parts : (b.hit ≡ false) × (b.echo ≡ true) × (cond (eqb state G3) (reader_waits b.reader) true ≡ true) × (b.cycle.running ≡ false)
+  parts : (b.hit ≡ false) × (b.echo ≡ true) × (cond (eqb state G3) (reader_waits b.reader) true ≡ true)
   unfolding quiet
   parts =
-      let p = and_both ((not b.hit && not b.cycle.running) && b.echo) (cond (eqb state G3) (reader_waits b.reader) true) s.quiet_is in
-      let q = and_both (not b.hit && not b.cycle.running) b.echo p.0 in
-      let r = and_both (not b.hit) (not b.cycle.running) q.0 in
-      (not-true b.hit r.0, q.1, p.1, not-true b.cycle.running r.1)
+      let p = and_both (not b.hit && b.echo) (cond (eqb state G3) (reader_waits b.reader) true) s.quiet_is in
+      let q = and_both (not b.hit) b.echo p.0 in
+      (not-true b.hit q.0, q.1, p.1)
 
   rest : RestsThrough state (letters_at_e (hit_in false letters)) true ts
   unfolding hit_in letters_at_e
@@ -176,26 +171,10 @@ module _ (images octets letters : List ℕ) (j : ℕ) (b : BusRecord) (ts : List
   unfolding counted_after counted_over four_more
   counted_is = by_test (eqb state G3) (λ t. by_test (leb b.opportunities.0 (4 * most_periods)) (λ u. rw (t, u)) (λ u. rw (t, u))) (λ t. rw t)
 
-  -- no cycle runs, and so none goes on
-  abbrev crossed : Crossed
-  crossed = step_crossed b ts images letters
-
-  abbrev went : Upward → RunAnswer
-  went line =
-      answer_with b (step_tally b ts images letters) (read_in state (step_tally b ts images letters).ds octets b.reader)
-      (network_listens line b.periods b.network) (step_told b ts images letters)
-
-  off_ran : step_answer b ts images octets letters ≡ went (shown_in b (step_tally b ts images letters) crossed)
-  unfolding step_answer answer_after
-  off_ran = answer_off b (step_tally b ts images letters) crossed _ _ _ parts.3
-
-  went_on : went (shown_in b (step_tally b ts images letters) crossed) ≡ refused_run 0 (leapt 1 b)
-  unfolding answer_with refused_run leapt period_has_note reader_after
-  went_on =
+  pub still_ran : step_answer b ts images octets letters ≡ refused_run 0 (leapt 1 b)
+  unfolding step_answer answer_after answer_with refused_run leapt period_has_note reader_after
+  still_ran =
       let l : leb (b.periods.0 + 1) most_periods ≡ true = le-leb (b.periods.0 + 1) most_periods (omega (arith, s.one_left)) in
       let d1 = clear_due b.periods j b.network.t1 run s.t1_clear in
       let d2 = clear_due b.periods j b.network.t2 run s.t2_clear in
-      rw (shown_off b (step_tally b ts images letters) crossed parts.3, tally_is, told_is, read_is, listens_rests (shown_from (any_sends 1 (states_of ts)) (any_sends 3 (states_of ts))) b.periods b.network s.network_rests_lem d1 d2, next_is b.periods run, counted_is, l, parts.0, parts.1)
-
-  pub still_ran : step_answer b ts images octets letters ≡ refused_run 0 (leapt 1 b)
-  still_ran = off_ran ∙ went_on
+      rw (tally_is, told_is, read_is, listens_rests (shown_from (any_sends 1 (states_of ts)) (any_sends 3 (states_of ts))) b.periods b.network s.network_rests_lem d1 d2, next_is b.periods run, counted_is, l, parts.0, parts.1)

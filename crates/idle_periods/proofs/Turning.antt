@@ -7,7 +7,7 @@ use native.Mathlib.Omega.{arith}
 use borrow.Author.Tests.{lt-ltb, ltb-true}
 use Rattle.terminal.specs.declared.Terminal.{Terminal}
 use Rattle.period_hearing.specs.declared.hears.UnitNotes.{UnitNotes}
-use Rattle.bus_record.specs.NetworkSide.{answer_with, with_cycle_on, answer_after, refused_run}
+use Rattle.bus_record.specs.NetworkSide.{answer_with, answer_after, refused_run}
 use Rattle.bus_record.specs.declared.record.BusRecord.{BusRecord}
 use Rattle.bus_record.specs.declared.side.RunAnswer.{RunAnswer}
 use Rattle.bus_call_specs.specs.Kept.{Kept, kept}
@@ -75,7 +75,7 @@ module _ (left : ℕ) (k : Kept) (some : 0 < left) (h : run_reply 1 k ≡ 0) whe
 
 -- ---- A leap, and the period after it.
 step_reply : (b : BusRecord) (ts : List Terminal) (images os letters : List ℕ) → (step_answer b ts images os letters).reply ≡ 0
-unfolding step_answer answer_after with_cycle_on answer_with
+unfolding step_answer answer_after answer_with
 step_reply b ts images os letters = refl
 
 pub leap_turns : (left : ℕ) (k : Kept) →

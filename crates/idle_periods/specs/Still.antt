@@ -25,9 +25,9 @@ use Rattle.idle_periods.specs.declared.ahead.Ahead.{Ahead}
 
 -- ---- The network end.
 
--- no hit is pending, no cycle of Q and S bits runs, D was 1, and in G3 the reader waits
+-- no hit is pending, D was 1, and in G3 the reader waits
 unfoldable pub quiet : BusRecord → Bool
-quiet b = ((not b.hit && not b.cycle.running) && b.echo) && cond (eqb b.network.state G3) (reader_waits b.reader) true
+quiet b = (not b.hit && b.echo) && cond (eqb b.network.state G3) (reader_waits b.reader) true
 
 -- as far as its own timers and `left`, the periods left to run, allow: one of these stays to be run
 -- after the step. The last period that a bus can run bounds it as a timer does. 0 where the bus is

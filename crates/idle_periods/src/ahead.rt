@@ -30,13 +30,12 @@ pub struct Ahead {
     pub info3: bool,
 }
 
-// Tests whether no hit is pending, no cycle of Q and S bits runs, D was 1, and in G3 the reader
-// waits.
+// Tests whether no hit is pending, D was 1, and in G3 the reader waits.
 fn quiet(bus: BusRecord) -> bool
     ensures { result ≡ spec.quiet bus }
 {
     let reader = bus.reader;
-    !bus.hit & !bus.cycle.running & bus.echo & ((bus.network.state != G3) | waits(reader))
+    !bus.hit & bus.echo & ((bus.network.state != G3) | waits(reader))
 }
 
 // Gives one less than n, or 0.

@@ -11,7 +11,7 @@ use Rattle.symbols.specs.Symbols.{none, plus, minus, levels, within, fits}
 use Rattle.symbols.proofs.Lines.{same_symbols_true, same_symbols_self}
 use Rattle.frame.specs.Polarity.{alternate, symbols}
 use Rattle.frame.specs.Up.{up_bits, up_line}
-use Rattle.frame.proofs.Laws.{levels_up, line_down_lem, line_up_lem, d_up, fa_up_lem, e_down, a_down, fa_down_lem, m_down, s_down_lem}
+use Rattle.frame.proofs.Laws.{levels_up, line_down_lem, line_up_lem, d_up, fa_up, e_down, a_down, fa_down_lem, m_down, s_down}
 use Rattle.frame.specs.declared.fields.UpFields.{UpFields}
 use Rattle.framed.specs.Framed.{first_pulse, framed_in, has_pulse}
 use Rattle.framed.proofs.Laws.{framed_down_lem, framed_up_lem, pulse_down, pulse_up}
@@ -124,7 +124,7 @@ pub fa_info2 : Laws.FaInfo2
 fa_info2 bits = fa_down_lem (info2_fields bits)
 
 pub fa_info3 : Laws.FaInfo3
-fa_info3 fa d = fa_up_lem (info3_fields fa d)
+fa_info3 fa d = fa_up (info3_fields fa d)
 
 pub fa_info4 : Laws.FaInfo4
 fa_info4 bits e = fa_down_lem (info4_fields bits e)
@@ -139,7 +139,7 @@ pub s_info0 : Laws.SInfo0
 s_info0 = refl
 
 pub s_info2 : Laws.SInfo2
-s_info2 bits = s_down_lem (info2_fields bits)
+s_info2 bits = s_down (info2_fields bits)
 
 pub s_info4 : Laws.SInfo4
-s_info4 bits e = s_down_lem (info4_fields bits e)
+s_info4 bits e = s_down (info4_fields bits e)

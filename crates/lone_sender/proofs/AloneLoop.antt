@@ -8,7 +8,6 @@ use lib.Dec.{ltb}
 use borrow.Author.Tests.{ltb-true, ltb-false, lt-ltb}
 use Rattle.test_lemmas.proofs.ByCases.{by_test}
 use Rattle.test_lemmas.proofs.Operators.{and_both}
-use Rattle.bus_record.specs.Crossing.{uncrossed}
 use Rattle.bus_record.specs.NetworkSide.{answer_after, octets_after}
 use Rattle.bus_record.specs.declared.side.RunAnswer.{RunAnswer}
 use Rattle.exchange.specs.declared.tally.Tally.{Tally}
@@ -63,7 +62,7 @@ module _ {images : List ℕ} {most : ℕ} {end : Alone} {left : List ℕ} {ran :
     goes_here = (and_both (ltb over most) (goes_alone images here) (sym going_here ∙ on)).1
 
     pub going_on : {m : Tally} {ran' : RunAnswer} {octets' : List ℕ} {next' : LoneStep} {stays : Bool} → m ≡ tally_of ran.bus.network.state next.ds
-        → ran' ≡ answer_after ran.bus m uncrossed octets false → octets' ≡ octets_after ran.bus m octets → next' ≡ lone_step images next.lone → stays ≡ stays_alone ran' next.lone next'.goes
+        → ran' ≡ answer_after ran.bus m octets false → octets' ≡ octets_after ran.bus m octets → next' ≡ lone_step images next.lone → stays ≡ stays_alone ran' next.lone next'.goes
         → Going images most end left ran' next.lone (over + 1) next' (ltb (over + 1) most && stays) octets'
     unfolding alone_after octets_then
     going_on {m} {ran'} {octets'} {next'} {stays} is_m is-ran is-octets is-next is-stays =

@@ -66,7 +66,6 @@ pub record Goes (images : List ℕ) (a : Alone) : Type 0 where
   pub none_told : a.answer.told ≡ false
   in_g3_lem : a.answer.bus.network.state ≡ G3
   no_hit : a.answer.bus.hit ≡ false
-  pub no_cycle_lem : a.answer.bus.cycle.running ≡ false
   heard_is : a.answer.bus.echo ≡ a.lone.last
   goes : lone_goes images a.lone ≡ true
   pub more : all_run a.answer.bus.periods ≡ false
@@ -76,20 +75,17 @@ unfolding goes_alone stays_alone
 goes_facts images a h =
     let bus = a.answer.bus in
     let quiet : Bool = eqb a.answer.reply 0 && not a.answer.told in
-    let free : Bool = (quiet && eqb bus.network.state G3) && not bus.hit in
-    let still : Bool = free && not bus.cycle.running in
+    let still : Bool = (quiet && eqb bus.network.state G3) && not bus.hit in
     let same : Bool = same_bit bus.echo a.lone.last in
     let h1 = and_both ((still && same) && lone_goes images a.lone) (not (all_run bus.periods)) h in
     let h2 = and_both (still && same) (lone_goes images a.lone) h1.0 in
     let h3 = and_both still same h2.0 in
-    let h35 = and_both free (not bus.cycle.running) h3.0 in
-    let h4 = and_both (quiet && eqb bus.network.state G3) (not bus.hit) h35.0 in
+    let h4 = and_both (quiet && eqb bus.network.state G3) (not bus.hit) h3.0 in
     let h5 = and_both quiet (eqb bus.network.state G3) h4.0 in
     let h6 = and_both (eqb a.answer.reply 0) (not a.answer.told) h5.0 in
     record {
       no_reply = eqb-true a.answer.reply 0 h6.0;
       none_told = not-true a.answer.told h6.1;
-      no_cycle_lem = not-true bus.cycle.running h35.1;
       in_g3_lem = eqb-true bus.network.state G3 h5.1;
       no_hit = not-true bus.hit h4.1;
       heard_is = same_equal bus.echo a.lone.last h3.1;

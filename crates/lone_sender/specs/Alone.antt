@@ -6,7 +6,6 @@ use Rattle.hdlc.specs.Bits.{same_bit}
 use Rattle.table_6_3.specs.Table63.{G3}
 use Rattle.timing.specs.Calls.{all_run}
 use Rattle.exchange.specs.declared.tally.Tally.{Tally}
-use Rattle.bus_record.specs.Crossing.{uncrossed}
 use Rattle.bus_record.specs.NetworkSide.{answer_after, octets_after, refused_run}
 use Rattle.bus_record.specs.declared.record.BusRecord.{BusRecord}
 use Rattle.bus_record.specs.declared.side.RunAnswer.{RunAnswer}
@@ -14,13 +13,12 @@ use Rattle.lone_sender.specs.Lone.{lone_after_four, lone_goes, lone_tally}
 use Rattle.lone_sender.specs.declared.lone.LoneSender.{LoneSender}
 use Rattle.lone_sender.specs.declared.alone.Alone.{Alone}
 
--- whether a period more is run: the last one has no note, INFO 4 is sent without a hit, no cycle of Q
--- and S bits runs, the E that comes is the sender's last bit, and the sender goes on alone (`goes`)
+-- whether a period more is run: the last one has no note, INFO 4 is sent without a hit, the E that
+-- comes is the sender's last bit, and the sender goes on alone (`goes`)
 unfoldable pub stays_alone : RunAnswer → LoneSender → Bool → Bool
 stays_alone last s goes =
     let bus = last.bus in
-    let still =
-    (((eqb last.reply 0 && not last.told) && eqb bus.network.state G3) && not bus.hit) && not bus.cycle.running in
+    let still = ((eqb last.reply 0 && not last.told) && eqb bus.network.state G3) && not bus.hit in
     ((still && same_bit bus.echo s.last) && goes) && not (all_run bus.periods)
 
 unfoldable pub goes_alone : List ℕ → Alone → Bool
@@ -33,7 +31,7 @@ tally_then images a = lone_tally images a.answer.bus.network.state a.lone
 unfoldable pub alone_after : List ℕ → Alone → List ℕ → Alone
 alone_after images a octets =
     record {
-      answer = answer_after a.answer.bus (tally_then images a) uncrossed octets false;
+      answer = answer_after a.answer.bus (tally_then images a) octets false;
       lone = lone_after_four images a.lone;
       over = a.over + 1;
     }

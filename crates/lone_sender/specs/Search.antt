@@ -65,10 +65,10 @@ searched period most ts = fold_from (searched_one period) 0 (no_search most) ts
 unfoldable pub alone_for : Search → ℕ
 alone_for a = cond (a.fits && a.sends) a.over 0
 
--- whether a search is in vain: the network end is not in G3, a hit is pending, seven 1s have been
--- read, or a cycle of Q and S bits runs
+-- whether a search is in vain: the network end is not in G3, a hit is pending, or seven 1s have
+-- been read
 unfoldable pub in_vain : BusRecord → Bool
-in_vain b = ((not (eqb b.network.state G3) || b.hit) || eqb b.reader.ones 7) || b.cycle.running
+in_vain b = (not (eqb b.network.state G3) || b.hit) || eqb b.reader.ones 7
 
 -- ---- What a search that finds one has shown (proofs/FoundAlone.antt).
 unfoldable pub all_hear_alike : List Terminal → Bool

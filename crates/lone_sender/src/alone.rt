@@ -3,7 +3,6 @@ ghost use Rattle.std.specs.Prelude.{◌≡◌};
 ghost use Rattle.lone_sender.specs.Alone.{stays_alone, alone_run, alone_run_octets};
 
 use super::lone::{LoneSender, tally_of};
-use bus_record::crossing::UNCROSSED;
 use bus_record::record::BusRecord;
 use bus_record::side::{RunAnswer, network_side, refused_run};
 use table_6_3::G3;
@@ -16,15 +15,13 @@ pub struct Alone {
     pub over: u32,
 }
 
-// Tests whether a period more is run: the last one has no note, INFO 4 is sent without a hit, no
-// cycle of Q and S bits runs, the E that comes is the sender's last bit, and the sender goes on alone
-// (`goes`).
+// Tests whether a period more is run: the last one has no note, INFO 4 is sent without a hit, the E
+// that comes is the sender's last bit, and the sender goes on alone (`goes`).
 fn stays_alone(answer: RunAnswer, lone: LoneSender, goes: bool) -> bool
     ensures { result ≡ stays_alone answer lone goes }
 {
     let bus = answer.bus;
-    let still = (answer.reply == 0) & !answer.told & (bus.network.state == G3);
-    let still = still & !bus.hit & !bus.cycle.running;
+    let still = (answer.reply == 0) & !answer.told & (bus.network.state == G3) & !bus.hit;
     still & (bus.echo == lone.last) & goes & !bus.periods.all_run()
 }
 
@@ -46,7 +43,7 @@ pub fn run_alone(
     let mut going = (over < most) & stays_alone(answer, sender, next.goes);
     while going {
         let tally = tally_of(answer.bus.network.state, next.ds);
-        answer = network_side(answer.bus, tally, UNCROSSED, octets, false);
+        answer = network_side(answer.bus, tally, octets, false);
         sender = next.lone;
         over += 1;
         next = sender.after_four(images);

@@ -109,12 +109,12 @@ impl Search {
     }
 }
 
-// Tests whether a search is in vain: the network end is not in G3, a hit is pending, seven 1s have
-// been read, or a cycle of Q and S bits runs.
+// Tests whether a search is in vain: the network end is not in G3, a hit is pending, or seven 1s
+// have been read.
 pub fn in_vain(bus: BusRecord) -> bool
     ensures { result ≡ in_vain bus }
 {
-    (bus.network.state != G3) | bus.hit | (bus.reader.ones == 7) | bus.cycle.running
+    (bus.network.state != G3) | bus.hit | (bus.reader.ones == 7)
 }
 
 // Looks at all terminals, for at most `most` periods from `period` on.

@@ -1,12 +1,12 @@
--- Rules: the text of notes (document 01, "Bench book and report"; document 02, 2.1), in ASCII codes,
--- and notes in either form.
+-- Rules: the text of notes (document 01, "Bench book and report"), in ASCII codes, and notes in
+-- either form.
 -- Interface: `decimal_in`, `decimal`, `hex_code`, `hex_of`, `note_number`, `note`, `note_line`,
 -- `heading`, `stopped_line`, `note_in`, `notes_in`, `notes_text`. Assumes nothing.
 use Rattle.std.specs.Prelude.{cond, List, [], ◌∷◌, ◌++◌, map, ◌≡◌, refl, ℕ, zero, suc, ◌+◌, ◌/◌, ◌%◌, ltb, take}
 use Rattle.notes_and_cells.specs.Names.{Value, ascii, printed, printed_as}
 use Rattle.notes_and_cells.specs.Names.Value.{no_value, body, number, word}
 use Rattle.notes_and_cells.specs.NumberOfOctets.{low_first}
-use Rattle.notes_and_cells.specs.Notes.{ph_act, mph_act, mph_ei2, mph_ii_connected, HEARD, DONE1, REFUSED, Q, S}
+use Rattle.notes_and_cells.specs.Notes.{ph_act, mph_act, mph_ei2, mph_ii_connected, HEARD, DONE1, REFUSED}
 use Rattle.text.specs.Text.{LF, space}
 use Rattle.bus_rules.specs.Bus.{Note}
 use Rattle.note_text.specs.NoteOctets.{note_octets}
@@ -127,13 +127,6 @@ example_octets = refl
 pub example_refused : note_line (note 3 12 REFUSED (3 ∷ [])) ≡ line (ascii "3 12 refused 3" ∷ [])
 unfolding low_first note_line decimal decimal_in printed_as printed
 example_refused = refl
-
--- What a cycle of Q and S bits has received.
-pub example_cycle :
-    map note_line (note 40 0 Q (5 ∷ []) ∷ note 40 8 S (255 ∷ 255 ∷ 15 ∷ []) ∷ [])
-    ≡ map (λ text. line (text ∷ [])) (ascii "40 0 q 5" ∷ ascii "40 8 s 1048575" ∷ [])
-unfolding low_first note_line decimal decimal_in printed_as printed
-example_cycle = refl
 
 -- A number of one octet, of three, of none; of four octets the fourth is not looked at.
 pub example_values :

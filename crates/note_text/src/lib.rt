@@ -1,6 +1,6 @@
-// Notes in lent room, as text (document 01, "Bench book and report"; document 02, 2.1) or as octets.
-// Every function whose name begins with `put` puts its part behind the `wrote` octets written so
-// far, as much of it as there is room for, and gives how many octets are written then.
+// Notes in lent room, as text (document 01, "Bench book and report") or as octets. Every function
+// whose name begins with `put` puts its part behind the `wrote` octets written so far, as much of
+// it as there is room for, and gives how many octets are written then.
 pub mod form;
 pub mod hex;
 pub mod low;

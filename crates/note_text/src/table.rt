@@ -4,7 +4,7 @@ ghost use Rattle.note_text.specs.Room.{Put};
 ghost use Rattle.note_text.specs.LineParts.{named, open_as};
 
 use super::room::put;
-use notes_and_cells::notes::{HEARD, Q, REFUSED, S};
+use notes_and_cells::notes::{HEARD, REFUSED};
 use text::length::least;
 
 // What is left open of a note's value: nothing, a body, a number.
@@ -16,17 +16,17 @@ pub enum OpenValue {
 }
 
 // One more than the last code: where numbers that are no code stand in the table.
-const NO_CODE: usize = S as usize + 1;
+const NO_CODE: usize = REFUSED as usize + 1;
 
 // For each code, from 0 on: a space, the note's name, a space, and the value where the code decides
 // it.
 const NAMES: [u8; PLACES[NO_CODE + 1] as usize] =
     *b"  - ph_act - ph_deact - mph_act - mph_deact - mph_ei - mph_ei1 - mph_ei2 - \
-    MPH-II connected MPH-II disconnected heard  torn - done1 - done2 - dropped1 - dropped2 - refused  q  s   -";
+    MPH-II connected MPH-II disconnected heard  torn - done1 - done2 - dropped1 - dropped2 - refused   -";
 
 // Where each code's part begins; the last one's end.
 const PLACES: [u8; NO_CODE + 2] = [
-    0, 3, 12, 23, 33, 45, 54, 64, 74, 91, 111, 118, 125, 133, 141, 152, 163, 172, 175, 178, 181,
+    0, 3, 12, 23, 33, 45, 54, 64, 74, 91, 111, 118, 125, 133, 141, 152, 163, 172, 175,
 ];
 
 // Puts the note's name between spaces, and the value where the code decides it.
@@ -40,18 +40,13 @@ pub(crate) fn put_name(room: &mut [u8], wrote: usize, code: u8) -> usize
 }
 
 // How many codes leave something of the value open.
-const OPEN: usize = 4;
+const OPEN: usize = 2;
 
 // They are these.
-const CODES: [u8; OPEN] = [HEARD, REFUSED, Q, S];
+const CODES: [u8; OPEN] = [HEARD, REFUSED];
 
 // What each leaves open.
-const VALUES: [OpenValue; OPEN] = [
-    OpenValue::Body,
-    OpenValue::Number,
-    OpenValue::Number,
-    OpenValue::Number,
-];
+const VALUES: [OpenValue; OPEN] = [OpenValue::Body, OpenValue::Number];
 
 // Gives what a code leaves open of the value.
 pub(crate) fn open_as(code: u8) -> OpenValue

@@ -1,4 +1,4 @@
--- Rules: the events of a book by number (document 01, "Bench book and report"; document 02, 2.1).
+-- Rules: the events of a book by number (document 01, "Bench book and report").
 -- Interface: every name. Assumes nothing.
 use Rattle.std.specs.Prelude.{ℕ}
 
@@ -26,11 +26,3 @@ HIT = 7
 
 abbrev pub END : ℕ
 END = 8
-
--- those of document 02 behind them: a message on the Q bits, for a terminal, and on the S bits, for
--- the network end
-abbrev pub Q : ℕ
-Q = 9
-
-abbrev pub S : ℕ
-S = 10

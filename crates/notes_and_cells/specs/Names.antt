@@ -1,11 +1,11 @@
--- Rules: how each note is printed (document 01, "Bench book and report"; document 02, 2.1): its name
--- and what its value is.
+-- Rules: how each note is printed (document 01, "Bench book and report"): its name and what its
+-- value is.
 -- Interface: `ascii`, `Value`, `printed`, `printed_as`. Assumes nothing.
 use Rattle.std.specs.Prelude.{◌≡◌, refl, List, [] as []ᴸ, ◌∷◌ as ◌∷ᴸ◌, map, ℕ, get_or}
 use Prim.Native.Char.{code}
 use Prim.Native.String.{String, [], ◌∷◌}
 use Rattle.notes_and_cells.specs.Notes.{ph_act, ph_deact, mph_act, mph_deact, mph_ei, mph_ei1, mph_ei2, mph_ii_connected}
-use Rattle.notes_and_cells.specs.Notes.{mph_ii_disconnected, HEARD, TORN, DONE1, DONE2, DROPPED1, DROPPED2, REFUSED, Q, S}
+use Rattle.notes_and_cells.specs.Notes.{mph_ii_disconnected, HEARD, TORN, DONE1, DONE2, DROPPED1, DROPPED2, REFUSED}
 
 -- The ASCII codes of a text.
 abbrev pub ascii : String → List ℕ
@@ -43,8 +43,6 @@ printed =
     ∷ᴸ plain "dropped1"
     ∷ᴸ plain "dropped2"
     ∷ᴸ record { name = ascii "refused"; value = number }
-    ∷ᴸ record { name = ascii "q"; value = number }
-    ∷ᴸ record { name = ascii "s"; value = number }
     ∷ᴸ []ᴸ
 
 unfoldable pub printed_as : ℕ → Printed
@@ -69,8 +67,6 @@ pub names_of_codes :
     ∷ᴸ DROPPED1
     ∷ᴸ DROPPED2
     ∷ᴸ REFUSED
-    ∷ᴸ Q
-    ∷ᴸ S
     ∷ᴸ []ᴸ)
     ≡ map ascii
     ("ph_act"
@@ -89,8 +85,6 @@ pub names_of_codes :
     ∷ᴸ "dropped1"
     ∷ᴸ "dropped2"
     ∷ᴸ "refused"
-    ∷ᴸ "q"
-    ∷ᴸ "s"
     ∷ᴸ []ᴸ)
 unfolding printed_as printed
 names_of_codes = refl

@@ -59,7 +59,7 @@ abbrev pub REFUSED : ℕ
 REFUSED = 16
 
 -- What a cycle of Q and S bits has received: the network end the four Q bits, a terminal the twenty S
--- bits.
+-- bits. No bus has these notes yet.
 abbrev pub Q : ℕ
 Q = 17
 

@@ -1,19 +1,11 @@
--- Rules: the number that octets stand for, the low-order octet first, and a number as octets.
+-- Rules: the number that octets stand for, the low-order octet first.
 -- Interface: every name. Assumes nothing.
-use Rattle.std.specs.Prelude.{List, [], ◌∷◌, map, ◌≡◌, refl, ℕ, ◌+◌, ◌*◌, ◌/◌, ◌%◌, ◌<◌}
+use Rattle.std.specs.Prelude.{List, [], ◌∷◌, map, ◌≡◌, refl, ℕ, ◌+◌, ◌*◌}
 
 -- Of any number of octets; none stand for 0.
 unfoldable pub low_first : List ℕ → ℕ
 low_first [] = 0
 low_first (octet ∷ octets) = octet + 256 * low_first octets
-
--- A number as three octets. What it has above them is left out; one below 16,777,216 has nothing
--- there, and is what they stand for (proofs/NumberOfOctets.antt).
-abbrev pub three_octets : ℕ → List ℕ
-three_octets n = n % 256 ∷ n / 256 % 256 ∷ n / 65536 % 256 ∷ []
-
-abbrev pub ThreeStandFor : Type 0
-ThreeStandFor = (n : ℕ) → n < 16777216 → low_first (three_octets n) ≡ n
 
 -- ---- Computed: none, one, three, and a fourth that is 0.
 pub example_numbers :

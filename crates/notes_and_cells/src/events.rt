@@ -1,5 +1,4 @@
-// The events of a book by number, in the order in which document 01 names them, then those of
-// document 02; 0 is none.
+// The events of a book by number, in the order in which document 01 names them; 0 is none.
 pub const ON: u8 = 1;
 
 pub const OFF: u8 = 2;
@@ -15,8 +14,3 @@ pub const D2: u8 = 6;
 pub const HIT: u8 = 7;
 
 pub const END: u8 = 8;
-
-// A message on the Q bits, for a terminal, and on the S bits, for the network end (2.1).
-pub const Q: u8 = 9;
-
-pub const S: u8 = 10;

@@ -1,5 +1,5 @@
-// The notes of one unit's call (document 01, "Bench book and report"; document 02, 2.1).
-// specs/Names.antt gives each code its name and value.
+// The notes of one unit's call (document 01, "Bench book and report"). specs/Names.antt gives each
+// code its name and value.
 
 pub const PH_ACT: u8 = 1;
 
@@ -32,11 +32,6 @@ pub const DROPPED1: u8 = 14;
 pub const DROPPED2: u8 = 15;
 
 pub const REFUSED: u8 = 16;
-
-// What a cycle of Q and S bits has received: the network end, and a terminal.
-pub const Q: u8 = 17;
-
-pub const S: u8 = 18;
 
 // At most four notes: their number, and their codes in the order in which they stand. A place that
 // has none is 0.

@@ -15,21 +15,16 @@ use Rattle.bus_rules.specs.Bus.{Note, terminals, notes_of}
 use Rattle.bus_rules.specs.Order.{unit_by_unit, part_in_order}
 use Rattle.period_hearing.specs.declared.hears.UnitNotes.{UnitNotes}
 use Rattle.bus_record.specs.declared.side.RunAnswer.{RunAnswer}
-use Rattle.bus_call_specs.specs.Lists.{reader_told, done_notes, cycle_told, terminals_heard, terminals_told, timers_told, heard_told, timed_told, period_told}
+use Rattle.bus_call_specs.specs.Lists.{reader_told, done_notes, terminals_heard, terminals_told, timers_told, heard_told, timed_told, period_told}
 use Rattle.note_text.specs.Room.{Put}
 use Rattle.note_text.specs.NoteText.{notes_in}
 use Rattle.note_text.specs.declared.form.Form.{Form}
 use Rattle.note_text.proofs.RoomLaws.{put_put, put_start, put_length}
-use Rattle.period_text.specs.CycleShown.{q_shown, q_noted, s_noted, ShownAs}
 use Rattle.note_text.proofs.NoteLaws.{form_append, codes_append}
-use Rattle.period_text.proofs.CycleLaws.{q_shown_lem}
 
--- The codes of one terminal's hearing, and its notes: the cycle's come last.
-abbrev pub codes_of : RunAnswer → ℕ → UnitNotes → List ℕ
-codes_of r i n = done_notes (bit_of r.done1 i) (bit_of r.done2 i) ++ noted n.hearing
-
+-- The notes of one terminal's hearing.
 abbrev pub heard_of : ℕ → RunAnswer → ℕ → UnitNotes → List Note
-heard_of now r i n = notes_of now (suc i) (codes_of r i n) ++ cycle_told now r (suc i)
+heard_of now r i n = notes_of now (suc i) (done_notes (bit_of r.done1 i) (bit_of r.done2 i) ++ noted n.hearing)
 
 -- And of its timer.
 abbrev pub timed_of : ℕ → ℕ → UnitNotes → List Note
@@ -39,18 +34,11 @@ timed_of now i n = notes_of now (suc i) (noted n.timers)
 terminals_more : (now : ℕ) (r : RunAnswer) (i : ℕ) (ns : List UnitNotes) (n : UnitNotes)
     → terminals_told now r i (ns ++ (n ∷ [])) ≡ terminals_told now r i ns ++ heard_of now r (i + length ns) n
 unfolding unit_by_unit terminals_heard
-terminals_more now r i [] n = let e : i + zero ≡ i = omega arith in rw (e, append-nil (cycle_told now r (suc i)))
+terminals_more now r i [] n = let e : i + zero ≡ i = omega arith in rw (e, append-nil)
 terminals_more now r i (m ∷ ns) n =
     let e : suc i + length ns ≡ i + suc (length ns) = omega arith in
-    let codes = notes_of now (suc i) (codes_of r i m) in
-    let more = terminals_told now r (suc i) ns in
-    let last = heard_of now r (i + suc (length ns)) n in
-    rw (
-      terminals_more now r (suc i) ns n,
-      e,
-      append_assoc codes (cycle_told now r (suc i) ++ more) last,
-      append_assoc (cycle_told now r (suc i)) more last,
-    )
+    rw (terminals_more now r (suc i) ns n, e)
+    (sym (append_assoc (heard_of now r i m) (terminals_told now r (suc i) ns) (heard_of now r (i + suc (length ns)) n)))
 
 timers_more : (now i : ℕ) (ns : List UnitNotes) (n : UnitNotes)
     → timers_told now i (ns ++ (n ∷ [])) ≡ timers_told now i ns ++ timed_of now (i + length ns) n
@@ -78,57 +66,43 @@ timers_next form now ns i d h =
     rw (add-one i, take-suc ns i d h, timers_more now 0 (take i ns) (get_or ns i d), place_is ns i h)
     (form_append form (timers_told now 0 (take i ns)) (notes_of now (suc i) (noted (get_or ns i d).timers)))
 
--- ---- One terminal's hearing: the notes of completed frames, then the others, then the cycle's.
-done_first : {room : List ℕ} {wrote r₁ : ℕ} {room₁ : List ℕ} {r₂ : ℕ} {room₂ : List ℕ} (form : Form) (now unit : ℕ) (one two : Bool) (done others : List ℕ)
+-- ---- One terminal's hearing: the notes of completed frames, then the others.
+pub done_first : {room : List ℕ} {wrote r₁ : ℕ} {room₁ : List ℕ} {r₂ : ℕ} {room₂ : List ℕ} (form : Form) (now unit : ℕ) (one two : Bool) (done others : List ℕ)
     → done ≡ done_notes one two → Put room wrote (notes_in form (notes_of now unit done)) r₁ room₁ → Put room₁ r₁ (notes_in form (notes_of now unit others)) r₂ room₂
     → Put room wrote (notes_in form (notes_of now unit (done_notes one two ++ others))) r₂ room₂
 done_first form now unit one two done others e p q = rw (← e, codes_append form now unit done others) (put_put p q)
 
-pub cycle_last : {room : List ℕ} {wrote r₁ : ℕ} {room₁ : List ℕ} {r₂ : ℕ} {room₂ : List ℕ} {r₃ : ℕ} {room₃ : List ℕ} (form : Form) (now unit : ℕ)
-    (one two : Bool) (done others : List ℕ) (last : List Note) → done ≡ done_notes one two → Put room wrote (notes_in form (notes_of now unit done)) r₁ room₁
-    → Put room₁ r₁ (notes_in form (notes_of now unit others)) r₂ room₂ → Put room₂ r₂ (notes_in form last) r₃ room₃
-    → Put room wrote (notes_in form (notes_of now unit (done_notes one two ++ others) ++ last)) r₃ room₃
-cycle_last form now unit one two done others last e p q l =
-    rw (form_append form (notes_of now unit (done_notes one two ++ others)) last) (put_put (done_first form now unit one two done others e p q) l)
-
--- ---- Where the loop of `put_terminals` stands: the notes of i terminals are put, and so many bits are gone from the
--- octets of completed frames and of who has the note `s`.
-pub record Hearing (form : Form) (room₀ : List ℕ) (wrote now : ℕ) (ns : List UnitNotes) (done1 done2 s units : ℕ) (room : List ℕ)
-    (first second third at i : ℕ) : Type 0 where
+-- ---- Where the loop of `put_terminals` stands: the notes of i terminals are put, and so many bits are gone from the octets of completed frames.
+pub record Hearing (form : Form) (room₀ : List ℕ) (wrote now : ℕ) (ns : List UnitNotes) (done1 done2 : ℕ) (room : List ℕ) (first second at i : ℕ) : Type 0 where
   pub long : length ns ≡ terminals
   pub within : i ≤ terminals
   pub first_is : first ≡ done1 / (2 ^ i)
   pub second_is : second ≡ done2 / (2 ^ i)
-  pub third_is : third ≡ units / (2 ^ i)
   pub kept : length room ≡ length room₀
-  pub put_are : (r : RunAnswer) → r.done1 ≡ done1 → r.done2 ≡ done2 → ShownAs now r s units
-      → Put room₀ wrote (notes_in form (terminals_told now r 0 (take i ns))) at room
+  pub put_are : (r : RunAnswer) → r.done1 ≡ done1 → r.done2 ≡ done2 → Put room₀ wrote (notes_in form (terminals_told now r 0 (take i ns))) at room
 
-pub hearing_starts : (form : Form) (room : List ℕ) (wrote now : ℕ) (ns : List UnitNotes) (done1 done2 s units at : ℕ) → length ns ≡ terminals
-    → at ≡ min wrote (length room) → Hearing form room wrote now ns done1 done2 s units room done1 done2 units at 0
+pub hearing_starts : (form : Form) (room : List ℕ) (wrote now : ℕ) (ns : List UnitNotes) (done1 done2 at : ℕ) → length ns ≡ terminals → at ≡ min wrote (length room)
+    → Hearing form room wrote now ns done1 done2 room done1 done2 at 0
 unfolding unit_by_unit terminals_heard notes_in
-hearing_starts form room wrote now ns done1 done2 s units at long h =
+hearing_starts form room wrote now ns done1 done2 at long h =
     record {
       long = long;
       within = omega arith;
       first_is = sym (div-one done1);
       second_is = sym (div-one done2);
-      third_is = sym (div-one units);
       kept = refl;
-      put_are = λ r d e g. put_start room wrote h;
+      put_are = λ r d e. put_start room wrote h;
     }
 
 half_again : (d i : ℕ) → d / (2 ^ i) / 2 ≡ d / (2 ^ (i + 1))
 half_again d i = rw (div-div-eq-div-mul d (2 ^ i) 2, add-one i, pow-succ' 2 i, mul_comm (2 ^ i) 2)
 
-module _ {form : Form} {room₀ : List ℕ} {wrote now : ℕ} {ns : List UnitNotes} {done1 done2 s units : ℕ} {room : List ℕ} {first second third at i : ℕ}
-    (l : Hearing form room₀ wrote now ns done1 done2 s units room first second third at i) where
+module _ {form : Form} {room₀ : List ℕ} {wrote now : ℕ} {ns : List UnitNotes} {done1 done2 : ℕ} {room : List ℕ} {first second at i : ℕ}
+    (l : Hearing form room₀ wrote now ns done1 done2 room first second at i) where
   pub hearing_next : (d : UnitNotes) {room' : List ℕ} {at' : ℕ} → i < terminals
       → Put room at
-      (notes_in form
-      (notes_of now (i + 1) (done_notes (eqb (first % 2) 1) (eqb (second % 2) 1) ++ noted (get_or ns i d).hearing)
-      ++ s_noted now (i + 1) (eqb (third % 2) 1) s)) at' room'
-      → Hearing form room₀ wrote now ns done1 done2 s units room' (first / 2) (second / 2) (third / 2) at' (i + 1)
+      (notes_in form (notes_of now (i + 1) (done_notes (eqb (first % 2) 1) (eqb (second % 2) 1) ++ noted (get_or ns i d).hearing))) at' room'
+      → Hearing form room₀ wrote now ns done1 done2 room' (first / 2) (second / 2) at' (i + 1)
   unfolding bit_of
   hearing_next d {room'} {at'} h q =
       let long = l.long in
@@ -137,18 +111,15 @@ module _ {form : Form} {room₀ : List ℕ} {wrote now : ℕ} {ns : List UnitNot
         within = omega arith;
         first_is = rw l.first_is (half_again done1 i);
         second_is = rw l.second_is (half_again done2 i);
-        third_is = rw l.third_is (half_again units i);
         kept = put_length q ∙ l.kept;
-        put_are = λ r e f g.
-            let q' : Put room at (notes_in form (heard_of now r i (get_or ns i d))) at' room' =
-            rw (g i, e, f, ← l.first_is, ← l.second_is, ← l.third_is, ← add-one i) q
-            in
-            rw (terminals_next form now r ns i d (omega arith)) (put_put (l.put_are r e f g) q');
+        put_are = λ r e f.
+            let q' : Put room at (notes_in form (heard_of now r i (get_or ns i d))) at' room' = rw (e, f, ← l.first_is, ← l.second_is, ← add-one i) q in
+            rw (terminals_next form now r ns i d (omega arith)) (put_put (l.put_are r e f) q');
       }
 
-  pub hearing_ends : (r : RunAnswer) → r.done1 ≡ done1 → r.done2 ≡ done2 → ShownAs now r s units → terminals ≤ i
+  pub hearing_ends : (r : RunAnswer) → r.done1 ≡ done1 → r.done2 ≡ done2 → terminals ≤ i
       → Put room₀ wrote (notes_in form (terminals_told now r 0 ns)) at room
-  hearing_ends r e f g h = let long = l.long in rw (take_all i ns (omega arith)) at (l.put_are r e f g)
+  hearing_ends r e f h = let long = l.long in rw (take_all i ns (omega arith)) at (l.put_are r e f)
 
 -- ---- The same of `put_timers`.
 pub record Timing (form : Form) (room₀ : List ℕ) (wrote now : ℕ) (ns : List UnitNotes) (room : List ℕ) (at i : ℕ) : Type 0 where
@@ -174,26 +145,11 @@ module _ {form : Form} {room₀ : List ℕ} {wrote now : ℕ} {ns : List UnitNot
 -- ---- The parts of a period's notes, one behind the other: of what is heard, of the timers, and of both.
 pub heard_parts : (form : Form) (now : ℕ) (r : RunAnswer) (ns : List UnitNotes) (octets : List ℕ)
     → notes_in form (reader_told now r octets)
-    ++ (notes_in form (notes_of now 0 (noted r.network.hearing)) ++ (notes_in form (cycle_told now r 0) ++ notes_in form (terminals_told now r 0 ns)))
+    ++ (notes_in form (notes_of now 0 (noted r.network.hearing)) ++ notes_in form (terminals_told now r 0 ns))
     ≡ notes_in form (part_in_order now (heard_told now r ns octets))
 heard_parts form now r ns octets =
     let network = notes_of now 0 (noted r.network.hearing) in
-    let terminals = terminals_told now r 0 ns in
-    rw (
-      form_append form (reader_told now r octets) (network ++ (cycle_told now r 0 ++ terminals)),
-      form_append form network (cycle_told now r 0 ++ terminals),
-      form_append form (cycle_told now r 0) terminals,
-    )
-
--- as they are put, with the cycle's note of unit 0 from its value
-pub heard_put : {room : List ℕ} {wrote r₁ : ℕ} {room₁ : List ℕ} {r₂ : ℕ} {room₂ : List ℕ} {r₃ : ℕ} {room₃ : List ℕ} {r₄ : ℕ} {room₄ : List ℕ}
-    (form : Form) (now : ℕ) (r : RunAnswer) (ns : List UnitNotes) (octets : List ℕ) (q : ℕ) → q ≡ q_shown r.told r.bus.cycle
-    → Put room wrote (notes_in form (reader_told now r octets)) r₁ room₁
-    → Put room₁ r₁ (notes_in form (notes_of now 0 (noted r.network.hearing))) r₂ room₂
-    → Put room₂ r₂ (notes_in form (q_noted now q)) r₃ room₃ → Put room₃ r₃ (notes_in form (terminals_told now r 0 ns)) r₄ room₄
-    → Put room wrote (notes_in form (part_in_order now (heard_told now r ns octets))) r₄ room₄
-heard_put form now r ns octets q e reader network cycle terminals =
-    rw (← heard_parts form now r ns octets, q_shown_lem now r, ← e) (put_put reader (put_put network (put_put cycle terminals)))
+    rw (form_append form (reader_told now r octets) (network ++ terminals_told now r 0 ns), form_append form network (terminals_told now r 0 ns))
 
 pub timed_parts : (form : Form) (now : ℕ) (network : UnitNotes) (ns : List UnitNotes)
     → notes_in form (notes_of now 0 (noted network.timers)) ++ notes_in form (timers_told now 0 ns)

@@ -1,5 +1,5 @@
--- Calls: the notes of a call on the bus as text (document 01, "Bench book and report"; document 02,
--- 2.1), and the most octets that they take, as text and as octets.
+-- Calls: the notes of a call on the bus as text (document 01, "Bench book and report"), and the
+-- most octets that they take, as text and as octets.
 -- Interface: `event_noted`, `period_room`, `period_octets_room`. Assumes nothing.
 use Rattle.std.specs.Prelude.{cond, List, [], ◌∷◌, ◌≡◌, ℕ, ◌+◌, ◌*◌, ◌≤◌, ◌<◌, eqb, length}
 use Rattle.notes_and_cells.specs.Notes.{REFUSED, noted}
@@ -14,16 +14,16 @@ use Rattle.note_text.specs.Lengths.{numbers, line_room, heard_room, octets_room}
 use Rattle.note_text.specs.declared.form.Form.TheVariants.{Octets}
 
 -- The notes of an event: those that the call hands back; "In a book, 3 to 8 become the note
--- `refused` with the line's unit.", and "the new numbers become notes like 3 to 8".
+-- `refused` with the line's unit."
 unfoldable pub event_noted : ℕ → ℕ → Notes → ℕ → List Note
 event_noted period unit notes reply =
     cond (eqb reply 0) (notes_of period unit (noted notes))
     (note period unit REFUSED (reply ∷ []) ∷ [])
 
 -- The most notes of what is heard in a period, beside the reader's: four of unit 0's hearing and
--- six of each terminal's, two of them of its frames, and one of a cycle's end of each.
+-- six of each terminal's, two of them of its frames.
 abbrev pub most_heard : ℕ
-most_heard = (4 + 1) + terminals * (6 + 1)
+most_heard = 4 + terminals * 6
 
 -- Those of the timers: four of unit 0's and four of each terminal's.
 abbrev pub most_timed : ℕ
@@ -36,13 +36,11 @@ most_notes = most_heard + most_timed
 abbrev pub period_room : ℕ
 period_room = heard_room + most_notes * line_room
 
--- The text of a period's notes fits, whatever they are. What stands for the Q bits heard is an octet
--- in every record; here it is any number that has no more digits than a period.
+-- The text of a period's notes fits, whatever they are.
 abbrev pub PeriodFits : Type 0
 PeriodFits =
     (now : ℕ) (r : RunAnswer) (ns : List UnitNotes) (octets : List ℕ)
-    → now + 1 < numbers → r.bus.cycle.qheard < numbers → length ns ≡ terminals → length octets ≤ longest_body
-    → length (notes_text (period_told now r ns octets)) ≤ period_room
+    → now + 1 < numbers → length ns ≡ terminals → length octets ≤ longest_body → length (notes_text (period_told now r ns octets)) ≤ period_room
 
 -- And that of an event's.
 abbrev pub EventFits : Type 0
@@ -50,10 +48,9 @@ EventFits =
     (period unit : ℕ) (notes : Notes) (reply : ℕ)
     → period < numbers → unit < numbers → reply < numbers → length (notes_text (event_noted period unit notes reply)) ≤ period_room
 
--- ---- The same as octets, where a refusal is the call's reply and no note. The value of a `q` has one
--- octet, that of an `s` three.
+-- ---- The same as octets, where a refusal is the call's reply and no note.
 abbrev pub period_octets_room : ℕ
-period_octets_room = (octets_room + longest_body) + most_notes * octets_room + (1 + terminals * 3)
+period_octets_room = (octets_room + longest_body) + most_notes * octets_room
 
 abbrev pub PeriodOctetsFit : Type 0
 PeriodOctetsFit =

@@ -1,6 +1,5 @@
 // The notes of a period, in the report's order.
 ghost use Rattle.std.specs.Prelude.{◌≡◌, ◌++◌};
-ghost use Rattle.period_text.specs.CycleShown.{s_noted, ShownAs};
 ghost use Rattle.bus_rules.specs.Bus.{notes_of};
 ghost use Rattle.bus_rules.specs.Order.{part_in_order};
 ghost use Rattle.bus_call_specs.specs.Lists.{reader_told, done_notes, terminals_told, timers_told, heard_told, timed_told, period_told};
@@ -9,7 +8,6 @@ ghost use Rattle.notes_and_cells.specs.Notes.{noted};
 ghost use Rattle.note_text.specs.Room.{Put};
 ghost use Rattle.note_text.specs.NoteText.{notes_in};
 
-use super::cycle_notes::{put_q, put_s, q_shown, s_shown};
 use bus_record::side::RunAnswer;
 use combining::combine::TERMINALS;
 use hdlc::LONGEST_BODY;
@@ -22,18 +20,16 @@ use period_hearing::hears::UnitNotes;
 use text::length::least;
 
 // The most notes of what is heard in a period, beside the reader's: four of unit 0's hearing and six
-// of each terminal's, two of them of its frames, and one of a cycle's end of each.
-const MOST_HEARD: usize = (4 + 1) + TERMINALS * (6 + 1);
+// of each terminal's, two of them of its frames.
+const MOST_HEARD: usize = 4 + TERMINALS * 6;
 // Those of the timers: four of unit 0's and four of each terminal's.
 const MOST_TIMED: usize = 4 + TERMINALS * 4;
 
 const MOST_NOTES: usize = MOST_HEARD + MOST_TIMED;
 // The most octets that the notes of a period take, the reader's with a body among them: as text,
 pub const PERIOD_ROOM: usize = HEARD_ROOM + MOST_NOTES * LINE_ROOM;
-// and as octets, where the value of a `q` has one octet, that of an `s` three.
-pub const PERIOD_OCTETS_ROOM: usize = (OCTETS_ROOM + LONGEST_BODY)
-    + MOST_NOTES * OCTETS_ROOM
-    + (1 + TERMINALS * 3);
+// and as octets.
+pub const PERIOD_OCTETS_ROOM: usize = (OCTETS_ROOM + LONGEST_BODY) + MOST_NOTES * OCTETS_ROOM;
 
 // Puts the reader's note: `heard` with the octets of the body, or `torn`.
 fn put_reader(
@@ -74,8 +70,7 @@ fn done_notes(done1: bool, done2: bool) -> Notes
     NO_NOTES
 }
 
-// Puts the notes of one terminal's hearing: those of completed frames come first, that of a cycle's
-// end last.
+// Puts the notes of one terminal's hearing: those of completed frames come first.
 fn put_terminal(
     form: Form,
     room: &mut [u8],
@@ -85,19 +80,16 @@ fn put_terminal(
     done1: bool,
     done2: bool,
     notes: Notes,
-    has: bool,
-    s: u32,
 ) -> usize
-    ensures { Put room.old wrote
-        (notes_in form (notes_of period unit (done_notes done1 done2 ++ noted notes) ++ s_noted period unit has s)) result room.new }
+    ensures { Put room.old wrote (notes_in form (notes_of period unit (done_notes done1 done2 ++ noted notes))) result
+        room.new }
 {
     let done = done_notes(done1, done2);
     let a = put_notes(form, room, wrote, period, unit, done);
-    let b = put_notes(form, room, a, period, unit, notes);
-    put_s(form, room, b, period, unit, has, s)
+    put_notes(form, room, a, period, unit, notes)
 }
 
-// Puts the notes of the terminals' hearing, where the terminals of `units` have the note `s`.
+// Puts the notes of the terminals' hearing.
 fn put_terminals(
     form: Form,
     room: &mut [u8],
@@ -105,16 +97,13 @@ fn put_terminals(
     period: u64,
     done1: u8,
     done2: u8,
-    s: u32,
-    units: u8,
     notes: [UnitNotes; 8],
 ) -> usize
-    ensures { (answer : RunAnswer) → answer.done1 ≡ done1 → answer.done2 ≡ done2 → ShownAs period answer s units
+    ensures { (answer : RunAnswer) → answer.done1 ≡ done1 → answer.done2 ≡ done2
         → Put room.old wrote (notes_in form (terminals_told period answer 0 notes)) result room.new }
 {
     let mut first = done1;
     let mut second = done2;
-    let mut third = units;
     let mut at = least(wrote, room.len());
     let mut i: usize = 0;
     while i < 8 {
@@ -128,12 +117,9 @@ fn put_terminals(
             first % 2 == 1,
             second % 2 == 1,
             n.hearing,
-            third % 2 == 1,
-            s,
         );
         first = first / 2;
         second = second / 2;
-        third = third / 2;
         i += 1;
     }
     at
@@ -159,8 +145,7 @@ fn put_timers(
     at
 }
 
-// Puts the notes of what is heard in a period: the reader's, unit 0's, then the terminals'. What the
-// cycle tells is taken from the answer once.
+// Puts the notes of what is heard in a period: the reader's, unit 0's, then the terminals'.
 fn put_heard(
     form: Form,
     room: &mut [u8],
@@ -174,23 +159,9 @@ fn put_heard(
         (notes_in form (part_in_order period (heard_told period answer notes octets.now))) result room.new }
 {
     let network = answer.network;
-    let bus = answer.bus;
-    let cycle = bus.cycle;
     let a = put_reader(form, room, wrote, period, answer.said, answer.body, octets);
     let b = put_notes(form, room, a, period, 0, network.hearing);
-    let c = put_q(form, room, b, period, q_shown(answer.told, cycle));
-    let s = s_shown(answer.told, cycle);
-    put_terminals(
-        form,
-        room,
-        c,
-        period,
-        answer.done1,
-        answer.done2,
-        s,
-        cycle.f7,
-        notes,
-    )
+    put_terminals(form, room, b, period, answer.done1, answer.done2, notes)
 }
 
 // Puts the notes of the timers due at the start of a period: unit 0's, then the terminals'.

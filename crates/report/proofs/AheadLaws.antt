@@ -15,8 +15,7 @@ use Rattle.book_reader.specs.Step.{at_lines, after_end}
 use Rattle.book_reader.specs.Book.{Answer}
 use Rattle.book_reader.specs.Book.Answer.{entry, fault}
 use Rattle.book_reader.specs.Parts.{Place, past, to_come}
-use Rattle.notes_and_cells.specs.Events.{HIT, Q, S}
-use Rattle.bus_event.specs.Message.{q_taken, s_taken}
+use Rattle.notes_and_cells.specs.Events.{HIT}
 use Rattle.bus_rules.specs.Calls.{Call}
 use Rattle.bus_rules.specs.Calls.Call.{event, period}
 use Rattle.bus_event.specs.Event as parts
@@ -172,13 +171,13 @@ run_ahead s s' left at unit number m value more w w' k r h e e' =
 
 -- ---- An event is given to the bus, at its period. It runs none, so that the period stays the last line's.
 pub event_periods : (k : Kept) (unit number : ℕ) (value : List ℕ) → (done k (event unit number value)).bus.periods ≡ k.bus.periods
-unfolding done settled called lists.told event_told parts.event_settled parts.told parts.network_told parts.network_asked q_taken s_taken
+unfolding done settled called lists.told event_told parts.event_settled parts.told parts.network_told parts.network_asked
 event_periods k unit number value =
     by_test (eqb (reason unit number value k.bus k.terminals k.images k.letters) 0)
     (λ t. rw t
     (by_test (eqb unit 0)
-    (λ u. rw u (by_test (eqb number HIT) (λ v. rw v) (λ v. rw v (by_test (eqb number S) (λ w. rw w) (λ w. rw w)))))
-    (λ u. rw u (by_test (eqb number Q) (λ v. rw v) (λ v. rw v)))))
+    (λ u. rw u (by_test (eqb number HIT) (λ v. rw v) (λ v. rw v)))
+    (λ u. rw u)))
     (λ t. rw t)
 
 pub event_ahead : (s s' : BookState) (left left' : List ℕ) (at unit number : ℕ) (value : List ℕ) → UnderWay s → UnderWay s'

@@ -1,5 +1,5 @@
 -- What holds of every book's calls: its lines' periods do not fall, so that the periods before a line can be run; refusals are those of a book; values
--- are octets, and numbers are given as they are written; and demand 3 speaks of them.
+-- are octets; and demand 3 speaks of them.
 use mathlib.Core.Path.{◌≡◌, refl}
 use mathlib.Core.Bool.{Bool, true, false, cond, not, ◌&&◌}
 use mathlib.Core.List.{List, [], ◌∷◌, ◌++◌, map}
@@ -15,10 +15,10 @@ use Rattle.timing.specs.Counts.{most_periods}
 use Rattle.notes_and_cells.specs.Names.{ascii}
 use Rattle.text.specs.Text.{LF, split, same}
 use Rattle.notes_and_cells.specs.Events.{HIT}
-use Rattle.book_line.specs.Line.{formed, in_order, is_end, value_fits, period_of, unit_of, event_of, value_of}
+use Rattle.book_line.specs.Line.{formed, in_order, is_end, value_fits, period_of, unit_of, event_of}
 use Rattle.book_line.specs.Value.{letter_code, value_octets}
 use Rattle.book_line.proofs.Judging.{formed_parts}
-use Rattle.book_line.proofs.Values.{value_octets_lem, hit_fits_lem, number_taken}
+use Rattle.book_line.proofs.Values.{value_octets_lem, hit_fits_lem}
 use Rattle.book_reader.specs.Book.{Answer, first_line, nothing, closing, lines, answers_from, answers}
 use Rattle.book_reader.specs.Book.Answer.{entry, fault}
 use Rattle.bus_rules.specs.Event.{call_reasons, state_reasons, reasons, first_holding, refusal}
@@ -32,7 +32,7 @@ use Rattle.bus_rules.proofs.Sound.{sound_fresh}
 use Rattle.bus_rules.proofs.Demand3.{demand3_of_lists}
 use Rattle.bus_call_specs.specs.Lists.{OctetValues}
 use Rattle.report.specs.Report.{call_at, calls_of_answers, book_calls}
-use Rattle.report.specs.Laws.{RunsToLine, InBook, AllInBook, BooksRefused, NoneLate, BooksInTime, BooksOctets, MessagesWritten, BookCalls, BookCallsFrom}
+use Rattle.report.specs.Laws.{RunsToLine, InBook, AllInBook, BooksRefused, NoneLate, BooksInTime, BooksOctets, BookCalls, BookCallsFrom}
 
 -- the letters of a hit have the same codes on a line and on the bus
 pub same_letters : map letter_code (ascii "kpmn") ≡ keep_letter ∷ plus_letter ∷ minus_letter ∷ none_letter ∷ []
@@ -180,10 +180,6 @@ calls_octets (goes {run = run} {at = at} {unit = unit} {number = number} {value 
 pub books_octets : BooksOctets
 unfolding book_calls
 books_octets book = calls_octets (answers_in_time book)
-
--- ---- Numbers are given as they are written.
-pub messages_written : MessagesWritten
-messages_written line f e = number_taken (event_of line) (value_of line) e (formed_parts line f).value
 
 -- ---- Demand 3 of a book's calls is demand 3 of the bus.
 pub book_calls_from : BookCallsFrom

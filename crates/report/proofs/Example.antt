@@ -9,7 +9,7 @@ use Rattle.text.specs.Text.{LF, onto, split, all, onward}
 use Rattle.book_line.specs.EventNames.{event_names, event_named}
 use Rattle.book_line.specs.ValueForms.{form_of}
 use Rattle.book_line.specs.Line.{is_end, is_number, is_absent, is_body_text, is_hit_text, value_fits, formed, in_order}
-use Rattle.book_line.specs.Value.{hex_digit, pairs, body_of, letter_code, octets_of_number, value_octets}
+use Rattle.book_line.specs.Value.{hex_digit, pairs, body_of, letter_code, value_octets}
 use Rattle.book_reader.specs.Book.{nothing, closing, lines, answers_from}
 use Rattle.bus_rules.specs.Scenes as scenes
 use Rattle.note_text.specs.NoteText as note
@@ -29,7 +29,7 @@ reported told = text ("period unit note value" ∷ told)
 
 -- whatever says `unfolding computed` computes reports
 unfoldable computed : List ℕ → List ℕ
-unfolding scenes.handed_back printed printed_as low_first note.decimal_in note.decimal note.hex_code note.hex_of note.note_line note.notes_in note.heading note.stopped_line onto split all onward event_names event_named is_end is_number is_absent is_body_text is_hit_text form_of value_fits formed in_order hex_digit pairs body_of letter_code octets_of_number value_octets nothing closing lines answers_from call_at calls_of_answers book_calls refused_notes book_notes all_book_notes stop_of report
+unfolding scenes.handed_back printed printed_as low_first note.decimal_in note.decimal note.hex_code note.hex_of note.note_line note.notes_in note.heading note.stopped_line onto split all onward event_names event_named is_end is_number is_absent is_body_text is_hit_text form_of value_fits formed in_order hex_digit pairs body_of letter_code value_octets nothing closing lines answers_from call_at calls_of_answers book_calls refused_notes book_notes all_book_notes stop_of report
 computed octets = report octets
 
 pub the_example :
@@ -53,15 +53,6 @@ pub refused_lines :
     ≡ reported ("0 1 refused 5" ∷ "3 1 refused 4" ∷ "3 9 refused 3" ∷ "3 1 refused 6" ∷ [])
 unfolding computed
 refused_lines = refl
-
--- 15, "a Q value above 15 or S value above 1,048,575, checked after 4", is such a note; the highest values are taken,
--- and note nothing. A value that is no number is a fault, whatever the unit
-pub message_lines :
-    (report_of ("0 1 q 16" ∷ "0 0 s 1048576" ∷ "0 0 q 16" ∷ "0 9 s 9999999" ∷ "0 8 q 15" ∷ "0 0 s 1048575" ∷ "0 0 end -" ∷ [])
-    ≡ reported ("0 1 refused 15" ∷ "0 0 refused 15" ∷ "0 0 refused 4" ∷ "0 9 refused 3" ∷ []))
-    × (report_of ("0 0 q -" ∷ "0 0 end -" ∷ []) ≡ reported ("- - stopped 12" ∷ []))
-unfolding computed
-message_lines = (refl, refl)
 
 -- "A book fault (11 to 14) runs nothing more": no period before the faulty line is run, as the first book, which has none, shows by its note
 pub fault_runs_nothing :

@@ -1,13 +1,13 @@
 -- A run of at most so many periods is some calls of one period: `specs/Told.antt`.
 use mathlib.Core.Path.{◌≡◌, refl, sym, ap, ◌∙◌}
-use mathlib.Core.Bool.{Bool, true, false, ◌&&◌}
+use mathlib.Core.Bool.{Bool, true, false}
 use mathlib.Core.List.{List, [], ◌∷◌, ◌++◌, append-nil}
 use Prim.Native.Nat.{ℕ, zero, suc, ◌+◌, ◌-◌, ◌≤◌, ◌<◌}
 use native.Mathlib.Omega.{arith}
 use lib.ListN.{length, take, replicate, length-take}
 use lib.Seq.{take-take}
 use borrow.Author.Tests.{lt-ltb, ltb-true, lt-leb}
-use Rattle.test_lemmas.proofs.ByCases.{by_test, and_right}
+use Rattle.test_lemmas.proofs.ByCases.{by_test}
 use Rattle.hdlc.specs.Image.{longest_body}
 use Rattle.timing.specs.Counts.{most_periods}
 use Rattle.d_reader.specs.Counters.{read_bit, read_octets}
@@ -19,15 +19,8 @@ use Rattle.d_reader.proofs.AnswerLaws.{heard_call}
 use Rattle.bus_rules.specs.Bus.{Note}
 use Rattle.bus_rules.specs.Period.{heard_by, timed, period_run}
 use Rattle.bus_rules.specs.Calls.Call.{period}
-use Rattle.timing.specs.Calls.{periods_in_range, opportunities_in_range}
-use Rattle.network.specs.Calls.{network_in_range}
-use Rattle.cycle.specs.Cycle.{no_q, cycle_in_range}
-use Rattle.cycle.proofs.Ranges.{ranged}
-use Rattle.d_reader.specs.ReaderRange.{reader_in_range}
-use Rattle.bus_record.specs.Record.{record_in_range}
 use Rattle.bus_record.specs.NetworkSide.{refused_run}
 use Rattle.period_hearing.specs.declared.hears.UnitNotes.{UnitNotes}
-use Rattle.bus_record.specs.declared.record.BusRecord.{BusRecord}
 use Rattle.bus_record.specs.declared.side.RunAnswer.{RunAnswer}
 use Rattle.bus_call_specs.specs.Kept.{Kept, settled}
 use Rattle.bus_call_specs.specs.Shown.{bus_in}
@@ -35,7 +28,7 @@ use Rattle.bus_call_specs.specs.Period.{d_read, reader_run, octets_run, body_of,
 use Rattle.bus_call_specs.specs.Ready.{run_reply, run_goes_on}
 use Rattle.bus_call_specs.specs.Run.{answer_on, not_yet, run_answer, kept_after}
 use Rattle.bus_call_specs.specs.Lists.{called, replied, notes_told, period_told, run_told, reader_told}
-use Rattle.bus_call_specs.proofs.InOrder.{InOrder, in_order, order_reply, order_ranges}
+use Rattle.bus_call_specs.proofs.InOrder.{InOrder, in_order, order_reply}
 use Rattle.bus_call_specs.proofs.RunSingle.{goes_facts, first_ran, first_kept, period_single, run_single}
 use Rattle.bus_call_specs.proofs.QuietRuns as quiet
 use Rattle.bus_call_specs.proofs.RunLeft.{run_left, run_leaves_lem}
@@ -206,17 +199,6 @@ body_alone : (now : ℕ) (r : RunAnswer) (ns : List UnitNotes) (octets : List �
 unfolding period_told reader_told
 body_alone now r ns octets = rw (take-take r.body r.body octets (omega arith))
 
--- the Q bits heard are a number that a record may have there
-q_heard : (b : BusRecord) → record_in_range b ≡ true → b.cycle.qheard ≤ no_q
-unfolding record_in_range
-q_heard b h =
-    let counts = (network_in_range b.network && periods_in_range b.periods) && opportunities_in_range b.periods b.opportunities in
-    (ranged b.cycle (and_right (counts && reader_in_range b.reader) (cycle_in_range b.cycle) h)).qheard
-
-run_q : (n : ℕ) (k : Kept) → InOrder k → (run_answer n k).bus.cycle.qheard ≤ no_q
-run_q n k o =
-    rw (run_leaves_lem n k).bus_is (q_heard (kept_after n k).bus (order_ranges (kept_after n k) (run_left n k o).order).1)
-
 pub run_fits : RunFits
 run_fits k zero h l m = absurd (omega arith)
 run_fits k (suc n) h l m =
@@ -226,5 +208,4 @@ run_fits k (suc n) h l m =
     let few : length body ≤ longest_body = rw (length-take (run_answer (suc n) k).body (kept_after (suc n) k).octets) (omega (arith, run_body (suc n) k)) in
     rw (body_alone last (run_answer (suc n) k) (kept_after (suc n) k).notes (kept_after (suc n) k).octets)
     (period_fits last (run_answer (suc n) k) (kept_after (suc n) k).notes body
-    (omega (arith, r.run, r.within)) (omega (arith, run_q (suc n) k (in_order 0 k h)))
-    (run_left (suc n) k (in_order 0 k h)).order.notes_fit few)
+    (omega (arith, r.run, r.within)) (run_left (suc n) k (in_order 0 k h)).order.notes_fit few)

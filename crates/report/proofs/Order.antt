@@ -2,7 +2,7 @@
 use mathlib.Core.Path.{◌≡◌, refl, sym, ap, ◌∙◌}
 use mathlib.Core.Bool.{true, false, not, ◌&&◌, ◌||◌}
 use mathlib.Core.List.{List, [], ◌∷◌, ◌++◌}
-use Prim.Native.Nat.{ℕ, zero, suc, ◌+◌, ◌-◌, ◌*◌, ◌≤◌, ◌<◌}
+use Prim.Native.Nat.{ℕ, zero, suc, ◌+◌, ◌-◌, ◌*◌, ◌≤◌}
 use native.Mathlib.Omega.{arith}
 use lib.Dec.{eqb, ltb}
 use lib.ListN.{length, take, drop, get_or, set, length-append, length-drop, length-set, take-append-drop}
@@ -18,9 +18,8 @@ use Rattle.terminal.specs.Terminal.{fresh}
 use Rattle.terminal.specs.Calls.{terminal_in_range}
 use Rattle.terminal.specs.declared.Terminal.{Terminal}
 use Rattle.terminal.proofs.RangesKept.{fresh_in_range}
-use Rattle.terminal.specs.declared.TerminalStep.{TerminalStep}
 use Rattle.bus_rules.specs.Bus.{terminals}
-use Rattle.bus_rules.proofs.Barred.{right_letters, unit_known}
+use Rattle.bus_rules.proofs.Barred.{right_letters}
 use Rattle.notes_and_cells.specs.Events.{D1, D2, HIT}
 use Rattle.bus_rules.specs.Calls.{Call}
 use Rattle.bus_rules.specs.Calls.Call.{event, period}
@@ -28,7 +27,7 @@ use Rattle.period_hearing.specs.Shown.{all_in_range}
 use Rattle.bus_record.specs.Record.{record_in_range}
 use Rattle.bus_event.specs.Event.{images_room, are_letters, taken_over, image_put, frame_reason, images_with, network_told, terminal_told}
 use Rattle.bus_event.specs.Event as parts
-use Rattle.bus_event.proofs.Laws.{event_record_kept, settled_kept, event_terminal_kept}
+use Rattle.bus_event.proofs.Laws.{event_record_kept, event_terminal_kept}
 use Rattle.bus_call_specs.specs.Kept.{Kept, kept, settled}
 use Rattle.bus_call_specs.specs.Ready.{eight_in_range, lent_fits, run_reason, run_reply}
 use Rattle.bus_call_specs.specs.Run.{not_yet, kept_after}
@@ -139,19 +138,17 @@ module _ (k : Kept) (o : InOrder k) (unit number : ℕ) (value : List ℕ) where
   network_event t z =
       let r = order_ranges k o in
       rw (t, z)
-      (ready_by (kept (network_told number value k.bus).bus k.terminals k.images k.octets (parts.letters_after number value k.letters) k.notes)
-      r.0 (event_record_kept number value k.bus r.1) o.images_fit o.octets_fit o.notes_fit
+      (ready_by (kept (network_told number k.bus).bus k.terminals k.images k.octets (parts.letters_after number value k.letters) k.notes)
+      r.0 (event_record_kept number k.bus r.1) o.images_fit o.octets_fit o.notes_fit
       (letters_kept number value k.letters o.letters_fit (letters_good (eqb-true why 0 t))))
 
   terminal_event : eqb why 0 ≡ true → eqb unit 0 ≡ false → Ready (called k call)
-  unfolding called told event_told terminals_after images_after letters_after
+  unfolding called told event_told terminals_after images_after letters_after parts.event_settled parts.told
   terminal_event t z =
       let r = order_ranges k o in
       let i : ℕ = unit - 1 in
       let there : Terminal = get_or k.terminals i fresh in
-      let step : TerminalStep = terminal_told number k.images i value k.bus.periods there in
-      let now : Terminal = step.terminal in
-      let known : unit < 9 = omega (arith, ltb-false terminals unit (unit_known unit number value (sym (order_reason k o unit number value) ∙ eqb-true why 0 t))) in
+      let now : Terminal = (terminal_told number k.images i value k.bus.periods there).terminal in
       let fits : terminal_in_range now ≡ true =
       event_terminal_kept number k.images i value k.bus.periods there (terminal_fits k.terminals i o.terminals_fit) in
       let eight : eight_in_range (set k.terminals i now) ≡ true =
@@ -161,8 +158,8 @@ module _ (k : Kept) (o : InOrder k) (unit number : ℕ) (value : List ℕ) where
         terminals_kept k.terminals i now o.terminals_fit fits,
       ) in
       rw (t, z)
-      (ready_by (kept (parts.event_settled k.bus unit number value step).bus (set k.terminals i now) (parts.images_after number there i value k.images) k.octets k.letters k.notes)
-      eight (settled_kept unit number value step k.bus known r.1) (images_kept number there i value k.images ∙ o.images_fit) o.octets_fit o.notes_fit o.letters_fit)
+      (ready_by (kept k.bus (set k.terminals i now) (parts.images_after number there i value k.images) k.octets k.letters k.notes)
+      eight r.1 (images_kept number there i value k.images ∙ o.images_fit) o.octets_fit o.notes_fit o.letters_fit)
 
   order_event : InOrder (called k call)
   order_event =
@@ -188,8 +185,19 @@ order_called k period o = order_period k o
 pub order_settled : (k : Kept) → InOrder k → InOrder (settled k)
 unfolding settled
 order_settled k o =
-    let r = order_ranges k o in
-    in_order 0 (settled k) (ready_by (settled k) r.0 r.1 o.images_fit o.octets_fit refl o.letters_fit)
+    record {
+      eight = o.eight;
+      terminals_fit = o.terminals_fit;
+      network_fits = o.network_fits;
+      periods_fit = o.periods_fit;
+      opportunities_fit = o.opportunities_fit;
+      reader_fits = o.reader_fits;
+      cycle_rests = o.cycle_rests;
+      images_fit = o.images_fit;
+      octets_fit = o.octets_fit;
+      notes_fit = refl;
+      letters_fit = o.letters_fit;
+    }
 
 pub order_done : (k : Kept) (c : Call) → InOrder k → InOrder (done k c)
 unfolding done

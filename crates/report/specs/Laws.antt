@@ -2,13 +2,8 @@
 -- Interface: none but for laws and proofs. Assumes nothing.
 use Rattle.std.specs.Prelude.{true, List, [], ◌∷◌, ◌++◌, ◌≡◌, ℕ, ◌-◌, ◌≤◌, replicate}
 use Rattle.timing.specs.Counts.{most_periods}
-use Rattle.text.specs.Text.{number}
-use Rattle.book_line.specs.ValueForms.{form_of}
-use Rattle.book_line.specs.Line.{formed, event_of, value_of}
-use Rattle.book_line.specs.Value.{value_octets}
-use Rattle.book_line.specs.declared.form.ValueForm.TheVariants.{Number}
 use Rattle.bus_rules.specs.Bus.{Bus, fresh_bus}
-use Rattle.bus_rules.specs.Event.{among, message_in, book_refusals}
+use Rattle.bus_rules.specs.Event.{among, book_refusals}
 use Rattle.bus_rules.specs.Calls.{Call, reply, after, after_all}
 use Rattle.bus_rules.specs.Calls.Call.{period}
 use Rattle.bus_rules.specs.Stretch.{Stretch}
@@ -21,9 +16,9 @@ use Rattle.report.specs.Report.{book_calls}
 abbrev pub RunsToLine : Type 0
 RunsToLine = (b : Bus) (at : ℕ) → b.periods ≤ at → at ≤ most_periods → (after_all b (replicate (at - b.periods) period)).periods ≡ at
 
--- "In a book, 3 to 8 become the note `refused`", and the new numbers of document 02 like them: a number
--- that comes back is 0 or one of these. 1 and 2 are for a record out of its range and for what is
--- lent, and a hit of right form has 48 letters.
+-- "In a book, 3 to 8 become the note `refused`": a number that comes back is 0 or one of these. 1
+-- and 2 are for a record out of its range and for what is lent, and a hit of right form has 48
+-- letters.
 abbrev pub InBook : ℕ → Type 0
 InBook n = among n (0 ∷ book_refusals) ≡ true
 
@@ -46,13 +41,6 @@ BooksInTime = (book : List ℕ) → NoneLate fresh_bus (book_calls book)
 -- specs/Lists.antt)
 abbrev pub BooksOctets : Type 0
 BooksOctets = (book : List ℕ) → OctetValues (book_calls book)
-
--- what a line whose value is a number gives the bus is the number that it writes (document 02, 2.1:
--- "Book events `q` .. and `s` .. give a decimal message")
-abbrev pub MessagesWritten : Type 0
-MessagesWritten =
-    (line : List ℕ) → formed line ≡ true → form_of (event_of line) ≡ Number
-    → message_in (value_octets (event_of line) (value_of line)) ≡ number (value_of line)
 
 -- Demand 3 speaks of every book: of every stretch of its calls (crate `bus_rules`,
 -- specs/Claims.antt), where the first of them finds the bus b.

@@ -31,9 +31,8 @@ book_calls book = calls_of_answers 0 (answers book)
 
 -- ---- What a call puts into the report.
 
--- "In a book, 3 to 8 become the note `refused` with the line's unit.", and "the new numbers become
--- notes like 3 to 8" (document 02, 2.1). No period of a book is refused: the law `none_late`
--- (proofs/Books.antt).
+-- "In a book, 3 to 8 become the note `refused` with the line's unit." No period of a book is
+-- refused: the law `none_late` (proofs/Books.antt).
 unfoldable pub refused_notes : Bus → Call → List Note
 refused_notes b (event unit number value) =
     record { period = b.periods; unit = unit; code = REFUSED; value = reply b (event unit number value) ∷ [] } ∷ []

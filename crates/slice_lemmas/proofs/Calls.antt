@@ -39,7 +39,7 @@ use denote.Triple.Clauses.{Ended, Clauses, Lasts, lasts, at_exit, closing}
 use Rattle.slice_lemmas.proofs.Again.{LentAgain, lends_again, comes_back}
 use Rattle.slice_lemmas.proofs.Shown.{Shown, shows_again, shown_back}
 use Rattle.slice_lemmas.proofs.Locals.{Holds, free, has, there, held, local_part, loc, part, sets, calls_with, lands_in}
-use Rattle.slice_lemmas.proofs.Slices.{Kind, typed, at_list, own_of, lent, lent_out, lent_in, shr_of, shown, shown_in_lem}
+use Rattle.slice_lemmas.proofs.Slices.{Kind, typed, at_list, own_of, lent, lent_out, lent_in, shr_of, shown, shown_in}
 
 module _ {M : Type 1} {𝓤 : Ura M} {𝓛 : Logic 𝓤} {K : Type 0} {Γ : List (Item 𝓤)} {E : Env 𝓤 𝓛.H} {hs : List Holds} {qp : Post 𝓤 𝓛.H} {f : Name} {xs : List Operand} {d : ℕ} {rest : Body} {i : Item 𝓤} where
   open 𝓛 use {H}
@@ -214,7 +214,7 @@ module _ {M : Type 1} {𝓤 : Ura M} {𝓛 : Logic 𝓤} {K : Type 0} {Γ : List
         peeks t (MutSlice ℓ κ R) (Is (MutSlice ℓ κ R)) (shows 𝓛 (MutSlice ℓ κ R)) (at_list R γ b o ys) (slice_val (b, o) n ∷ []) (λ at. rewrite t 0 (λ (m : ℕ). ‵ (own_of 𝓛 ℓ R κ q γ b o m ys)) (count_is at.0.0) refl $
         lft_new t tt (λ ν. move t (1 ∷ 2 ∷ []) $
         use2 𝓛 (later (some (λ (δ : GName). ‵ (shr_of 𝓛 ℓ R (ν ∷ []) full_share δ b o (length ys) ys) ⊛ ‵ (Shown R κ (ν ∷ []) q γ b o ys)))) (shows_again R κ (ν ∷ []) q γ b o 𝓛 ℓ ℓ ys) $ await t tt $ pick t (λ δ. split t $
-        rewrite t 0 (λ (m : ℕ). ‵ (shr_of 𝓛 ℓ R (ν ∷ []) full_share δ b o m ys)) (sym (count_is at.0.0)) refl $ move t (0 ∷ 2 ∷ []) $ use2 𝓛 (shown 𝓛 ℓ R (ν ∷ []) full_share δ b o n ys) (shown_in_lem 𝓛 ℓ R (ν ∷ []) full_share δ b o n ys) $
+        rewrite t 0 (λ (m : ℕ). ‵ (shr_of 𝓛 ℓ R (ν ∷ []) full_share δ b o m ys)) (sym (count_is at.0.0)) refl $ move t (0 ∷ 2 ∷ []) $ use2 𝓛 (shown 𝓛 ℓ R (ν ∷ []) full_share δ b o n ys) (shown_in 𝓛 ℓ R (ν ∷ []) full_share δ b o n ys) $
         move t (1 ∷ []) $ pure_i t (mut_slice_at R (at_list R γ b o ys) (slice_val (b, o) n ∷ [])) (tt, (tt, tt)) at.0 $ fjoin t $ use1 𝓛 (shown_waiting 𝓛 ℓ R κ q γ b o n ys ν) (shown_wait_in 𝓛 ℓ R κ q γ b o n ys ν) $ move t (2 ∷ 1 ∷ []) $
         sets t (agg t (and_then t (loc t y₃ e₃) (and_then t (part t y₄ τ₁ refl e₄) (no_more t)))) y₅ (w₅, (tt, (record { fits = subst (λ (m : ℕ). m < 2 ^ 64) (sym (count_is at.0.0)) at.0.1.0 }, tt))) $ go ν δ)))
 

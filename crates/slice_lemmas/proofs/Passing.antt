@@ -31,7 +31,7 @@ use denote.Slice.{MutSlice, slice_val, mut_slice_at, finally, shr_slice_copy}
 use denote.Steps.{peeks, owned, nothing, heard}
 use Rattle.slice_lemmas.proofs.Again.{LentAgain, lends_again}
 use Rattle.slice_lemmas.proofs.Shown.{Shown, shows_again}
-use Rattle.slice_lemmas.proofs.Slices.{Kind, at_list, own_of, lent, lent_out, lent_in, shr_of, shown, shown_out, shown_in_lem}
+use Rattle.slice_lemmas.proofs.Slices.{Kind, at_list, own_of, lent, lent_out, lent_in, shr_of, shown, shown_out, shown_in}
 use Rattle.slice_lemmas.proofs.Calls.{count_is, waiting, wait_in, comes, shown_waiting, shown_wait_in, comes_shown}
 
 pub data Param : Type 2 where
@@ -148,7 +148,7 @@ module _ {M : Type 1} {𝓤 : Ura M} (𝓛 : Logic 𝓤) where
   arrives [] = qed 𝓛 (‵ ftrue ∷ ‵ ftrue ∷ []) ∵ drop ! $ done !
   arrives (lends ℓ R κ q γ b o n ys ∷ gs) = arrives_one (lent 𝓛 ℓ R κ q γ b o n ys) κ q (own_of 𝓛 ℓ R κ q γ b o n ys) (lent_in 𝓛 ℓ R κ q γ b o n ys) gs (arrives gs)
   arrives (shows ℓ R κ q γ b o n ys ∷ gs) = arrives_one (lent 𝓛 ℓ R κ q γ b o n ys) κ q (own_of 𝓛 ℓ R κ q γ b o n ys) (lent_in 𝓛 ℓ R κ q γ b o n ys) gs (arrives gs)
-  arrives (hands ℓ R κ q γ b o n ys ∷ gs) = arrives_one (shown 𝓛 ℓ R κ q γ b o n ys) κ q (shr_of 𝓛 ℓ R κ q γ b o n ys) (shown_in_lem 𝓛 ℓ R κ q γ b o n ys) gs (arrives gs)
+  arrives (hands ℓ R κ q γ b o n ys ∷ gs) = arrives_one (shown 𝓛 ℓ R κ q γ b o n ys) κ q (shr_of 𝓛 ℓ R κ q γ b o n ys) (shown_in 𝓛 ℓ R κ q γ b o n ys) gs (arrives gs)
   arrives (plain_of R X x g ∷ gs) = qed 𝓛 (raw (toks_at gs) ∷ ‵ (fsep (R.own_val x (X.val x ∷ [])) (owns_at gs)) ∷ []) ∵ move ! (1 ∷ []) $ fsplit ! $ drop ! $ move ! (1 ∷ 0 ∷ []) $ by ! (arrives gs)
 
   departs_one : (i : Item 𝓤) (κ : Lft) (q : Share) (F : Fml) → ent 𝓤 (mean 𝓛 i) (sep 𝓤 (sem 𝓛 F) (A.lft κ q)) → (gs : List Param) → ent 𝓤 (⋆ 𝓛 (items_of gs)) (sep 𝓤 (toks_at gs) (sem 𝓛 (owns_at gs)))
@@ -287,7 +287,7 @@ module _ {M : Type 1} {𝓤 : Ura M} (𝓛 : Logic 𝓤) where
         comes_shown ! {ℓ = ℓ} {R = R} {κ = κ} {q = q} {γ = γ} {b = b} {o = o} {n = n} {ys = ys} {ν = ν} tt $ at_once ! $ done !
 
     hand_back : ent 𝓤 (sep 𝓤 (A.lft κ q) (sep 𝓤 (sem 𝓛 ftrue) (sem 𝓛 (shr_of 𝓛 ℓ R κ q γ b o n ys)))) (H.⇛ (mean 𝓛 (shown 𝓛 ℓ R κ q γ b o n ys)))
-    hand_back = qed 𝓛 (‵ (flft κ q) ∷ ‵ ftrue ∷ ‵ (shr_of 𝓛 ℓ R κ q γ b o n ys) ∷ []) ∵ updating ! $ at_once ! $ keep ! (2 ∷ 0 ∷ []) $ use2 𝓛 (shown 𝓛 ℓ R κ q γ b o n ys) (shown_in_lem 𝓛 ℓ R κ q γ b o n ys) $ done !
+    hand_back = qed 𝓛 (‵ (flft κ q) ∷ ‵ ftrue ∷ ‵ (shr_of 𝓛 ℓ R κ q γ b o n ys) ∷ []) ∵ updating ! $ at_once ! $ keep ! (2 ∷ 0 ∷ []) $ use2 𝓛 (shown 𝓛 ℓ R κ q γ b o n ys) (shown_in 𝓛 ℓ R κ q γ b o n ys) $ done !
 
   -- ---- all of them
   abbrev Gone : (gs : List Param) → Names gs → SProp 𝓤

@@ -235,9 +235,9 @@ module _ {M : Type 1} {𝓤 : Ura M} (𝓛 : Logic 𝓤) (ℓ : Lifetime) (R : R
   unfolding shown_prop
   shown_out = guard_e 𝓤 (Shows' ℓ R κ q γ b o n ys) shown_prop (λ _. id⊢ 𝓤 shown_prop)
 
-  pub shown_in_lem : ent 𝓤 (sep 𝓤 (sem 𝓛 shr_of) (A.lft κ q)) (mean 𝓛 shown)
+  pub shown_in : ent 𝓤 (sep 𝓤 (sem 𝓛 shr_of) (A.lft κ q)) (mean 𝓛 shown)
   unfolding shown_prop
-  shown_in_lem = guard_i 𝓤 (Shows' ℓ R κ q γ b o n ys) shown_prop shows'
+  shown_in = guard_i 𝓤 (Shows' ℓ R κ q γ b o n ys) shown_prop shows'
 
 module _ {M : Type 1} {𝓤 : Ura M} {𝓛 : Logic 𝓤} {K : Type 0} {Γ : List (Item 𝓤)} {E : Env 𝓤 𝓛.H} {hs : List Holds} {C : Calls 𝓤 𝓛.H} {Λ : Loops 𝓤 𝓛.H} {qp : Post 𝓤 𝓛.H} where
   -- `t = s[i]`
@@ -264,7 +264,7 @@ module _ {M : Type 1} {𝓤 : Ura M} {𝓛 : Logic 𝓤} {K : Type 0} {Γ : List
       move t (1 ∷ 2 ∷ 3 ∷ []) $ elem_back t R q' ys k X.blank (v ∷ []) b o l $ move t (0 ∷ 2 ∷ []) $ shuts_slice t tt R q' ys b o $
       -- [token; held; shr-bor; res]
       move t (3 ∷ 2 ∷ []) $ fjoin t $ pure_i t (mut_slice_at R (at_list R γ b o ys) (slice_val (b, o) n ∷ [])) (tt, (tt, tt)) at $ fjoin t $
-      use2 𝓛 (shown 𝓛 ℓ R κ q γ b o n ys) (shown_in_lem 𝓛 ℓ R κ q γ b o n ys) $ move t (1 ∷ 0 ∷ []) $ go g)))
+      use2 𝓛 (shown 𝓛 ℓ R κ q γ b o n ys) (shown_in 𝓛 ℓ R κ q γ b o n ys) $ move t (1 ∷ 0 ∷ []) $ go g)))
     where
       v : Val
       v = X.kind.val (get_or ys k X.blank)
@@ -278,4 +278,4 @@ module _ {M : Type 1} {𝓤 : Ura M} {𝓛 : Logic 𝓤} {K : Type 0} {Γ : List
 
   pub handed : K → (ℓ : Lifetime) (R : RattleType) {κ : Lft} {q : Share} (γ : GName) (b o n : ℕ) (ys : List R.Denot)
       → Step K 𝓛 (shown 𝓛 ℓ R κ q γ b o n ys ∷ Γ) G ((‵ (flft κ q) ⊛ ‵ ftrue) ∷ ‵ (shr_of 𝓛 ℓ R κ q γ b o n ys) ∷ Γ) G
-  handed t ℓ R {κ} {q} γ b o n ys = step (λ s. split t $ move t (2 ∷ 0 ∷ []) $ use2 𝓛 (shown 𝓛 ℓ R κ q γ b o n ys) (shown_in_lem 𝓛 ℓ R κ q γ b o n ys) $ move t (1 ∷ []) $ drop t $ s)
+  handed t ℓ R {κ} {q} γ b o n ys = step (λ s. split t $ move t (2 ∷ 0 ∷ []) $ use2 𝓛 (shown 𝓛 ℓ R κ q γ b o n ys) (shown_in 𝓛 ℓ R κ q γ b o n ys) $ move t (1 ∷ []) $ drop t $ s)

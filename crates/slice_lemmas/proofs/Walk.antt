@@ -38,7 +38,7 @@ pub use denote.Exit.{yes}
 -- and the lemmas
 pub use Rattle.slice_lemmas.proofs.Over.{upto, upto_length, upto_within, upto_all, one_more, acc, acc_all, one_read, one_gathered, filled, filled_length, filled_all, one_filled}
 pub use Rattle.slice_lemmas.proofs.Locals.{Holds, free, has, away, loc, part, sets, sets_last, enters, leaves, returns_if, ifs, ifs_to, blurs}
-pub use Rattle.slice_lemmas.proofs.Slices.{Kind, Element, struct_kind, enum_kind, bool_kind, uint_kind, unit_kind, typed, at_list, own_of, lent, lent_out, lent_in, loads, stores, stores_last, shr_of, shown, shown_out, shown_in_lem, peeks_at, hands_on, handed}
+pub use Rattle.slice_lemmas.proofs.Slices.{Kind, Element, struct_kind, enum_kind, bool_kind, uint_kind, unit_kind, typed, at_list, own_of, lent, lent_out, lent_in, loads, stores, stores_last, shr_of, shown, shown_out, shown_in, peeks_at, hands_on, handed}
 pub use Rattle.slice_lemmas.proofs.Calls.{calls_fn, calls_plain, calls_lending, calls_showing, leads}
 pub use Rattle.slice_lemmas.proofs.Passing.{Spot, spot, word, lends_at, shows_at, hands_at, Param, lends, shows, hands, plain_of, lfts_at, shares_at, args_at, vals_of, lfts_of, shares_of, args_of, items_of}
 pub use Rattle.slice_lemmas.proofs.Giving.{reborrows, Call, calls_giving, calls_giving_last, enters_with, returns_with, returns_at}

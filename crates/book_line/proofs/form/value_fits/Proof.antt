@@ -26,12 +26,6 @@ enum-told-3 c = search rules
 is-hit-requires : tie.Need-is-hit-requires
 is-hit-requires c κs = search rules
 
-enum-told-4 : tie.Need-enum-told-4
-enum-told-4 c = search rules
-
-is-number-requires : tie.Need-is-number-requires
-is-number-requires c κs = search rules
-
 returns : tie.Need-returns
 unfolding value_fits
 returns c =
@@ -50,12 +44,6 @@ returns-3 c =
     let told = c.before in
     rw (sym told.before.before.form_of.ensures ∙ told.enum-told3.given.1) c.is-hit.ensures
 
-returns-4 : tie.Need-returns-4
-unfolding value_fits
-returns-4 c =
-    let told = c.before in
-    rw (sym told.before.before.form_of.ensures ∙ told.enum-told4.given.1) c.is_number.ensures
-
 pub value_fits_spec : {M : Type 1} → statement M
 value_fits_spec =
     tie.close
@@ -67,9 +55,6 @@ value_fits_spec =
     is-body-requires
     enum-told-3
     is-hit-requires
-    enum-told-4
-    is-number-requires
     returns
     returns-2
-    returns-3
-    returns-4)
+    returns-3)

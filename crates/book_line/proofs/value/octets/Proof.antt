@@ -25,12 +25,6 @@ enum-told-3 c = search rules
 letters-requires : tie.Need-letters-requires
 letters-requires c κs = search rules
 
-enum-told-4 : tie.Need-enum-told-4
-enum-told-4 c = search rules
-
-number-octets-requires : tie.Need-number-octets-requires
-number-octets-requires c κs = search rules
-
 returns : tie.Need-returns
 unfolding value_octets
 returns c = rw (sym c.before.before.form_of.ensures ∙ c.enum_told.given.1) (laid_nothing _)
@@ -55,16 +49,6 @@ returns-3 c =
     let told = called.before.before in
     rw (sym told.before.before.form_of.ensures ∙ told.enum-told3.given.1) called.letters.ensures
 
-same-length-3 : tie.Need-same-length-3
-same-length-3 c = search rules
-
-returns-4 : tie.Need-returns-4
-unfolding value_octets
-returns-4 c =
-    let called = c.before.before in
-    let told = called.before.before in
-    rw (sym told.before.before.form_of.ensures ∙ told.enum-told4.given.1) called.number_octets_lem.ensures
-
 pub octets_spec : {M : Type 1} → statement M
 octets_spec =
     tie.close
@@ -75,12 +59,8 @@ octets_spec =
     body-requires
     enum-told-3
     letters-requires
-    enum-told-4
-    number-octets-requires
     returns
     same_length
     returns-2
     same-length-2
-    returns-3
-    same-length-3
-    returns-4)
+    returns-3)

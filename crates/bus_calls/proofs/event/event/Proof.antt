@@ -35,10 +35,10 @@ use Rattle.bus_calls.specs.contracts.network_end.network_event as network
 use Rattle.bus_calls.proofs.network_end.network_event.Symbol as network-def
 use Rattle.bus_calls.proofs.network_end.network_event.Symbol.{name as #network}
 use Rattle.bus_calls.proofs.network_end.network_event.Met as network-thm
-use Rattle.bus_event.specs.contracts.message.index_of as index
-use Rattle.bus_event.proofs.message.index_of.Symbol as index-def
-use Rattle.bus_event.proofs.message.index_of.Symbol.{name as #index}
-use Rattle.bus_event.proofs.message.index_of.Met as index-thm
+use Rattle.bus_calls.specs.contracts.event.index_of as index
+use Rattle.bus_calls.proofs.event.index_of.Symbol as index-def
+use Rattle.bus_calls.proofs.event.index_of.Symbol.{name as #index}
+use Rattle.bus_calls.proofs.event.index_of.Met as index-thm
 use Rattle.bus_event.specs.contracts.event.terminal_event as terminal
 use Rattle.bus_event.proofs.event.terminal_event.Symbol as terminal-def
 use Rattle.bus_event.proofs.event.terminal_event.Symbol.{name as #terminal}
@@ -187,7 +187,7 @@ module _ {M : Type 1} {𝓤 : Ura M} (𝓛 : Logic 𝓤) (mem : Memory → SProp
     last = λ ns ws. ws;
     finals = λ ns ws. id⊢ 𝓤 _;
     result = λ ns. tolds;
-    Said = λ ns r ws. (r ≡ network_told number value bus) × (ws.1.0 ≡ letters_after number value letters);
+    Said = λ ns r ws. (r ≡ network_told number bus) × (ws.1.0 ≡ letters_after number value letters);
     ensured = λ ns r ws. learn_two 𝓤;
   }
 
@@ -324,7 +324,7 @@ event_spec 𝓤 𝓛 𝓜 𝓡 =
       the_first = cited 𝓤 𝓛.H (First 𝓛 𝓜.mem 𝓡.run) 𝓜 𝓡 code.env #first first_def.routine code.calls-bus-event::event::first_reason_lem (first-thm.met 𝓤 𝓛 𝓜 𝓡);
       the_refused = cited 𝓤 𝓛.H (Refused 𝓛 𝓜.mem 𝓡.run) 𝓜 𝓡 code.env #refused refused-def.routine code.calls-bus-calls::event::refused (refused-thm.met 𝓤 𝓛 𝓜 𝓡);
       the_network = cited 𝓤 𝓛.H (Network 𝓛 𝓜.mem 𝓡.run) 𝓜 𝓡 code.env #network network-def.routine code.calls-bus-calls::network-end::network_event (network-thm.met 𝓤 𝓛 𝓜 𝓡);
-      the_index = cited 𝓤 𝓛.H (Index 𝓛 𝓜.mem 𝓡.run) 𝓜 𝓡 code.env #index index-def.routine code.calls-bus-event::message::index-of (index-thm.met 𝓤 𝓛 𝓜 𝓡);
+      the_index = cited 𝓤 𝓛.H (Index 𝓛 𝓜.mem 𝓡.run) 𝓜 𝓡 code.env #index index-def.routine code.calls-bus-calls::event::index-of (index-thm.met 𝓤 𝓛 𝓜 𝓡);
       the_terminal = cited 𝓤 𝓛.H (AtTerminal 𝓛 𝓜.mem 𝓡.run) 𝓜 𝓡 code.env #terminal terminal-def.routine code.calls-bus-event::event::terminal_event (terminal-thm.met 𝓤 𝓛 𝓜 𝓡);
       the_period = cited 𝓤 𝓛.H (Period 𝓛 𝓜.mem 𝓡.run) 𝓜 𝓡 code.env #period period-def.routine code.calls-bus-calls::fields::periods_of (period-thm.met 𝓤 𝓛 𝓜 𝓡);
       the_after = cited 𝓤 𝓛.H (After 𝓛 𝓜.mem 𝓡.run) 𝓜 𝓡 code.env #after after-def.routine code.calls-bus-calls::fields::terminal_of_lem (after-thm.met 𝓤 𝓛 𝓜 𝓡);

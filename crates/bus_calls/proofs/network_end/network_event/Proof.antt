@@ -1,4 +1,4 @@
--- `network_event` meets its contract: a hit, a message, or a request.
+-- `network_event` meets its contract: a hit, or a request.
 use borrow.Author.Tests.{eq-eqb, ne_eqb}
 use Rattle.bus_event.specs.Event.{network_told, letters_after}
 use borrow.Author.Rules.{rules}
@@ -23,29 +23,14 @@ returns c =
     let here = eq-eqb _ _ c.before.before.before.before.before.before.if1.true in
     (simp (here, c.replied.ensures, c.before.with-hit.ensures), simp here c.before.before.before.before.take-over.ensures)
 
-with-s-requires : tie.Need-with-s-requires
-with-s-requires c κs = search rules
-
-replied-requires-2 : tie.Need-replied-requires-2
-replied-requires-2 c κs = search rules
+request-requires : tie.Need-request-requires
+request-requires c κs = search rules
 
 returns-2 : tie.Need-returns-2
 unfolding network_told letters_after
 returns-2 c =
-    let message = c.before.before in
-    let other = ne_eqb _ _ message.before.if1.false in
-    let here = eq-eqb _ _ message.if2.true in
-    (simp (other, here, c.replied2.ensures, c.before.with-s.ensures), simp other)
-
-request-requires : tie.Need-request-requires
-request-requires c κs = search rules
-
-returns-3 : tie.Need-returns-3
-unfolding network_told letters_after
-returns-3 c =
-    let other = ne_eqb _ _ c.before.before.if1.false in
-    let nor = ne_eqb _ _ c.before.if2.false in
-    (simp (other, nor) c.request.ensures, simp other)
+    let other = ne_eqb _ _ c.before.if1.false in
+    (simp other c.request.ensures, simp other)
 
 pub network_event_spec : {M : Type 1} → statement M
 network_event_spec =
@@ -56,8 +41,5 @@ network_event_spec =
     replied-requires
     same_length
     returns
-    with-s-requires
-    replied-requires-2
-    returns-2
     request-requires
-    returns-3)
+    returns-2)

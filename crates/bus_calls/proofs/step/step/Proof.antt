@@ -1,6 +1,6 @@
 -- `bus_calls::step::step` meets its contract: a walk of its MIR with the lemmas of crate `slice_lemmas`. The terminals are lent again to the exchange and,
 -- with the notes, to the hearing; the octets to the network end's side. All that it knows of what it calls are their contracts. Assumes nothing.
-use Rattle.slice_lemmas.proofs.Walk.{◌≡◌, refl, sym, ◌∙◌, ℕ, Bool, List, [], ◌∷◌, length, Ura, Val, SProp, ent, emp, id⊢, Memory, Routine, Tables, WpFn, Fun, tables, tables_of, ⋆, ◌$◌, !, no_more, and_then, Is, u8, bool, Room, on_entry, Meets, triple_of, Contract, Triple, entered, cited, needs, walk_of, loc, leaves, bool_kind, typed, Spot, spot, word, lends_at, hands_at, shows_at, Param, plain_of, lfts_at, shares_at, args_at, vals_of, lfts_of, shares_of, args_of, items_of, reborrows, Call, calls_giving, enters_with, returns_with, mut_way, shr_way, plain_way, WaysOf, stays_of, meets_by, says_four, learn_two, learn_three}
+use Rattle.slice_lemmas.proofs.Walk.{◌≡◌, refl, sym, ◌∙◌, ℕ, Bool, List, [], ◌∷◌, length, Ura, Val, SProp, ent, emp, id⊢, Memory, Routine, Tables, WpFn, Fun, tables, tables_of, ⋆, ◌$◌, !, no_more, and_then, Is, u8, bool, Room, on_entry, Meets, triple_of, Contract, Triple, entered, cited, needs, walk_of, loc, leaves, bool_kind, typed, Spot, spot, word, lends_at, hands_at, Param, plain_of, lfts_at, shares_at, args_at, vals_of, lfts_of, shares_of, args_of, items_of, reborrows, Call, calls_giving, enters_with, returns_with, mut_way, shr_way, plain_way, WaysOf, stays_of, meets_by, says_four, learn_two, learn_three}
 use types.Logic.{Logic}
 use borrow.Author.Tests.{eq-eqb}
 use Rattle.timing.specs.declared.counts.Periods.{Periods}
@@ -23,10 +23,8 @@ use Rattle.bus_record.specs.declared.record.BusRecord.{BusRecord}
 use Rattle.bus_record.specs.declared.side.RunAnswer.{RunAnswer}
 use Rattle.bus_record.specs.contracts.record.BusRecord as B
 use Rattle.bus_record.specs.contracts.side.RunAnswer as R
-use Rattle.bus_call_specs.specs.Step.{step_terminals, step_notes, step_told, crossing, step_crossed, step_answer, step_octets}
-use Rattle.bus_record.specs.declared.crossing.Crossed.{Crossed}
-use Rattle.bus_record.specs.contracts.crossing.Crossed as X
-use Rattle.bus_calls.proofs.Structs.{buses, runs, crosseds}
+use Rattle.bus_call_specs.specs.Step.{step_terminals, step_notes, step_told, step_answer, step_octets}
+use Rattle.bus_calls.proofs.Structs.{buses, runs}
 use Rattle.bus_record.specs.contracts.echo.first_tally as first
 use Rattle.bus_record.proofs.echo.first_tally.Symbol as first_def
 use Rattle.bus_record.proofs.echo.first_tally.Symbol.{name as #first}
@@ -39,10 +37,6 @@ use Rattle.bus_calls.specs.contracts.step.line_after as down
 use Rattle.bus_calls.proofs.step.line_after.Symbol as down-def
 use Rattle.bus_calls.proofs.step.line_after.Symbol.{name as #down}
 use Rattle.bus_calls.proofs.step.line_after.Met as down_thm
-use Rattle.bus_calls.specs.contracts.step.crossing as cross
-use Rattle.bus_calls.proofs.step.crossing.Symbol as cross-def
-use Rattle.bus_calls.proofs.step.crossing.Symbol.{name as #cross}
-use Rattle.bus_calls.proofs.step.crossing.Met as cross-thm
 use Rattle.bus_calls.specs.contracts.fields.periods_of as period
 use Rattle.bus_calls.proofs.fields.periods_of.Symbol as period-def
 use Rattle.bus_calls.proofs.fields.periods_of.Symbol.{name as #period}
@@ -74,12 +68,12 @@ module _ (bus : BusRecord) (ys : List Terminal) (es os ls : List ℕ) where
   abbrev Listened : Periods → List UnitNotes → List Terminal → Downward → Bool → List Terminal → List UnitNotes → Type 0
   Listened p zs ts line told us ns = (told ≡ listen_reply line p zs ts) × (us ≡ listen_terminals line p zs ts) × (ns ≡ listen_notes line p zs ts)
 
-  abbrev Sided : Tally → Crossed → Bool → RunAnswer → List ℕ → Type 0
-  Sided m x told r octs = (r ≡ answer_after bus m x os told) × (octs ≡ octets_after bus m os)
+  abbrev Sided : Tally → Bool → RunAnswer → List ℕ → Type 0
+  Sided m told r octs = (r ≡ answer_after bus m os told) × (octs ≡ octets_after bus m os)
 
-  promised : {m₀ m : Tally} {ts us : List Terminal} {line : Downward} {x : Crossed} {p : Periods} {told : Bool} {ns : List UnitNotes} {r : RunAnswer} {octs : List ℕ} (zs : List UnitNotes) → length zs ≡ length ts → m₀ ≡ first_tally bus ls → Exchanged m₀ m ts → line ≡ heard_down bus m.ds ls → x ≡ crossing bus ts ls → p ≡ bus.periods → Listened p zs ts line told us ns → Sided m x told r octs → Promised r us octs ns
-  unfolding step_tally step_exchanged step_line step_terminals step_notes step_told step_crossed step_answer step_octets listen_reply listen_terminals listen_notes
-  promised {ts = ts} zs even a b c x q d e = let d' = rw (eq-eqb (length zs) (length ts) even) at d in (cc, cc, cc, cc)
+  promised : {m₀ m : Tally} {ts us : List Terminal} {line : Downward} {p : Periods} {told : Bool} {ns : List UnitNotes} {r : RunAnswer} {octs : List ℕ} (zs : List UnitNotes) → length zs ≡ length ts → m₀ ≡ first_tally bus ls → Exchanged m₀ m ts → line ≡ heard_down bus m.ds ls → p ≡ bus.periods → Listened p zs ts line told us ns → Sided m told r octs → Promised r us octs ns
+  unfolding step_tally step_exchanged step_line step_terminals step_notes step_told step_answer step_octets listen_reply listen_terminals listen_notes
+  promised {ts = ts} zs even a b c q d e = let d' = rw (eq-eqb (length zs) (length ts) even) at d in (cc, cc, cc, cc)
 
 module _ {M : Type 1} {𝓤 : Ura M} (𝓛 : Logic 𝓤) (mem : Memory → SProp 𝓤) (run : Routine → Fun 𝓤) where
   abbrev First : Contract 𝓤
@@ -90,9 +84,6 @@ module _ {M : Type 1} {𝓤 : Ura M} (𝓛 : Logic 𝓤) (mem : Memory → SProp
 
   abbrev Down : Contract 𝓤
   Down = triple_of 𝓛 down.signature (down.spec 𝓛 mem run)
-
-  abbrev Cross : Contract 𝓤
-  Cross = triple_of 𝓛 cross.signature (cross.spec 𝓛 mem run)
 
   abbrev Period : Contract 𝓤
   Period = triple_of 𝓛 period.signature (period.spec 𝓛 mem run)
@@ -174,22 +165,6 @@ module _ {M : Type 1} {𝓤 : Ura M} (𝓛 : Logic 𝓤) (mem : Memory → SProp
     ensured = λ ns line ws. id⊢ 𝓤 _;
   }
 
-  abbrev to_cross : List Terminal → List Param
-  to_cross ts = plain_of B.the_row buses bus gb ∷ shows_at 0 T.the_row s₁ (length ys) ts ∷ hands_at 3 u8 s₄ (length ls) ls ∷ []
-
-  abbrev the_cross : (ts : List Terminal) → Call 𝓛 (to_cross ts) cross.ended (cross.clauses 𝓛 mem run)
-  the_cross ts = record {
-    bound = λ ns. ((lfts_of (to_cross ts) ns, shares_of (to_cross ts), tt, args_of (to_cross ts) ns, vals_of (to_cross ts)), tt);
-    asks = λ ns. id⊢ 𝓤 _;
-    needed = λ ns. id⊢ 𝓤 _;
-    tokens = λ ns. id⊢ 𝓤 _;
-    last = λ ns ws. ws;
-    finals = λ ns ws. id⊢ 𝓤 _;
-    result = λ ns. crosseds;
-    Said = λ ns x ws. x ≡ crossing bus ts ls;
-    ensured = λ ns x ws. id⊢ 𝓤 _;
-  }
-
   abbrev to_period : List Param
   to_period = plain_of B.the_row buses bus gb ∷ []
 
@@ -222,25 +197,25 @@ module _ {M : Type 1} {𝓤 : Ura M} (𝓛 : Logic 𝓤) (mem : Memory → SProp
     ensured = λ ns told ws. learn_three 𝓤;
   }
 
-  abbrev to_side : (m : Tally) → Is Mo.the_row m (tallies.val m ∷ []) → (x : Crossed) → Is X.the_row x (crosseds.val x ∷ []) → Bool → List Param
-  to_side m gm x gx told = plain_of B.the_row buses bus gb ∷ plain_of Mo.the_row tallies m gm ∷ plain_of X.the_row crosseds x gx ∷ lends_at 2 u8 s₃ (length os) os ∷ plain_of bool bool_kind told refl ∷ []
+  abbrev to_side : (m : Tally) → Is Mo.the_row m (tallies.val m ∷ []) → Bool → List Param
+  to_side m gm told = plain_of B.the_row buses bus gb ∷ plain_of Mo.the_row tallies m gm ∷ lends_at 2 u8 s₃ (length os) os ∷ plain_of bool bool_kind told refl ∷ []
 
-  abbrev the_side : (m : Tally) (gm : Is Mo.the_row m (tallies.val m ∷ [])) (x : Crossed) (gx : Is X.the_row x (crosseds.val x ∷ [])) (told : Bool) → Call 𝓛 (to_side m gm x gx told) side.ended (side.clauses 𝓛 mem run)
-  the_side m gm x gx told = record {
-    bound = λ ns. ((lfts_of (to_side m gm x gx told) ns, shares_of (to_side m gm x gx told), tt, args_of (to_side m gm x gx told) ns, vals_of (to_side m gm x gx told)), tt);
+  abbrev the_side : (m : Tally) (gm : Is Mo.the_row m (tallies.val m ∷ [])) (told : Bool) → Call 𝓛 (to_side m gm told) side.ended (side.clauses 𝓛 mem run)
+  the_side m gm told = record {
+    bound = λ ns. ((lfts_of (to_side m gm told) ns, shares_of (to_side m gm told), tt, args_of (to_side m gm told) ns, vals_of (to_side m gm told)), tt);
     asks = λ ns. id⊢ 𝓤 _;
     needed = λ ns. id⊢ 𝓤 _;
     tokens = λ ns. id⊢ 𝓤 _;
     last = λ ns ws. ws;
     finals = λ ns ws. id⊢ 𝓤 _;
     result = λ ns. runs;
-    Said = λ ns r ws. Sided bus ys es os ls m x told r ws.1.1.1.0;
+    Said = λ ns r ws. Sided bus ys es os ls m told r ws.1.1.0;
     ensured = λ ns r ws. learn_two 𝓤;
   }
 
-  walk : (𝓣 : Tables 𝓤 H) → Triple 𝓤 (𝓣.C #first) (First 𝓛 mem run) → Triple 𝓤 (𝓣.C #exch) (Exch 𝓛 mem run) → Triple 𝓤 (𝓣.C #down) (Down 𝓛 mem run) → Triple 𝓤 (𝓣.C #cross) (Cross 𝓛 mem run) → Triple 𝓤 (𝓣.C #period) (Period 𝓛 mem run) → Triple 𝓤 (𝓣.C #listen) (Listen 𝓛 mem run) → Triple 𝓤 (𝓣.C #side) (Side 𝓛 mem run)
+  walk : (𝓣 : Tables 𝓤 H) → Triple 𝓤 (𝓣.C #first) (First 𝓛 mem run) → Triple 𝓤 (𝓣.C #exch) (Exch 𝓛 mem run) → Triple 𝓤 (𝓣.C #down) (Down 𝓛 mem run) → Triple 𝓤 (𝓣.C #period) (Period 𝓛 mem run) → Triple 𝓤 (𝓣.C #listen) (Listen 𝓛 mem run) → Triple 𝓤 (𝓣.C #side) (Side 𝓛 mem run)
       → ent 𝓤 (on_entry 𝓛 all.signature bound.0.0 bound.0.1 bound.0.3 bound.0.4) (WpFn 𝓤 H 𝓣.C 𝓣.Λ code.function words Post)
-  walk 𝓣 k₁ k₂ k₃ kₓ k₄ k₅ k₆ = enters_with 𝓛 (params ys os us) 𝓣.C 𝓣.Λ code.function words Post _ (id⊢ 𝓤 _)
+  walk 𝓣 k₁ k₂ k₃ k₄ k₅ k₆ = enters_with 𝓛 (params ys os us) 𝓣.C 𝓣.Λ code.function words Post _ (id⊢ 𝓤 _)
       (typed buses 𝓛 bus _ gb, ((tt, (tt, (record { fits = g₁.0 }, tt))), ((tt, (tt, (record { fits = g₂.0 }, tt))), ((tt, (tt, (record { fits = g₃.0 }, tt))), ((tt, (tt, (record { fits = g₄.0 }, tt))), ((tt, (tt, (record { fits = g₅.0 }, tt))), tt)))))) (λ bs.
       -- first_moment(bus, letters)
       calls_giving the_first (4 ∷ []) ! refl 𝓣 k₁ (λ ns Θ. and_then ! (loc ! tt refl) (and_then ! (loc ! tt refl) (no_more !))) tt (λ ns. refl) (λ ns m₀ w₀ l₀ so₀ gm₀.
@@ -249,25 +224,22 @@ module _ {M : Type 1} {𝓤 : Ura M} (𝓛 : Logic 𝓤) (mem : Memory → SProp
       calls_giving (the_exch m₀ gm₀) (1 ∷ 2 ∷ []) ! refl 𝓣 k₂ (λ ns Θ. and_then ! (loc ! tt refl) (and_then ! (loc ! tt refl) (and_then ! (loc ! tt refl) (no_more !)))) tt (λ ns. refl) (λ ns m w₁ l₁ so₁ gm.
       -- line_after(bus, tally, letters)
       calls_giving (the_down m gm) (4 ∷ []) ! refl 𝓣 k₃ (λ ns Θ. and_then ! (loc ! tt refl) (and_then ! (loc ! tt refl) (and_then ! (loc ! tt refl) (no_more !)))) tt (λ ns. refl) (λ ns line w₂ l₂ so₂ gl.
-      -- crossing(bus, terminals, letters)
-      reborrows ! g₁.0 (tt, refl, refl, tt, (tt, tt), tt, refl, tt, refl, tt, tt) $
-      calls_giving (the_cross w₁.0) (1 ∷ 4 ∷ []) ! refl 𝓣 kₓ (λ ns Θ. and_then ! (loc ! tt refl) (and_then ! (loc ! tt refl) (and_then ! (loc ! tt refl) (no_more !)))) tt (λ ns. refl) (λ ns x wₓ lₓ soₓ gx.
       -- listen(terminals, notes, line, periods_of(bus))
       reborrows ! g₁.0 (tt, refl, refl, tt, (tt, tt), tt, refl, tt, refl, tt, tt) $ reborrows ! g₅.0 (tt, refl, refl, tt, (tt, tt), tt, refl, tt, refl, tt, tt) $
       calls_giving the_period [] ! refl 𝓣 k₄ (λ ns Θ. and_then ! (loc ! tt refl) (no_more !)) tt (λ ns. refl) (λ ns p _ _ is-p gp.
       calls_giving (the_listen w₁.0 line gl p gp) (1 ∷ 5 ∷ []) ! refl 𝓣 k₅ (λ ns Θ. and_then ! (loc ! tt refl) (and_then ! (loc ! tt refl) (and_then ! (loc ! tt refl) (and_then ! (loc ! tt refl) (no_more !))))) tt (λ ns. refl) (λ ns told w₃ l₃ so₃ gt.
-      -- network_side(bus, tally, crossed, octets, told)
+      -- network_side(bus, tally, octets, told)
       reborrows ! g₃.0 (tt, refl, refl, tt, (tt, tt), tt, refl, tt, refl, tt, tt) $
-      calls_giving (the_side m gm x gx told) (3 ∷ []) ! refl 𝓣 k₆ (λ ns Θ. and_then ! (loc ! tt refl) (and_then ! (loc ! tt refl) (and_then ! (loc ! tt refl) (and_then ! (loc ! tt refl) (and_then ! (loc ! tt refl) (no_more !)))))) tt (λ ns. refl) (λ ns r w₄ l₄ so₄ gr.
-      leaves ! Post refl tt refl (exits r w₃.0 w₄.1.1.1.0 w₃.1.0 (l₃.0 ∙ l₁.0) l₄.0 l₃.1.0 (promised bus ys es os ls us (even ∙ sym l₁.0) so₀ so₁ so₂ soₓ is-p so₃ so₄) gr)))))))))
+      calls_giving (the_side m gm told) (3 ∷ []) ! refl 𝓣 k₆ (λ ns Θ. and_then ! (loc ! tt refl) (and_then ! (loc ! tt refl) (and_then ! (loc ! tt refl) (and_then ! (loc ! tt refl) (no_more !))))) tt (λ ns. refl) (λ ns r w₄ l₄ so₄ gr.
+      leaves ! Post refl tt refl (exits r w₃.0 w₄.1.1.0 w₃.1.0 (l₃.0 ∙ l₁.0) l₄.0 l₃.1.0 (promised bus ys es os ls us (even ∙ sym l₁.0) so₀ so₁ so₂ is-p so₃ so₄) gr))))))))
 
-meets : {M : Type 1} {𝓤 : Ura M} (𝓛 : Logic 𝓤) → (mem : Memory → SProp 𝓤) (run : Routine → Fun 𝓤) (𝓣 : Tables 𝓤 𝓛.H) → Triple 𝓤 (𝓣.C #first) (First 𝓛 mem run) → Triple 𝓤 (𝓣.C #exch) (Exch 𝓛 mem run) → Triple 𝓤 (𝓣.C #down) (Down 𝓛 mem run) → Triple 𝓤 (𝓣.C #cross) (Cross 𝓛 mem run) → Triple 𝓤 (𝓣.C #period) (Period 𝓛 mem run) → Triple 𝓤 (𝓣.C #listen) (Listen 𝓛 mem run) → Triple 𝓤 (𝓣.C #side) (Side 𝓛 mem run)
+meets : {M : Type 1} {𝓤 : Ura M} (𝓛 : Logic 𝓤) → (mem : Memory → SProp 𝓤) (run : Routine → Fun 𝓤) (𝓣 : Tables 𝓤 𝓛.H) → Triple 𝓤 (𝓣.C #first) (First 𝓛 mem run) → Triple 𝓤 (𝓣.C #exch) (Exch 𝓛 mem run) → Triple 𝓤 (𝓣.C #down) (Down 𝓛 mem run) → Triple 𝓤 (𝓣.C #period) (Period 𝓛 mem run) → Triple 𝓤 (𝓣.C #listen) (Listen 𝓛 mem run) → Triple 𝓤 (𝓣.C #side) (Side 𝓛 mem run)
     → Meets 𝓛 all.signature (WpFn 𝓤 𝓛.H 𝓣.C 𝓣.Λ code.function) (all.spec 𝓛 mem run)
-meets {𝓤 = 𝓤} 𝓛 mem run 𝓣 k₁ k₂ k₃ kₓ k₄ k₅ k₆ =
+meets {𝓤 = 𝓤} 𝓛 mem run 𝓣 k₁ k₂ k₃ k₄ k₅ k₆ =
     meets_by 𝓛 all.ended ways (all.clauses 𝓛 mem run) 𝓣 code.function (λ κs qs bounds a g are. needs 𝓤 (length a.1.1.1.1.1.0.now ≡ length a.1.0.now) _ (λ even.
     walk 𝓛 mem run (spot κs.0 qs.0 a.1.0) (spot κs.1.0 qs.1.0 a.1.1.0) (spot κs.1.1.0 qs.1.1.0 a.1.1.1.0) (spot κs.1.1.1.0 qs.1.1.1.0 a.1.1.1.1.0) (spot κs.1.1.1.1.0 qs.1.1.1.1.0 a.1.1.1.1.1.0)
     a.0 a.1.0.now a.1.1.0.now a.1.1.1.0.now a.1.1.1.1.0.now a.1.1.1.1.1.0.now
-    are.0 are.1.0.0.1 are.1.1.0.0.1 are.1.1.1.0.0.1 are.1.1.1.1.0.0.1 are.1.1.1.1.1.0.0.1 even 𝓣 k₁ k₂ k₃ kₓ k₄ k₅ k₆))
+    are.0 are.1.0.0.1 are.1.1.0.0.1 are.1.1.1.0.0.1 are.1.1.1.1.0.0.1 are.1.1.1.1.1.0.0.1 even 𝓣 k₁ k₂ k₃ k₄ k₅ k₆))
 
 pub step_spec : {M : Type 1} → stated.statement M
 unfolding code.routine tables_of
@@ -278,7 +250,6 @@ step_spec 𝓤 𝓛 𝓜 𝓡 =
     (cited 𝓤 𝓛.H (First 𝓛 𝓜.mem 𝓡.run) 𝓜 𝓡 code.env #first first_def.routine code.calls-bus-record::echo::first-tally (first-thm.met 𝓤 𝓛 𝓜 𝓡))
     (cited 𝓤 𝓛.H (Exch 𝓛 𝓜.mem 𝓡.run) 𝓜 𝓡 code.env #exch exch-def.routine code.calls-exchange::opportunity::exchange (exch-thm.met 𝓤 𝓛 𝓜 𝓡))
     (cited 𝓤 𝓛.H (Down 𝓛 𝓜.mem 𝓡.run) 𝓜 𝓡 code.env #down down-def.routine code.calls-bus-calls::step::line-after (down_thm.met 𝓤 𝓛 𝓜 𝓡))
-    (cited 𝓤 𝓛.H (Cross 𝓛 𝓜.mem 𝓡.run) 𝓜 𝓡 code.env #cross cross-def.routine code.calls-bus-calls::step::crossing (cross-thm.met 𝓤 𝓛 𝓜 𝓡))
     (cited 𝓤 𝓛.H (Period 𝓛 𝓜.mem 𝓡.run) 𝓜 𝓡 code.env #period period-def.routine code.calls-bus-calls::fields::periods_of (period-thm.met 𝓤 𝓛 𝓜 𝓡))
     (cited 𝓤 𝓛.H (Listen 𝓛 𝓜.mem 𝓡.run) 𝓜 𝓡 code.env #listen listen-def.routine code.calls-period-hearing::listen::listen (listen-thm.met 𝓤 𝓛 𝓜 𝓡))
     (cited 𝓤 𝓛.H (Side 𝓛 𝓜.mem 𝓡.run) 𝓜 𝓡 code.env #side side-def.routine code.calls-bus-record::side::network-side (side-thm.met 𝓤 𝓛 𝓜 𝓡)))

@@ -31,30 +31,14 @@ returns-3 c =
     goes_on 2 _ _ 4 (rw (← c1.before.fits2.ensures) c1.if1.false) (goes_on 3 _ _ 4 (le-ltb _ _ c2.if2.false)
     (stops 4 _ _ (rw (← e.event-for.ensures) c.if3.true)))
 
-too-large-requires : tie.Need-too-large-requires
-too-large-requires c κs = search rules
-
 returns-4 : tie.Need-returns-4
 unfolding call_reasons
 returns-4 c =
-    let l = c.before in
-    let c3 = l.before in
-    let e = c3.before in
-    let c2 = e.before in
-    let c1 = c2.before in
-    goes_on 2 _ _ 15 (rw (← c1.before.fits2.ensures) c1.if1.false) (goes_on 3 _ _ 15 (le-ltb _ _ c2.if2.false)
-    (goes_on 4 _ _ 15 (rw (← e.event-for.ensures) c3.if3.false) (stops 15 _ _ (rw (← l.too_large.ensures) c.if4.true))))
-
-returns-5 : tie.Need-returns-5
-unfolding call_reasons
-returns-5 c =
-    let l = c.before in
-    let c3 = l.before in
-    let e = c3.before in
+    let e = c.before in
     let c2 = e.before in
     let c1 = c2.before in
     goes_on 2 _ _ 0 (rw (← c1.before.fits2.ensures) c1.if1.false) (goes_on 3 _ _ 0 (le-ltb _ _ c2.if2.false)
-    (goes_on 4 _ _ 0 (rw (← e.event-for.ensures) c3.if3.false) (goes_on 15 _ _ 0 (rw (← l.too_large.ensures) c.if4.false) at_end)))
+    (goes_on 4 _ _ 0 (rw (← e.event-for.ensures) c.if3.false) at_end))
 
 pub call_reason_spec : {M : Type 1} → statement M
-call_reason_spec = tie.close (tie.spec fits-requires returns returns-2 event-for-requires returns-3 too-large-requires returns-4 returns-5)
+call_reason_spec = tie.close (tie.spec fits-requires returns returns-2 event-for-requires returns-3 returns-4)

@@ -52,22 +52,9 @@ slice-aggregate-put-8 c = search rules
 put-requires-4 : tie.Need-put-requires-4
 put-requires-4 c κs = search rules
 
-slice-aggregate-put-9 : tie.Need-slice-aggregate-put-9
-slice-aggregate-put-9 c = search rules
-
-cycle-octets-requires : tie.Need-cycle-octets-requires
-cycle-octets-requires c κs = search rules
-
-slice-aggregate-put-10 : tie.Need-slice-aggregate-put-10
-slice-aggregate-put-10 c = search rules
-
-put-requires-5 : tie.Need-put-requires-5
-put-requires-5 c κs = search rules
-
 returns : tie.Need-returns
 returns c =
-    let cycle = c.before in
-    let flags = cycle.before.before.before.before.before in
+    let flags = c.before in
     let reader = flags.before.before.before.before.before in
     let network = reader.before.before.before.before.before in
     let counts = network.before.before.before.before.before in
@@ -75,7 +62,6 @@ returns c =
     let p = put_put p (rw network.before.before.network-octets.ensures at network.put2.ensures) in
     let p = put_put p (rw reader.before.before.reader-octets.ensures at reader.put3.ensures) in
     let p = put_put p (rw flags.before.before.flags-octets.ensures at flags.put4.ensures) in
-    let p = put_put p (rw cycle.before.before.cycle_octets.ensures at cycle.put5.ensures) in
     p.room_is
 
 pub record_octets_spec : {M : Type 1} → statement M
@@ -98,8 +84,4 @@ record_octets_spec =
     flags-octets-requires
     slice-aggregate-put-8
     put-requires-4
-    slice-aggregate-put-9
-    cycle-octets-requires
-    slice-aggregate-put-10
-    put-requires-5
     returns)

@@ -16,8 +16,8 @@ word-at-requires-2 c κs = search rules
 reader-in-requires : tie.Need-reader-in-requires
 reader-in-requires c κs = search rules
 
-cycle-in-requires : tie.Need-cycle-in-requires
-cycle-in-requires c κs = search rules
+fresh-requires : tie.Need-fresh-requires
+fresh-requires c κs = search rules
 
 flag-at-requires : tie.Need-flag-at-requires
 flag-at-requires c κs = search rules
@@ -40,7 +40,7 @@ returns c =
       periods.word_at.ensures,
       opportunities.word-at2.ensures,
       reader.reader-in.ensures,
-      cycle.cycle_in_lem.ensures,
+      cycle.fresh.ensures,
       echo.flag_at.ensures,
       hit.flag-at2.ensures,
     )
@@ -53,7 +53,7 @@ record_in_spec =
     word-at-requires
     word-at-requires-2
     reader-in-requires
-    cycle-in-requires
+    fresh-requires
     flag-at-requires
     flag-at-requires-2
     returns)

@@ -17,9 +17,6 @@ returns c = simp (not-true c.before.before.before.before.args.bus.hit c.if1.true
 slice-aggregate-build-down : tie.Need-slice-aggregate-build-down
 slice-aggregate-build-down c = search rules
 
-cycle-bits-requires : tie.Need-cycle-bits-requires
-cycle-bits-requires c κs = search rules
-
 build-down-requires : tie.Need-build-down-requires
 build-down-requires c κs = search rules
 
@@ -42,24 +39,10 @@ enum_told : tie.Need-enum-told
 enum_told c = search rules
 
 returns-2 : tie.Need-returns-2
-returns-2 c =
-    let d = c.before.before.before in
-    let start = d.before.before.before.before.before.before.before.before.before.before.before.before.before in
-    line_is
-    (d.sense-down.ensures
-    ∙ heard_under start.args.bus start.args.ds _ start.args.letters.now _ _ _ d.before.before.before.before.before.before.before.before.cycle-bits.ensures
-    (not-false start.args.bus.hit d.before.before.before.before.before.before.before.before.before.if1.false) refl d.before.before.before.before.before.before.build-down.ensures d.before.before.before.apply-hit.ensures.1)
-    c.before.shown.given.1
+returns-2 c = line_is (c.before.before.before.sense-down.ensures ∙ heard_under c.before.before.before.before.before.before.before.before.before.before.before.before.before.before.before.args.bus c.before.before.before.before.before.before.before.before.before.before.before.before.before.before.before.args.ds c.before.before.before.before.before.before.before.before.before.before.before.before.before.before.before.args.letters.now _ _ _ (not-false c.before.before.before.before.before.before.before.before.before.before.before.before.before.before.before.args.bus.hit c.before.before.before.before.before.before.before.before.before.before.before.if1.false) refl c.before.before.before.before.before.before.before.before.before.build-down.ensures c.before.before.before.before.before.before.apply-hit.ensures.1) c.before.shown.given.1
 
 returns-3 : tie.Need-returns-3
-returns-3 c =
-    let d = c.before.before in
-    let start = d.before.before.before.before.before.before.before.before.before.before.before.before.before in
-    never_refused
-    (d.sense-down.ensures
-    ∙ heard_under start.args.bus start.args.ds _ start.args.letters.now _ _ _ d.before.before.before.before.before.before.before.before.cycle-bits.ensures
-    (not-false start.args.bus.hit d.before.before.before.before.before.before.before.before.before.if1.false) refl d.before.before.before.before.before.before.build-down.ensures d.before.before.before.apply-hit.ensures.1)
-    c.enum_told.given.1
+returns-3 c = never_refused (c.before.before.sense-down.ensures ∙ heard_under c.before.before.before.before.before.before.before.before.before.before.before.before.before.before.args.bus c.before.before.before.before.before.before.before.before.before.before.before.before.before.before.args.ds c.before.before.before.before.before.before.before.before.before.before.before.before.before.before.args.letters.now _ _ _ (not-false c.before.before.before.before.before.before.before.before.before.before.before.before.before.before.args.bus.hit c.before.before.before.before.before.before.before.before.before.before.if1.false) refl c.before.before.before.before.before.before.before.before.build-down.ensures c.before.before.before.before.before.apply-hit.ensures.1) c.enum_told.given.1
 
 pub heard_down_spec : {M : Type 1} → statement M
 heard_down_spec =
@@ -67,7 +50,6 @@ heard_down_spec =
     (tie.spec
     shown-by-requires
     returns
-    cycle-bits-requires
     slice-aggregate-build-down
     build-down-requires
     slice-aggregate-apply-hit

@@ -15,7 +15,7 @@ has-bit-requires c κs = search rules
 
 returns : tie.Need-returns
 unfolding q_bit
-returns c = rw (c.before.before.is-q.ensures, c.has-bit.ensures, c.before.q-index.ensures)
+returns c = rw (c.before.before.is-q.ensures, c.has-bit.ensures, c.before.q-index.ensures.0)
 
 pub q_bit_spec : {M : Type 1} → statement M
 q_bit_spec = tie.close (tie.spec is-q-requires q-index-requires has-bit-requires returns)

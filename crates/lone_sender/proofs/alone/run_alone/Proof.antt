@@ -60,7 +60,7 @@ loop-again c =
     let l = c.before.before.before.before.before.before.before.before.before.loop in
     let side = c.before.before.before.before.before.network-side in (
       going_on l.invariant.0 c.before.before.before.before.before.before.before.before.loop-test.true c.before.before.before.before.before.before.before.tally-of.ensures side.ensures.0 side.ensures.1 c.before.after-four2.ensures c.stays-alone2.ensures,
-      side.auto.1.1.1.0 ∙ l.invariant.1,
+      side.auto.1.1.0 ∙ l.invariant.1,
     )
 
 same_length : tie.Need-same-length invariant-loop decreases-loop

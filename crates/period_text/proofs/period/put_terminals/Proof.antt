@@ -6,17 +6,16 @@ use Rattle.period_text.proofs.period.put_terminals.Statement.{statement}
 use Rattle.period_text.proofs.period.put_terminals.Tie as tie
 
 abbrev invariant-loop : tie.invariant-loop
-invariant-loop form room₀ wrote period done1 done2 s units notes first₀ second₀ third₀ at₀ i₀ room first second third at i =
-    Hearing form room₀ wrote period notes done1 done2 s units room first second third at i
+invariant-loop form room₀ wrote period done1 done2 notes first₀ second₀ at₀ i₀ room first second at i = Hearing form room₀ wrote period notes done1 done2 room first second at i
 
 abbrev decreases-loop : tie.decreases-loop
-decreases-loop form room₀ wrote period done1 done2 s units notes first₀ second₀ third₀ at₀ i₀ room first second third at i = 8 - i
+decreases-loop form room₀ wrote period done1 done2 notes first₀ second₀ at₀ i₀ room first second at i = 8 - i
 
 least-requires : tie.Need-least-requires invariant-loop decreases-loop
 least-requires c κs = search rules
 
 loop-holds : tie.Need-loop-init invariant-loop decreases-loop
-loop-holds c = hearing_starts _ _ _ _ _ _ _ _ _ _ c.before.before.well-formed.1.1.1.1.1.1.1.1.0.1.0.1 c.least.ensures
+loop-holds c = hearing_starts _ _ _ _ _ _ _ _ c.before.before.well-formed.1.1.1.1.1.1.0.1.0.1 c.least.ensures
 
 mul-n : tie.Need-overflow-mul-n invariant-loop decreases-loop
 mul-n c = search rules
@@ -51,7 +50,7 @@ same_length : tie.Need-same-length invariant-loop decreases-loop
 same_length c = c.before.loop.invariant.kept
 
 returns : tie.Need-returns invariant-loop decreases-loop
-returns c = let l = c.before.loop in λ ran e f g. hearing_ends l.invariant ran e f g c.loop-test.false
+returns c = let l = c.before.loop in λ ran e f. hearing_ends l.invariant ran e f c.loop-test.false
 
 pub put_terminals_spec : {M : Type 1} → statement M
 put_terminals_spec =

@@ -16,14 +16,14 @@ in-range-requires-3 c κs = search rules
 in-range-requires-4 : tie.Need-in-range-requires-4
 in-range-requires-4 c κs = search rules
 
-in-range-requires-5 : tie.Need-in-range-requires-5
-in-range-requires-5 c κs = search rules
+rests-requires : tie.Need-rests-requires
+rests-requires c κs = search rules
 
 returns : tie.Need-returns
 unfolding record_in_range
 returns c =
     let at = c.before in
-    simp (at.before.before.before.in_range.ensures, at.before.before.in-range2.ensures, at.before.in-range3.ensures, at.in-range4.ensures, c.in-range5.ensures)
+    simp (at.before.before.before.in_range.ensures, at.before.before.in-range2.ensures, at.before.in-range3.ensures, at.in-range4.ensures, c.rests.ensures)
 
 pub in_range_spec : {M : Type 1} → statement M
 in_range_spec =
@@ -33,5 +33,5 @@ in_range_spec =
     in-range-requires-2
     in-range-requires-3
     in-range-requires-4
-    in-range-requires-5
+    rests-requires
     returns)
