@@ -9,7 +9,7 @@ const FRAMED_TO_GAIN: u8 = 3;
 const UNFRAMED_TO_LOSE: u8 = 2;
 
 // Whether an end is aligned, and its run: the periods that count towards a change of that.
-#[derive(Drop)]
+#[derive(Clone, Copy)]
 pub struct Alignment {
     pub aligned: bool,
     // While unaligned, how many framed periods are running; while aligned, how many unframed ones,
@@ -18,7 +18,7 @@ pub struct Alignment {
 }
 
 // What a period makes of alignment, and whether it gives the event of loss.
-#[derive(Drop)]
+#[derive(Clone, Copy)]
 pub struct Followed {
     pub alignment: Alignment,
     pub lost: bool,

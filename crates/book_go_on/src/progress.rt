@@ -7,7 +7,7 @@ use bus_record::record::BusRecord;
 use terminal::Terminal;
 
 // What is kept of a book between calls.
-#[derive(Drop)]
+#[derive(Clone, Copy)]
 pub struct Progress {
     pub bus: BusRecord,
     pub terminals: [Terminal; 8],
@@ -21,7 +21,7 @@ pub struct Progress {
 // What a call gives back: how far the book has come, the octets taken of the text and written into
 // the room, why it stopped (0: it goes on), and 0 or the number of the refusal. Between the steps
 // of a call it is kept so, too; there `taken` is what the last step has taken.
-#[derive(Drop)]
+#[derive(Clone, Copy)]
 pub struct GoneOn {
     pub progress: Progress,
     pub taken: usize,

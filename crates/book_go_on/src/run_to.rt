@@ -13,7 +13,7 @@ use period_text::period::{PERIOD_ROOM, put_period};
 use terminal::Terminal;
 
 // The bus with its terminals, and the octets written into the room.
-#[derive(Drop)]
+#[derive(Clone, Copy)]
 pub(crate) struct BusAndRoom {
     pub(crate) bus: BusRecord,
     pub(crate) terminals: [Terminal; 8],

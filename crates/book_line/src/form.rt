@@ -10,7 +10,7 @@ use text::same::same;
 
 // What an event's value is: none, so that `-` stands for it; a body in hexadecimal; the letters of
 // a hit.
-#[derive(Drop)]
+#[derive(Clone, Copy)]
 pub enum ValueForm {
     Absent,
     Body,

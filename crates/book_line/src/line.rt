@@ -20,7 +20,7 @@ const EVENT: usize = 2;
 const VALUE: usize = 3;
 
 // What the judging of a line answers.
-#[derive(Drop)]
+#[derive(Clone, Copy)]
 pub enum Judged {
     // A line of right form, and where its fields end: the value is the last of them.
     Entry {

@@ -8,7 +8,7 @@ use text::octets::is_digit;
 const MOST_DIGITS: usize = 7;
 
 // What the reading of a number answers.
-#[derive(Drop)]
+#[derive(Clone, Copy)]
 pub enum Number {
     // The number.
     Is(u32),

@@ -7,7 +7,7 @@ ghost use Rattle.book_reader.specs.Step.{step_at, moved_on, value_from, value_to
 use crate::step::{Step, moved_on, step_at, value_at};
 
 // The lent text, and how far it has been read.
-#[derive(Drop)]
+#[derive(Clone, Copy)]
 pub struct Reader<'a> {
     pub text: &'a [u8],
     pub at: usize,

@@ -31,7 +31,7 @@ const FIRST_LINE: [u8; 24] = *b"period unit event value\n";
 const FIRST_LINE_LENGTH: usize = FIRST_LINE.len();
 
 // What a call answers.
-#[derive(Drop)]
+#[derive(Clone, Copy)]
 pub enum Step {
     // The book's first line has been read.
     Begun,

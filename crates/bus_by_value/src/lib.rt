@@ -15,21 +15,21 @@ use period_hearing::hears::UnitNotes;
 use terminal::Terminal;
 
 // What an opportunity gives back.
-#[derive(Drop)]
+#[derive(Clone, Copy)]
 pub struct HeldTally {
     pub terminals: [Terminal; 8],
     pub tally: Tally,
 }
 
 // What an event gives back.
-#[derive(Drop)]
+#[derive(Clone, Copy)]
 pub struct HeldEvent {
     pub told: Told,
     pub terminals: [Terminal; 8],
 }
 
 // What a run gives back, with the notes of each terminal in its last period.
-#[derive(Drop)]
+#[derive(Clone, Copy)]
 pub struct HeldRun {
     pub answer: RunAnswer,
     pub terminals: [Terminal; 8],

@@ -19,7 +19,7 @@ use period_hearing::silence::silence;
 use terminal::Terminal;
 
 // What a turn gives: the answer of its last period, and how many periods were run before that one.
-#[derive(Drop)]
+#[derive(Clone, Copy)]
 pub struct Turn {
     pub answer: RunAnswer,
     pub over: u32,

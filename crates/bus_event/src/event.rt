@@ -29,7 +29,7 @@ const LAST_UNIT: u32 = TERMINALS as u32;
 pub const IMAGES_ROOM: usize = TERMINALS * IMAGE_ROOM;
 
 // What an event gives: the record, the notes of its unit, and 0 or the number of the refusal.
-#[derive(Drop)]
+#[derive(Clone, Copy)]
 pub struct Told {
     pub bus: BusRecord,
     pub notes: Notes,

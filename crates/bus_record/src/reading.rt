@@ -10,7 +10,7 @@ use table_6_3::G3;
 
 // The reader, and what it has said in this period: the note's code, 0 for none, and how many of the
 // lent octets are the heard body.
-#[derive(Drop)]
+#[derive(Clone, Copy)]
 pub struct Spoken {
     pub reader: Reader,
     pub body: u16,

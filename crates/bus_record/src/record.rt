@@ -7,7 +7,7 @@ use d_reader::Reader;
 use network::Network;
 use timing::counts::{Opportunities, Periods};
 
-#[derive(Drop)]
+#[derive(Clone, Copy)]
 pub struct BusRecord {
     pub network: Network,
     // Periods run, which is the number of the period that comes next, and D opportunities run.

@@ -20,7 +20,7 @@ use timing::timers::due;
 // What a run of periods gives: the record; the last period's notes of unit 0, of the reader (its
 // code, 0 for none, and the length of the heard body) and of frames completed (bit i for
 // terminal i + 1); whether that period has a note; and 0 or the number of the refusal.
-#[derive(Drop)]
+#[derive(Clone, Copy)]
 pub struct RunAnswer {
     pub bus: BusRecord,
     pub network: UnitNotes,
@@ -33,7 +33,7 @@ pub struct RunAnswer {
 }
 
 // The network end after a period, and its notes.
-#[derive(Drop)]
+#[derive(Clone, Copy)]
 pub struct NetworkHeard {
     pub network: Network,
     pub notes: UnitNotes,

@@ -4,7 +4,7 @@ use bus_record::record::BusRecord;
 use symbols::LINE_LENGTH;
 use terminal::Terminal;
 
-#[derive(Drop)]
+#[derive(Clone, Copy)]
 pub(crate) struct Bench {
     pub(crate) bus: BusRecord,
     pub(crate) terminals: [Terminal; 8],

@@ -21,7 +21,7 @@ pub const LINES_LENGTH: usize = TERMINALS * LINE_LENGTH;
 const PLUS_AND_MINUS: u8 = 3;
 
 // How many lines were taken to combine the line, or the number of the refusal.
-#[derive(Drop)]
+#[derive(Clone, Copy)]
 pub enum Combined {
     Line(u8),
     Refused(u8),

@@ -16,7 +16,7 @@ const MOST_BITS: u16 = BODY_BITS + 8;
 
 // What has been read of the frame under way, in counters. The frame's whole octets stand in a lent
 // buffer.
-#[derive(Drop)]
+#[derive(Clone, Copy)]
 pub struct Reader {
     // How many bits of the frame under way have been read, inserted 0s left out; MOST_BITS stands
     // for that many and for all more. The bits of the closing flag are counted too, as they come.
@@ -33,7 +33,7 @@ pub struct Reader {
 }
 
 // What the reader says to a bit.
-#[derive(Drop)]
+#[derive(Clone, Copy)]
 pub enum ReaderAnswer {
     Nothing,
     // A body: this many octets, the first of the lent buffer.
@@ -44,7 +44,7 @@ pub enum ReaderAnswer {
 }
 
 // The record after a bit, and the answer.
-#[derive(Drop)]
+#[derive(Clone, Copy)]
 pub struct Read {
     pub reader: Reader,
     pub answer: ReaderAnswer,

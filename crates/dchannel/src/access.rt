@@ -20,14 +20,14 @@ const SHORTEST_IMAGE: u16 = 16 + 8;
 const LONGEST_IMAGE: u16 = 16 + BODY_BITS + BODY_BITS / 5;
 
 // The two priority classes of frames.
-#[derive(Drop)]
+#[derive(Clone, Copy)]
 pub enum Class {
     One,
     Two,
 }
 
 // A terminal's D access record.
-#[derive(Drop)]
+#[derive(Clone, Copy)]
 pub struct Access {
     // Bits of the held frame's image, 0 where no frame is held.
     pub length: u16,
@@ -47,7 +47,7 @@ pub struct Access {
 
 // What one D opportunity gives: the record after it, the bit for D and the class of a completed
 // frame, 0 for none.
-#[derive(Drop)]
+#[derive(Clone, Copy)]
 pub struct AccessStep {
     pub access: Access,
     pub d: bool,
@@ -56,14 +56,14 @@ pub struct AccessStep {
 
 // What handing over a frame gives: the record, and 0, or the number of the refusal (7 or 8) with
 // the record as it was.
-#[derive(Drop)]
+#[derive(Clone, Copy)]
 pub struct Handed {
     pub access: Access,
     pub reply: u8,
 }
 
 // What leaving F7 gives: the record, and the class of the dropped frame, 0 for none.
-#[derive(Drop)]
+#[derive(Clone, Copy)]
 pub struct Left {
     pub access: Access,
     pub dropped: u8,

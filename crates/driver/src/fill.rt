@@ -8,7 +8,7 @@ use streams::read::read_in;
 use text::length::least;
 
 // The octets in hand, and whether they reach to the book's end.
-#[derive(Drop)]
+#[derive(Clone, Copy)]
 pub(crate) struct Filled {
     pub(crate) have: usize,
     pub(crate) whole: bool,

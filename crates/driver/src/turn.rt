@@ -11,7 +11,7 @@ use streams::write::write_out;
 
 // What is kept between turns: how far the book has come, how many octets of it are in hand, why the
 // last call has stopped, whether no more of the book comes, and whether a write has failed.
-#[derive(Drop)]
+#[derive(Clone, Copy)]
 pub(crate) struct Held {
     pub(crate) progress: Progress,
     pub(crate) have: usize,

@@ -13,7 +13,7 @@ use terminal::Terminal;
 const IMAGE_BITS: u16 = 8 * IMAGE_ROOM as u16;
 
 // A terminal after its part, and the tally with it added.
-#[derive(Drop)]
+#[derive(Clone, Copy)]
 pub struct Part {
     pub terminal: Terminal,
     pub tally: Tally,

@@ -7,7 +7,7 @@ use terminal::Terminal;
 
 // What is known of the terminals looked at so far: `still` is whether none of them takes part in an
 // exchange whose E are 1 and none sends INFO 1, `info3` whether any sends INFO 3.
-#[derive(Drop)]
+#[derive(Clone, Copy)]
 pub struct Rest {
     pub still: bool,
     pub info3: bool,

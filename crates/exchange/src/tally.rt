@@ -12,7 +12,7 @@ use packing::bits::shifted;
 use table_6_2::info_sent;
 
 // The letters of a hit at the four coming E; the keep letter where there is no hit.
-#[derive(Drop)]
+#[derive(Clone, Copy)]
 pub struct Letters {
     pub first: u8,
     pub second: u8,
@@ -20,7 +20,7 @@ pub struct Letters {
     pub fourth: u8,
 }
 
-#[derive(Drop)]
+#[derive(Clone, Copy)]
 pub struct Tally {
     pub letters: Letters,
     // The last four D heard.

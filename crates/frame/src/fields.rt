@@ -2,7 +2,7 @@
 // F, which is always 0.
 
 // The four D bits of a frame, or its four echo bits, in the order of the line.
-#[derive(Drop)]
+#[derive(Clone, Copy)]
 pub struct Four {
     pub first: bool,
     pub second: bool,
@@ -11,7 +11,7 @@ pub struct Four {
 }
 
 // The fields of a frame from the network to the terminals.
-#[derive(Drop)]
+#[derive(Clone, Copy)]
 pub struct DownFields {
     pub b1first: u8,
     pub b2first: u8,
@@ -26,7 +26,7 @@ pub struct DownFields {
 }
 
 // The downward bits that the 20-period cycle sets.
-#[derive(Drop)]
+#[derive(Clone, Copy)]
 pub struct CycleBits {
     pub fa: bool,
     pub m: bool,
@@ -34,7 +34,7 @@ pub struct CycleBits {
 }
 
 // The fields of a frame from a terminal to the network.
-#[derive(Drop)]
+#[derive(Clone, Copy)]
 pub struct UpFields {
     pub b1first: u8,
     pub b2first: u8,

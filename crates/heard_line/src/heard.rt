@@ -5,7 +5,7 @@ ghost use Rattle.heard_line.specs.Heard.{downward_event, upward_event, loss_up};
 use alignment::Followed;
 
 // What a period's downward line shows: a pulse, a framed period, A at 1.
-#[derive(Drop)]
+#[derive(Clone, Copy)]
 pub struct Downward {
     pub pulse: bool,
     pub framed: bool,
@@ -13,7 +13,7 @@ pub struct Downward {
 }
 
 // What a period's upward line shows: a pulse, a framed period, exactly INFO 1's symbols.
-#[derive(Drop)]
+#[derive(Clone, Copy)]
 pub struct Upward {
     pub pulse: bool,
     pub framed: bool,

@@ -10,14 +10,14 @@ use info::info::is_info1;
 use symbols::TestAnswer;
 
 // What a downward line shows, or the number of the refusal.
-#[derive(Drop)]
+#[derive(Clone, Copy)]
 pub enum SensedDown {
     Line(Downward),
     Refused(u8),
 }
 
 // The same for an upward line.
-#[derive(Drop)]
+#[derive(Clone, Copy)]
 pub enum SensedUp {
     Line(Upward),
     Refused(u8),

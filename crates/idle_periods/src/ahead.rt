@@ -17,7 +17,7 @@ use timing::counts::{MOST_PERIODS, Periods};
 use timing::timers::clear;
 
 // How far a bus is still, as far as the units looked at so far allow.
-#[derive(Drop)]
+#[derive(Clone, Copy)]
 pub struct Ahead {
     // How many periods are one step.
     pub over: u32,

@@ -8,7 +8,7 @@ use bus_record::side::{RunAnswer, network_side, refused_run};
 use table_6_3::G3;
 
 // What the last period gave, the sender after it, and how many periods were run.
-#[derive(Drop)]
+#[derive(Clone, Copy)]
 pub struct Alone {
     pub answer: RunAnswer,
     pub lone: LoneSender,

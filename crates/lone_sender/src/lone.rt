@@ -12,7 +12,7 @@ use frame::fields::Four;
 const MOST_COUNT: u8 = NORMAL_2 + 1;
 
 // The terminal that sends alone.
-#[derive(Drop)]
+#[derive(Clone, Copy)]
 pub struct LoneSender {
     // Its index.
     pub at: usize,
@@ -26,7 +26,7 @@ pub struct LoneSender {
 }
 
 // What a period gives: the sender after it, the four D, and whether it sends alone at all four.
-#[derive(Drop)]
+#[derive(Clone, Copy)]
 pub struct LoneStep {
     pub lone: LoneSender,
     pub ds: Four,

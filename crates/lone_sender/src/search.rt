@@ -13,7 +13,7 @@ use timing::counts::Periods;
 use timing::timers::clear;
 
 // What is known of the terminals looked at so far.
-#[derive(Drop)]
+#[derive(Clone, Copy)]
 pub struct Search {
     // The one that sends, with the C of those in F7.
     pub lone: LoneSender,

@@ -19,7 +19,7 @@ const LATEST_T1: u64 = MOST_PERIODS as u64 + T1 as u64;
 
 const LATEST_T2: u64 = MOST_PERIODS as u64 + T2 as u64;
 
-#[derive(Drop)]
+#[derive(Clone, Copy)]
 pub struct Network {
     // The periods at whose start T1 and T2 are due, 0 for none.
     pub t1: u64,
@@ -31,7 +31,7 @@ pub struct Network {
 
 // What a call gives: the record, the notes, and 0 or the number of the refusal with the record as
 // it was.
-#[derive(Drop)]
+#[derive(Clone, Copy)]
 pub struct NetworkStep {
     pub network: Network,
     pub notes: Notes,

@@ -1,5 +1,5 @@
 // In which form notes are put: as lines of the report, or as octets for a host.
-#[derive(Drop)]
+#[derive(Clone, Copy)]
 pub enum Form {
     Line,
     Octets,

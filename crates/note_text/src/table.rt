@@ -8,7 +8,7 @@ use notes_and_cells::notes::{HEARD, REFUSED};
 use text::length::least;
 
 // What is left open of a note's value: nothing, a body, a number.
-#[derive(Drop)]
+#[derive(Clone, Copy)]
 pub enum OpenValue {
     Nothing,
     Body,

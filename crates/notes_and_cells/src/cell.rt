@@ -11,7 +11,7 @@ pub const STOP: u8 = 2;
 pub const START_T2: u8 = 3;
 
 // What a table has at an event and a state.
-#[derive(Drop)]
+#[derive(Clone, Copy)]
 pub enum Cell {
     // The next state, what is done to a timer, and the notes.
     To(u8, u8, Notes),

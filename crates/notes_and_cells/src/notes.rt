@@ -35,5 +35,5 @@ pub const REFUSED: u8 = 16;
 
 // At most four notes: their number, and their codes in the order in which they stand. A place that
 // has none is 0.
-#[derive(Drop)]
+#[derive(Clone, Copy)]
 pub struct Notes(pub u8, pub u8, pub u8, pub u8, pub u8);

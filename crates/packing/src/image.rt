@@ -17,7 +17,7 @@ pub const IMAGE_ROOM: usize = (16 + BODY_BITS + BODY_BITS / 5 + 7) / 8;
 const FLAG: u8 = 126;
 
 // What the image call answers.
-#[derive(Drop)]
+#[derive(Clone, Copy)]
 pub enum Imaged {
     // The image's length in bits.
     Bits(u16),
@@ -26,7 +26,7 @@ pub enum Imaged {
 }
 
 // Where the packing of bits stands.
-#[derive(Drop)]
+#[derive(Clone, Copy)]
 struct Packer {
     // The bits put.
     at: u16,

@@ -11,14 +11,14 @@ use timing::counts::Periods;
 use timing::timers::due;
 
 // The notes of one unit: those of its hearing, and those of its timers at the next period's start.
-#[derive(Drop)]
+#[derive(Clone, Copy)]
 pub struct UnitNotes {
     pub hearing: Notes,
     pub timers: Notes,
 }
 
 // A terminal after a period, its notes, and whether there is any.
-#[derive(Drop)]
+#[derive(Clone, Copy)]
 pub struct HeardOne {
     pub terminal: Terminal,
     pub notes: UnitNotes,

@@ -14,7 +14,7 @@ const EAGAIN: u64 = 11;
 pub(crate) const TRIES: u64 = u64::MAX;
 
 // How many octets a call has moved, and errno where it has failed, 0 where it has not.
-#[derive(Drop)]
+#[derive(Clone, Copy)]
 pub(crate) struct Moved {
     pub(crate) count: usize,
     pub(crate) error: u64,

@@ -16,7 +16,7 @@ pub const MINUS: u8 = 2;
 pub const LINE_LENGTH: usize = 48;
 
 // What a test of a line answers: yes or no, or the number of the refusal.
-#[derive(Drop)]
+#[derive(Clone, Copy)]
 pub enum TestAnswer {
     Yes,
     No,

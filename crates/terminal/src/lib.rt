@@ -20,7 +20,7 @@ use timing::timers::{T3, due, timer_after};
 // The latest T3: one started when the last period has been run.
 const LATEST_T3: u64 = MOST_PERIODS as u64 + T3 as u64;
 
-#[derive(Drop)]
+#[derive(Clone, Copy)]
 pub struct Terminal {
     // The period at whose start T3 is due, 0 for none.
     pub t3: u64,
@@ -32,7 +32,7 @@ pub struct Terminal {
 
 // What a call gives: the record, the notes, and 0 or the number of the refusal with the record as
 // it was.
-#[derive(Drop)]
+#[derive(Clone, Copy)]
 pub struct TerminalStep {
     pub terminal: Terminal,
     pub notes: Notes,

@@ -11,7 +11,7 @@ use crate::piece::{long_piece_end, piece_end};
 const SPACE: u8 = b' ';
 
 // Where the first four fields of a line end; behind each but the last stands its space.
-#[derive(Drop)]
+#[derive(Clone, Copy)]
 pub struct Ends {
     pub first: usize,
     pub second: usize,

@@ -7,11 +7,11 @@ ghost use Rattle.timing.specs.Calls.{periods_in_range, opportunities_in_range, a
 pub const MOST_PERIODS: u32 = 4_000_000;
 
 // The number of periods run, which is the number of the period that comes next.
-#[derive(Drop)]
+#[derive(Clone, Copy)]
 pub struct Periods(pub u32);
 
 // The number of D opportunities run.
-#[derive(Drop)]
+#[derive(Clone, Copy)]
 pub struct Opportunities(pub u32);
 
 impl Periods {
