@@ -1,6 +1,6 @@
 -- What a loop over a slice has made of it, and gathered from it, when j elements are done.
 use mathlib.Core.Path.{◌≡◌, refl, sym, ◌∙◌, ap, subst}
-use Prim.Native.Nat.{ℕ, zero, suc, ◌+◌, ◌<◌}
+use Prim.Native.Nat.{ℕ, zero, suc, ◌+◌, ◌<◌, ◌≤◌}
 use native.Mathlib.Nat.{not-suc-le-zero, le_of_suc-le-suc, suc_inj, suc-ne-zero}
 use native.Mathlib.Numerals.{add-one}
 use native.Mathlib.Omega.{arith}
@@ -60,6 +60,21 @@ module _ {S : Type 0} (f : ℕ → S → S) where
   pub one_more : (j : ℕ) (ys : List S) (d : S) → j < length ys → set (upto j 0 ys) j (f j (get_or (upto j 0 ys) j d)) ≡ upto (j + 1) 0 ys
   one_more j ys d l = ap (λ (y : S). set (upto j 0 ys) j (f j y)) (upto_at j 0 ys d) ∙ ap (λ (i : ℕ). set (upto j 0 ys) j (f i (get_or ys j d))) (sym (past_zero j)) ∙ upto_set j 0 ys d l ∙ ap (λ (i : ℕ). upto i 0 ys) (sym (add-one j))
 
+  -- The same of any list that is known to be this one.
+  pub put_next : (j : ℕ) (ys xs : List S) (d y : S) → xs ≡ upto j 0 ys → j < length xs → y ≡ f j (get_or xs j d) → set xs j y ≡ upto (j + 1) 0 ys
+  put_next j ys xs d y e l is = ap (set xs j) is ∙ ap (λ (zs : List S). set zs j (f j (get_or zs j d))) e ∙ one_more j ys d (subst (λ (m : ℕ). j < m) (ap length e ∙ upto_length j 0 ys) l)
+
+  upto_past : (j k : ℕ) (ys : List S) → length ys ≤ j → upto j k ys ≡ map_from f k ys
+  unfolding map_from
+  upto_past zero k [] l = refl
+  upto_past zero k (y ∷ ys) l = absurd (not-suc-le-zero l)
+  upto_past (suc j) k [] l = refl
+  upto_past (suc j) k (y ∷ ys) l = ap (λ (zs : List S). f k y ∷ zs) (upto_past j (suc k) ys (le_of_suc-le-suc l))
+
+  -- and once every element is done
+  pub put_all : (j : ℕ) (ys xs : List S) → xs ≡ upto j 0 ys → length xs ≤ j → xs ≡ map_from f 0 ys
+  put_all j ys xs e l = e ∙ upto_past j 0 ys (subst (λ (m : ℕ). m ≤ j) (ap length e ∙ upto_length j 0 ys) l)
+
 module _ {S A : Type 0} (g : ℕ → A → S → A) where
   -- what the first j elements give
   abbrev pub acc : A → ℕ → ℕ → List S → A
@@ -84,6 +99,26 @@ module _ {S A : Type 0} (g : ℕ → A → S → A) where
   -- and where the elements before it are changed by f
   pub one_gathered : (f : ℕ → S → S) (a : A) (j : ℕ) (ys : List S) (d : S) → j < length ys → g j (acc a j 0 ys) (get_or (upto f j 0 ys) j d) ≡ acc a (j + 1) 0 ys
   one_gathered f a j ys d l = ap (g j (acc a j 0 ys)) (upto_at f j 0 ys d) ∙ one_read a j ys d l
+
+  -- The same of any value and any list that are known to be these.
+  pub read_next : (a b : A) (j : ℕ) (ys : List S) (d : S) → b ≡ acc a j 0 ys → j < length ys → g j b (get_or ys j d) ≡ acc a (j + 1) 0 ys
+  read_next a b j ys d is l = ap (λ (c : A). g j c (get_or ys j d)) is ∙ one_read a j ys d l
+
+  pub gather_next : (f : ℕ → S → S) (a b : A) (j : ℕ) (ys xs : List S) (d : S) → b ≡ acc a j 0 ys → xs ≡ upto f j 0 ys → j < length xs → g j b (get_or xs j d) ≡ acc a (j + 1) 0 ys
+  gather_next f a b j ys xs d is e l =
+      ap (λ (c : A). g j c (get_or xs j d)) is ∙ ap (λ (zs : List S). g j (acc a j 0 ys) (get_or zs j d)) e
+      ∙ one_gathered f a j ys d (subst (λ (m : ℕ). j < m) (ap length e ∙ upto_length f j 0 ys) l)
+
+  acc_past : (a : A) (j k : ℕ) (ys : List S) → length ys ≤ j → acc a j k ys ≡ fold_from g k a ys
+  unfolding fold_from
+  acc_past a zero k [] l = refl
+  acc_past a zero k (y ∷ ys) l = absurd (not-suc-le-zero l)
+  acc_past a (suc j) k [] l = refl
+  acc_past a (suc j) k (y ∷ ys) l = acc_past (g k a y) j (suc k) ys (le_of_suc-le-suc l)
+
+  -- and once every element is done
+  pub gather_all : (a b : A) (j : ℕ) (ys : List S) → b ≡ acc a j 0 ys → length ys ≤ j → b ≡ fold_from g 0 a ys
+  gather_all a b j ys is l = is ∙ acc_past a j 0 ys l
 
 module _ {S B : Type 0} (h : ℕ → S → B) where
   -- a second list, of which the first j elements are what h makes of the first list's
@@ -114,3 +149,23 @@ module _ {S B : Type 0} (h : ℕ → S → B) where
 
   pub one_filled : (f : ℕ → S → S) (j : ℕ) (ys : List S) (zs : List B) (d : S) → j < length ys → j < length zs → set (filled j 0 ys zs) j (h j (get_or (upto f j 0 ys) j d)) ≡ filled (j + 1) 0 ys zs
   one_filled f j ys zs d l m = ap (λ (y : S). set (filled j 0 ys zs) j (h j y)) (upto_at f j 0 ys d) ∙ ap (λ (i : ℕ). set (filled j 0 ys zs) j (h i (get_or ys j d))) (sym (past_zero j)) ∙ filled_set j 0 ys zs d l m ∙ ap (λ (i : ℕ). filled i 0 ys zs) (sym (add-one j))
+
+  -- The same of any lists that are known to be these.
+  pub fill_next : (f : ℕ → S → S) (j : ℕ) (ys xs : List S) (zs us : List B) (d : S) (u : B) → us ≡ filled j 0 ys zs → xs ≡ upto f j 0 ys → j < length xs → j < length us → u ≡ h j (get_or xs j d) → set us j u ≡ filled (j + 1) 0 ys zs
+  fill_next f j ys xs zs us d u eu e l m is =
+      ap (set us j) is ∙ ap (λ (vs : List S). set us j (h j (get_or vs j d))) e ∙ ap (λ (vs : List B). set vs j (h j (get_or (upto f j 0 ys) j d))) eu
+      ∙ one_filled f j ys zs d (subst (λ (n : ℕ). j < n) (ap length e ∙ upto_length f j 0 ys) l) (subst (λ (n : ℕ). j < n) (ap length eu ∙ filled_length j 0 ys zs) m)
+
+  filled_past : (j k : ℕ) (ys : List S) (zs : List B) → length zs ≡ length ys → length ys ≤ j → filled j k ys zs ≡ map_from h k ys
+  unfolding map_from
+  filled_past zero k [] [] e l = refl
+  filled_past zero k [] (z ∷ zs) e l = absurd (suc-ne-zero (length zs) e)
+  filled_past zero k (y ∷ ys) zs e l = absurd (not-suc-le-zero l)
+  filled_past (suc j) k [] [] e l = refl
+  filled_past (suc j) k [] (z ∷ zs) e l = absurd (suc-ne-zero (length zs) e)
+  filled_past (suc j) k (y ∷ ys) [] e l = absurd (suc-ne-zero (length ys) (sym e))
+  filled_past (suc j) k (y ∷ ys) (z ∷ zs) e l = ap (λ (us : List B). h k y ∷ us) (filled_past j (suc k) ys zs (suc_inj e) (le_of_suc-le-suc l))
+
+  -- and once every element is done
+  pub fill_all : (j : ℕ) (ys : List S) (zs us : List B) → us ≡ filled j 0 ys zs → length zs ≡ length ys → length ys ≤ j → us ≡ map_from h 0 ys
+  fill_all j ys zs us eu e l = eu ∙ filled_past j 0 ys zs e l
