@@ -280,7 +280,8 @@ pub terminals_amiss :
     × Refused 1 (amiss on (astray ∷ fresh (terminals - 1)) (zeros images_room) [] (zeros line_length) [])
     × Refused 1 (amiss on [] [] [] [] [])
     × Refused 1 (amiss period (fresh (terminals - 1)) (zeros images_room) (zeros longest_body) (zeros line_length) (places terminals))
-    × Refused 1 (amiss period (astray ∷ fresh (terminals - 1)) (zeros images_room) (zeros longest_body) (zeros line_length) (places terminals))
+    × Refused 1 (amiss period (astray ∷ fresh (terminals - 1)) (zeros images_room) (zeros longest_body) (zeros line_length)
+    (places terminals))
     × Refused 1 (amiss period [] [] [] [] [])
 unfolding would_fit lent_fits eight_in_range all_in_range terminalCalls.terminal_in_range access_in_range fits within
 terminals_amiss = ((refl, refl), (refl, refl), (refl, refl), (refl, refl), (refl, refl), (refl, refl))

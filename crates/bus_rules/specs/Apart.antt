@@ -18,4 +18,5 @@ AlwaysTogether =
 
 -- INFO 1 is never sent beside INFO 3.
 abbrev pub Info1Apart : Type 0
-Info1Apart = (calls : List Call) → (any_info1 (after_all fresh_bus calls).stations && any_info3 (after_all fresh_bus calls).stations) ≡ false
+Info1Apart = (calls : List Call) → (any_info1 (after_all fresh_bus calls).stations && any_info3 (after_all fresh_bus calls).stations)
+    ≡ false

@@ -89,13 +89,18 @@ unfolding within fits tabulate same_symbols bits.octet_bits bits.zeros polarity.
     network.moved network.acts network.happens network.and_then network.aligned network.requests network.t1_due network.t2_due
     network.timers network.heard_as network.hears terminal.access_after terminal.dropped_note terminal.moved terminal.acts
     terminal.happens terminal.aligned terminal.no_timer terminal.switches_on terminal.switches_off terminal.requests terminal.timer
-    terminal.heard_as terminal.hears notes_of sent_down sent_up access_step_of station_after_e d_of done_of hears_e sent_of line_down line_up
+    terminal.heard_as terminal.hears notes_of sent_down sent_up access_step_of station_after_e d_of done_of hears_e sent_of line_down
+    line_up
     e_comes senders_after d_comes said_to onward as_sender begins opportunities_of exchanged whole_down whole_up reading_after network_hears
-    terminal_hears stepped said_notes done_codes heard_by notes_heard timed notes_timed period_run period_notes class_of event_for bars_network
+    terminal_hears stepped said_notes done_codes heard_by notes_heard timed notes_timed period_run period_notes class_of event_for
+    bars_network
     bars_terminal bars call_reasons state_reasons reasons first_holding refusal network_does network_done hit_given terminal_does with_frame
-    station_after station_done event_done event_notes reply does tells after notes after_all opportunities_of_call opportunities_in station_then
-    buses powered powered_from powered_in longest_of longest_in network.bars terminal.bars unit_by_unit notes_of_all run_goes_on run_calls run_reply
-    run_notes run_leaves fa_down fa_sent sent_from q_notes s_notes cycle_notes cycle_after cycle.taken cycle.bits_at cycle.up_fa cycle.heard_in
+    station_after station_done event_done event_notes reply does tells after notes after_all opportunities_of_call opportunities_in
+    station_then
+    buses powered powered_from powered_in longest_of longest_in network.bars terminal.bars unit_by_unit notes_of_all run_goes_on
+    run_calls run_reply
+    run_notes run_leaves fa_down fa_sent sent_from q_notes s_notes cycle_notes cycle_after cycle.taken cycle.bits_at cycle.up_fa
+    cycle.heard_in
     cycle.q_told cycle.s_told
 handed_back b calls = report_from b calls
 
@@ -372,7 +377,8 @@ t1_first = (refl, refl, refl)
 -- T1, and T3 of terminal 2, are due as period 8 starts: their notes come with the call that runs
 -- period 7, after what is heard in it, unit 0 first, and have the number 8
 pub timers_next :
-    handed_back (bus_with 7 (network_in G2 8 0) (fresh_station ∷ station_in F4 8 access.fresh ∷ station_in F2 0 access.fresh ∷ [])) (period ∷ [])
+    handed_back (bus_with 7 (network_in G2 8 0) (fresh_station ∷ station_in F4 8 access.fresh ∷ station_in F2 0 access.fresh
+    ∷ [])) (period ∷ [])
     ≡ note 7 3 mph_ii_connected [] ∷ note 8 0 ph_deact [] ∷ note 8 2 mph_deact [] ∷ note 8 2 ph_deact [] ∷ []
 unfolding handed_back
 timers_next = refl

@@ -99,7 +99,8 @@ BesideInfo3 =
 -- The D bits at symbol level, whatever is sent, B octets too: the ANDs, at position 25 inverted where
 -- INFO 1 is sent.
 abbrev pub CombinedSentD : Type 0
-CombinedSentD = (xs : List Sent) → d_bits (levels (combined (map sent_line xs))) ≡ heard_with_info1 (any_calling xs) (and_all (map sent_d xs))
+CombinedSentD = (xs : List Sent) → d_bits (levels (combined (map sent_line xs)))
+    ≡ heard_with_info1 (any_calling xs) (and_all (map sent_d xs))
 
 abbrev pub CombinedQuietD : Type 0
 CombinedQuietD = (xs : List Sent) → any_calling xs ≡ false → d_bits (levels (combined (map sent_line xs))) ≡ and_all (map sent_d xs)
@@ -177,17 +178,20 @@ TakenOfNobody = lines_taken (laid (map sent_line (replicate terminals silent))) 
 -- ---- A hit changes exactly its letters' positions: keep leaves the symbol, plus, minus and none
 -- give theirs.
 abbrev pub HitAt : Type 0
-HitAt = (letters l : List ℕ) (i : ℕ) → i < line_length → get_or (hit letters l) i none ≡ struck (get_or letters i keep_letter) (get_or l i none)
+HitAt = (letters l : List ℕ) (i : ℕ) → i < line_length → get_or (hit letters l) i none
+    ≡ struck (get_or letters i keep_letter) (get_or l i none)
 
 abbrev pub HitKeeps : Type 0
 HitKeeps =
-    (letters l : List ℕ) (i : ℕ) → i < line_length → get_or letters i keep_letter ≡ keep_letter → get_or (hit letters l) i none ≡ get_or l i none
+    (letters l : List ℕ) (i : ℕ) → i < line_length → get_or letters i keep_letter ≡ keep_letter
+    → get_or (hit letters l) i none ≡ get_or l i none
 
 abbrev pub HitPlus : Type 0
 HitPlus = (letters l : List ℕ) (i : ℕ) → i < line_length → get_or letters i keep_letter ≡ plus_letter → get_or (hit letters l) i none ≡ plus
 
 abbrev pub HitMinus : Type 0
-HitMinus = (letters l : List ℕ) (i : ℕ) → i < line_length → get_or letters i keep_letter ≡ minus_letter → get_or (hit letters l) i none ≡ minus
+HitMinus = (letters l : List ℕ) (i : ℕ) → i < line_length → get_or letters i keep_letter ≡ minus_letter
+    → get_or (hit letters l) i none ≡ minus
 
 abbrev pub HitNone : Type 0
 HitNone = (letters l : List ℕ) (i : ℕ) → i < line_length → get_or letters i keep_letter ≡ none_letter → get_or (hit letters l) i none ≡ none
@@ -207,7 +211,8 @@ EHitDown = (letters : List ℕ) (f : DownFields) → e_bits (levels (hit letters
 
 abbrev pub PickStruckE : Type 0
 PickStruckE =
-    (k : ℕ) (letters : List ℕ) (e : Four) → k < 4 → pick k (struck_e letters e) ≡ struck_bit (get_or letters (e_index k) keep_letter) (pick k e)
+    (k : ℕ) (letters : List ℕ) (e : Four) → k < 4 → pick k (struck_e letters e)
+    ≡ struck_bit (get_or letters (e_index k) keep_letter) (pick k e)
 
 -- FA and S, under the letters of positions 14 and 37.
 abbrev pub FaHit : Type 0

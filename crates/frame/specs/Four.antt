@@ -10,7 +10,13 @@ pick k f = get_or (f.first ∷ f.second ∷ f.third ∷ f.fourth ∷ []) k true
 
 -- Four bits of which only the first ones are known, as `bits`: 1 for the rest.
 unfoldable pub filled_with_ones : List Bool → Four
-filled_with_ones bits = record { first = get_or bits 0 true; second = get_or bits 1 true; third = get_or bits 2 true; fourth = get_or bits 3 true }
+filled_with_ones bits = record {
+  first = get_or bits 0 true;
+  second = get_or bits 1 true;
+  third = get_or bits 2 true;
+  fourth =
+      get_or bits 3 true;
+}
 
 -- Four bits all alike.
 abbrev pub all_four : Bool → Four

@@ -13,7 +13,8 @@ use Rattle.frame.specs.declared.fields.Four.{Four}
 -- For a frame that is written by `write` and whose fields are taken from a line by `taken`: 2 for
 -- what is no line; the fields taken where writing them gives the line back; 10 else.
 unfoldable pub read_by : {F R : Type 0} → (F → List ℕ) → (List ℕ → F) → (F → R) → (ℕ → R) → List ℕ → R
-read_by write taken fields refused l = cond (is_line l) (cond (same_symbols l (write (taken l))) (fields (taken l)) (refused 10)) (refused 2)
+read_by write taken fields refused l = cond (is_line l) (cond (same_symbols l (write (taken l))) (fields (taken l)) (refused 10))
+    (refused 2)
 
 abbrev pub down_read : List ℕ → ReadDown
 down_read l = read_by down_line down_fields_of ReadDown.Fields ReadDown.Refused l

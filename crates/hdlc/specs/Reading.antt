@@ -71,7 +71,8 @@ aborted bs = cond (ltb (length bs) 8) nothing torn
 unfoldable pub says : Bool → List Bool → Said
 says false raw = nothing
 says true raw =
-    cond (starts_with flag raw) (between (contents (drop 8 raw))) (cond (starts_with seven_ones raw) (aborted (contents (drop 7 raw))) nothing)
+    cond (starts_with flag raw) (between (contents (drop 8 raw)))
+    (cond (starts_with seven_ones raw) (aborted (contents (drop 7 raw))) nothing)
 
 unfoldable pub said : Reading → Bool → Said
 said s b = says s.opened (b ∷ s.raw)

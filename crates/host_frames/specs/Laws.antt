@@ -36,7 +36,8 @@ AreOctets fs = (i : ℕ) → get_or fs i 0 < 256
 -- Writing octets that are taken, and reading what was written, gives those octets.
 abbrev pub WriteThenRead : Type 0
 WriteThenRead =
-    (up : ℕ) (fs symbols fields : List ℕ) → AreOctets fs → accepts up fs ≡ true → length symbols ≡ line_length → length fields ≡ fields_length
+    (up : ℕ) (fs symbols fields : List ℕ) → AreOctets fs → accepts up fs ≡ true → length symbols ≡ line_length
+    → length fields ≡ fields_length
     → (reply_of (frame_written up fs symbols) ≡ 0) × (frame_read up (left_of (frame_written up fs symbols) symbols) fields ≡ wrote fs)
 
 -- Symbols that are read are those that the octets given are written as.

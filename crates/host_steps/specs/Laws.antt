@@ -24,7 +24,8 @@ RefusedKeeps = (s room : List ℕ) (c : Call) → (host_reply s room c ≡ 0 →
 
 abbrev pub RefusedRunKeeps : Type 0
 RefusedRunKeeps =
-    (s room : List ℕ) (most : ℕ) → (host_run_reply s room most ≡ 0 → ⊥) → Untouched s room (host_run_bus s room most) (host_run_notes s room most)
+    (s room : List ℕ) (most : ℕ) → (host_run_reply s room most ≡ 0 → ⊥)
+    → Untouched s room (host_run_bus s room most) (host_run_notes s room most)
 
 -- ---- The notes of any call, with their end, fit into the room that is asked for: nothing of them
 -- is left out.
@@ -44,7 +45,8 @@ RunNotesFitOctets = (s : List ℕ) (most : ℕ) → is_bus s ≡ true → AllFit
 
 abbrev pub NotesDetermined : Type 0
 NotesDetermined =
-    (ns ms : List Note) (behind behind' : List ℕ) → AllFitOctets ns → AllFitOctets ms → notes_octets ns ++ behind ≡ notes_octets ms ++ behind'
+    (ns ms : List Note) (behind behind' : List ℕ) → AllFitOctets ns → AllFitOctets ms
+    → notes_octets ns ++ behind ≡ notes_octets ms ++ behind'
     → (ns ≡ ms) × (behind ≡ behind')
 
 -- ---- A run that hands back no notes, so that the first octet lent for them is their end, has come

@@ -48,7 +48,8 @@ images = replicate 400 85
 
 pub period : (lone_goes images (search one_sends).lone ≡ true) × ((lone_after_four images (search one_sends).lone).sent ≡ 13)
     × ((lone_after_four images (search one_sends).lone).count ≡ 0)
-unfolding searched searched_one sender_after fits_in clear rests shown_by info_in fold_from lone_goes lone_sends lone_after_e lone_after_four
+unfolding searched searched_one sender_after fits_in clear rests shown_by info_in fold_from lone_goes lone_sends lone_after_e
+    lone_after_four
     counted_at count_after lone_bit image_bit packed_bit bit_of
 period = (refl, refl, refl)
 

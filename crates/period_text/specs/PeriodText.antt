@@ -40,7 +40,8 @@ period_room = heard_room + most_notes * line_room
 abbrev pub PeriodFits : Type 0
 PeriodFits =
     (now : ℕ) (r : RunAnswer) (ns : List UnitNotes) (octets : List ℕ)
-    → now + 1 < numbers → length ns ≡ terminals → length octets ≤ longest_body → length (notes_text (period_told now r ns octets)) ≤ period_room
+    → now + 1 < numbers → length ns ≡ terminals → length octets ≤ longest_body
+    → length (notes_text (period_told now r ns octets)) ≤ period_room
 
 -- And that of an event's.
 abbrev pub EventFits : Type 0

@@ -24,7 +24,8 @@ call_at unit number value = cond (is_end unit number) [] (event unit number (val
 unfoldable pub calls_of_answers : ℕ → List Answer → List Call
 calls_of_answers run [] = []
 calls_of_answers run (fault number ∷ more) = []
-calls_of_answers run (entry at unit number value ∷ more) = replicate (at - run) period ++ (call_at unit number value ++ calls_of_answers at more)
+calls_of_answers run (entry at unit number value ∷ more) = replicate (at - run) period ++
+    (call_at unit number value ++ calls_of_answers at more)
 
 unfoldable pub book_calls : List ℕ → List Call
 book_calls book = calls_of_answers 0 (answers book)

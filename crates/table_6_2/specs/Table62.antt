@@ -112,7 +112,8 @@ alignment_lost = impossible ∷ impossible ∷ impossible ∷ impossible ∷ imp
 -- The whole table. The events are numbered from 1 in the order of its rows.
 abbrev pub table62 : List (List Cell)
 table62 =
-    power_on ∷ power_off ∷ activation_request ∷ t3_expiry ∷ info0_received ∷ signal_received ∷ info2_received ∷ info4_received ∷ alignment_lost ∷ []
+    power_on ∷ power_off ∷ activation_request ∷ t3_expiry ∷ info0_received ∷ signal_received ∷ info2_received ∷ info4_received
+    ∷ alignment_lost ∷ []
 
 -- The numbers of the events.
 abbrev pub on_row : ℕ

@@ -59,7 +59,8 @@ alignment_lost = impossible ∷ impossible ∷ to G2 (mph_deact ∷ mph_ei ∷ [
 
 -- The whole table. The events are numbered from 1 in the order of its rows.
 abbrev pub table63 : List (List Cell)
-table63 = activation_request ∷ deactivation_request ∷ t1_expiry ∷ t2_expiry ∷ info0_received ∷ info1_received ∷ info3_received ∷ alignment_lost ∷ []
+table63 = activation_request ∷ deactivation_request ∷ t1_expiry ∷ t2_expiry ∷ info0_received ∷ info1_received ∷ info3_received
+    ∷ alignment_lost ∷ []
 
 -- The numbers of the events.
 abbrev pub ar_row : ℕ
