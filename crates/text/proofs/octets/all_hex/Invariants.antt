@@ -1,0 +1,12 @@
+-- `octets::all_hex` meets its contract: the answer is that of the octets passed and that of the octets from i on.
+use Prim.Native.Nat.{◌-◌}
+use lib.ListN.{length}
+use Rattle.symbols.proofs.Scan.{Tested}
+use Rattle.text.specs.Text.{all, is_hex}
+use Rattle.text.proofs.octets.all_hex.Given as goal
+
+abbrev pub invariant-loop-i : goal.invariant-loop-i
+invariant-loop-i l = Tested (all is_hex) l.text l.i l.ok
+
+abbrev pub decreases-loop-i : goal.decreases-loop-i
+decreases-loop-i l = length l.text - l.i
