@@ -1,6 +1,8 @@
 // Symbols and lines (document 01, "The line"): a line is 48 symbols in a lent slice. A lent line of
 // another length, or with a code that is no symbol, is turned down with 2, and then no lent octet
 // changes. Of a slice that is written to, only the length counts.
+#![tactic(auto)]
+
 ghost use Rattle.std.specs.Prelude.{◌≡◌};
 ghost use Rattle.symbols.specs.Symbols as spec;
 ghost use Rattle.symbols.specs.Calls as calls;
