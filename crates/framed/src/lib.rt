@@ -1,4 +1,6 @@
 // Framed periods and pulses (document 01, "The line").
+#![tactic(auto)]
+
 ghost use Rattle.std.specs.Prelude.{◌≡◌, ◌+◌, ◌≤◌, length};
 ghost use Rattle.symbols.specs.Symbols.{line_length};
 ghost use Rattle.symbols.specs.Calls.{tested};
