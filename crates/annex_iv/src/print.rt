@@ -64,7 +64,7 @@ fn note(code: u8) {
     }
     if code < 10 {
         name(
-            b"          ph_act    ph_deact  mph_act   mph_deact mph_ei    mph_ei1   mph_ei2   MPH-II(c) MPH-II(d) ",
+            b"          PH-ACT    PH-DEACT  MPH-ACT   MPH-DEACT MPH-EI    MPH-EI1   MPH-EI2   MPH-II(c) MPH-II(d) ",
             code,
         );
     } else {

@@ -54,7 +54,7 @@ pub(crate) fn note(unit: u32, code: u8) {
     }
     number(b"  ", unit);
     word(
-        b", ph_act, ph_deact, mph_act, mph_deact, mph_ei, mph_ei1, mph_ei2, MPH-II connected, MPH-II disconnected\
+        b", PH-ACT, PH-DEACT, MPH-ACT, MPH-DEACT, MPH-EI, MPH-EI1, MPH-EI2, MPH-II connected, MPH-II disconnected\
         , heard , torn, done1, done2, dropped1, dropped2, refused",
         code,
     );

@@ -105,11 +105,11 @@ pub example_report :
     ∷ [])
     ≡ map (λ text. line (text ∷ []))
     (ascii "0 1 MPH-II connected"
-    ∷ ascii "7 0 ph_act -"
-    ∷ ascii "7 0 mph_act -"
-    ∷ ascii "8 1 ph_act -"
-    ∷ ascii "8 1 mph_act -"
-    ∷ ascii "8 1 mph_ei2 -"
+    ∷ ascii "7 0 PH-ACT -"
+    ∷ ascii "7 0 MPH-ACT -"
+    ∷ ascii "8 1 PH-ACT -"
+    ∷ ascii "8 1 MPH-ACT -"
+    ∷ ascii "8 1 MPH-EI2 -"
     ∷ ascii "16 0 heard 00"
     ∷ ascii "16 1 done1 -"
     ∷ [])

@@ -21,7 +21,7 @@ const NO_CODE: usize = REFUSED as usize + 1;
 // For each code, from 0 on: a space, the note's name, a space, and the value where the code decides
 // it.
 const NAMES: [u8; PLACES[NO_CODE + 1] as usize] =
-    *b"  - ph_act - ph_deact - mph_act - mph_deact - mph_ei - mph_ei1 - mph_ei2 - \
+    *b"  - PH-ACT - PH-DEACT - MPH-ACT - MPH-DEACT - MPH-EI - MPH-EI1 - MPH-EI2 - \
     MPH-II connected MPH-II disconnected heard  torn - done1 - done2 - dropped1 - dropped2 - refused   -";
 
 // Where each code's part begins; the last one's end.

@@ -36,11 +36,11 @@ pub the_example :
     report_of ("0 1 on -" ∷ "1 1 ar -" ∷ "9 1 d1 00" ∷ "20 0 end -" ∷ [])
     ≡ reported
     ("0 1 MPH-II connected"
-    ∷ "7 0 ph_act -"
-    ∷ "7 0 mph_act -"
-    ∷ "8 1 ph_act -"
-    ∷ "8 1 mph_act -"
-    ∷ "8 1 mph_ei2 -"
+    ∷ "7 0 PH-ACT -"
+    ∷ "7 0 MPH-ACT -"
+    ∷ "8 1 PH-ACT -"
+    ∷ "8 1 MPH-ACT -"
+    ∷ "8 1 MPH-EI2 -"
     ∷ "16 0 heard 00"
     ∷ "16 1 done1 -"
     ∷ [])
