@@ -1,2 +1,4 @@
 // The INFO signals as lines (document 01, "The line").
+#![tactic(auto)]
+
 pub mod info;
