@@ -1,0 +1,22 @@
+use borrow.Author.Rules.{rules}
+use Rattle.table_6_2.specs.Table62.{info0_received}
+use Rattle.notes_and_cells.proofs.Rows.{settled}
+use Rattle.table_6_2.proofs.info_0_received.Goals as goal
+
+pub returns-in-2 : goal.returns-in-2
+returns-in-2 c = settled info0_received _ (search rules)
+
+pub returns-in-8 : goal.returns-in-8
+returns-in-8 c = settled info0_received _ (search rules)
+
+pub returns-in-3-to-5 : goal.returns-in-3-to-5
+returns-in-3-to-5 c = settled info0_received _ (search rules)
+
+pub returns-in-6-to-7 : goal.returns-in-6-to-7
+returns-in-6-to-7 c = settled info0_received _ (search rules)
+
+pub returns-in_default : goal.returns-in_default
+returns-in_default c = settled info0_received _ (search rules)
+
+pub returns-in_default-2 : goal.returns-in_default-2
+returns-in_default-2 c = settled info0_received _ (search rules)
