@@ -1,6 +1,6 @@
 -- "The first that holds gives the number; where none holds, the call is not refused" (document 01, "Reasons a call is turned down"), both
 -- ways round; and a refused call changes nothing.
-use mathlib.Core.Path.{◌≡◌, refl, sym}
+use mathlib.Core.Path.{◌≡◌, refl, sym, subst}
 use mathlib.Core.Bool.{Bool, true, false, cond, not, ◌&&◌, ◌||◌}
 use mathlib.Core.List.{List, [], ◌∷◌, ◌++◌, map}
 use Prim.Native.Nat.{ℕ, zero, suc, ◌≤◌, ◌<◌}
@@ -68,7 +68,7 @@ unfolding first_holding
 first_listed [] = refl
 first_listed (r ∷ rs) =
     by_test r.1 (λ t. rw (t, eq-eqb r.0 r.0 refl) (first (eqb r.0 0)))
-    (λ t. rw t (later (eqb (first_holding rs) 0) (eqb (first_holding rs) r.0) _ (first_listed rs)))
+    (λ t. moved (first_holding rs) (first_holding (r ∷ rs)) (rw t) (first_listed rs))
   where
     first : (a : Bool) → (a || true) ≡ true
     first true = refl
@@ -78,6 +78,9 @@ first_listed (r ∷ rs) =
     later true b c h = refl
     later false true c h = refl
     later false false c h = h
+
+    moved : (n m : ℕ) → m ≡ n → among n (0 ∷ numbers_of rs) ≡ true → among m (0 ∷ numbers_of (r ∷ rs)) ≡ true
+    moved n m e h = subst (λ (x : ℕ). among x (0 ∷ numbers_of (r ∷ rs)) ≡ true) (sym e) (later (eqb n 0) (eqb n r.0) _ h)
 
 -- numbers of which none is 0 and none stands twice
 unfoldable pub apart : List ℕ → Bool
@@ -121,7 +124,9 @@ first_only [] a i h e = absurd (omega arith)
 first_only (r ∷ rs) a zero h e =
     by_test r.1
     (λ t. record { here = t; none_before = λ j l. absurd (omega arith) })
-    (λ t. let back : first_holding rs ≡ r.0 = rw t at e in clash (among r.0 (0 ∷ numbers_of rs)) (rw back at (first_listed rs)) (own r rs a))
+    (λ t.
+    let back : first_holding rs ≡ r.0 = rw t at e in
+    clash (among r.0 (0 ∷ numbers_of rs)) (subst (λ (x : ℕ). among x (0 ∷ numbers_of rs) ≡ true) back (first_listed rs)) (own r rs a))
 first_only (r ∷ rs) a (suc i) h e =
     by_test r.1
     (λ t.
