@@ -1,6 +1,5 @@
 -- `symbols::fits` meets its contract: the answer is that of the codes passed and that of the codes from i on.
 use mathlib.Core.Path.{refl, sym}
-use Prim.Native.Nat.{◌-◌}
 use native.Mathlib.Omega.{arith}
 use borrow.Author.Tests.{ne_eqb}
 use Rattle.symbols.specs.Symbols.{within, fits}

@@ -1,6 +1,5 @@
 -- `symbols::same_symbols` meets its contract: after i turns the answer is that of the first i codes.
 use mathlib.Core.Path.{sym}
-use Prim.Native.Nat.{◌-◌}
 use native.Mathlib.Omega.{arith}
 use Rattle.symbols.proofs.Scan.{same_symbols_short}
 use Rattle.symbols.proofs.Comparing.{comparing_next, comparing_ends}
