@@ -9,8 +9,7 @@ use host_bus::fresh::sbus_fresh;
 use note_text::room::put;
 
 // Gives the number of octets of a book.
-#[unsafe(no_mangle)]
-pub extern "C" fn sbus_book_length() -> usize
+pub fn sbus_book_length() -> usize
     ensures { result ≡ book_length }
 {
     BOOK_LENGTH
@@ -18,8 +17,7 @@ pub extern "C" fn sbus_book_length() -> usize
 
 // Makes a book of which nothing has been read, on a fresh bus. Gives 0, or 1 where what is lent has
 // not the length of a book.
-#[unsafe(no_mangle)]
-pub extern "C" fn sbus_book_fresh(book: &mut [u8]) -> u32
+pub fn sbus_book_fresh(book: &mut [u8]) -> u32
     ensures value { result ≡ cond (eqb (length book.old) book_length) 0 1 }
     ensures book_after { book.new ≡ cond (eqb (length book.old) book_length) fresh_book book.old }
 {

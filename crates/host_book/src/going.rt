@@ -87,8 +87,7 @@ fn going_reason(book: &[u8], went: usize) -> u32
 
 // Goes on with a book in lent text, its report in lent room, until it needs more text or room, or
 // is finished; `whole` other than 0 says that the text reaches to the book's end.
-#[unsafe(no_mangle)]
-pub extern "C" fn sbus_book_go_on(
+pub fn sbus_book_go_on(
     book: &mut [u8],
     text: &[u8],
     whole: u32,

@@ -12,16 +12,14 @@ use symbols::LINE_LENGTH;
 use terminal::Terminal;
 
 // Gives the number of octets of a bus.
-#[unsafe(no_mangle)]
-pub extern "C" fn sbus_bus_length() -> usize
+pub fn sbus_bus_length() -> usize
     ensures { result ≡ bus_length }
 {
     BUS_LENGTH
 }
 
 // Makes a fresh bus. Gives 0, or 1 where what is lent has not the length of a bus.
-#[unsafe(no_mangle)]
-pub extern "C" fn sbus_fresh(bus: &mut [u8]) -> u32
+pub fn sbus_fresh(bus: &mut [u8]) -> u32
     ensures value { result ≡ cond (eqb (length bus.old) bus_length) 0 1 }
     ensures bus_after { bus.new ≡ cond (eqb (length bus.old) bus_length) fresh_octets bus.old }
 {

@@ -22,8 +22,7 @@ const LAST_UNIT: u32 = TERMINALS as u32;
 
 // Writes the periods run and the D opportunities run. Gives 0; 1 where the octets are no bus; 2
 // where less than eight octets are lent for the counts.
-#[unsafe(no_mangle)]
-pub extern "C" fn sbus_counts(bus: &[u8], counts: &mut [u8]) -> u32
+pub fn sbus_counts(bus: &[u8], counts: &mut [u8]) -> u32
     ensures value { result ≡ counts_reply bus.now counts.old }
     ensures counts_after { counts.new ≡ counts_after bus.now counts.old }
 {
@@ -74,8 +73,7 @@ fn unit_seen(bus: &[u8], unit: u32) -> [u8; SEEN]
 
 // Writes a unit's state, alignment and held frame. Gives 0; 1 where the octets are no bus; 2 where
 // less than seven octets are lent for them; 3 where the unit is above 8.
-#[unsafe(no_mangle)]
-pub extern "C" fn sbus_unit(bus: &[u8], unit: u32, seen: &mut [u8]) -> u32
+pub fn sbus_unit(bus: &[u8], unit: u32, seen: &mut [u8]) -> u32
     ensures value { result ≡ unit_reply unit bus.now seen.old }
     ensures seen_after { seen.new ≡ unit_after unit bus.now seen.old }
 {

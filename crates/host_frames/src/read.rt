@@ -22,8 +22,7 @@ fn read_as(up: u32, symbols: &[u8]) -> ReadDown
 
 // Reads 48 symbols, downward where `up` is 0, puts the fields' octets into `fields` and replies 0;
 // or replies 2 for a wrong length or code, 10 for a line that no fields are written as.
-#[unsafe(no_mangle)]
-pub extern "C" fn sbus_read_frame(up: u32, symbols: &[u8], fields: &mut [u8]) -> u32
+pub fn sbus_read_frame(up: u32, symbols: &[u8], fields: &mut [u8]) -> u32
     ensures reply { result ≡ reply_of (frame_read up symbols.now fields.old) }
     ensures octets { fields.new
         ≡ left_of (frame_read up symbols.now fields.old) fields.old }

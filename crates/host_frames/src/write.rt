@@ -25,8 +25,7 @@ fn accepts(up: u32, fields: &[u8]) -> bool
 
 // Writes the frame of 16 octets of fields, downward where `up` is 0, as 48 symbols and replies 0;
 // or replies 2 for a wrong length or octet.
-#[unsafe(no_mangle)]
-pub extern "C" fn sbus_write_frame(up: u32, fields: &[u8], symbols: &mut [u8]) -> u32
+pub fn sbus_write_frame(up: u32, fields: &[u8], symbols: &mut [u8]) -> u32
     ensures reply { result ≡ reply_of (frame_written up fields.now symbols.old) }
     ensures octets { symbols.new
         ≡ left_of (frame_written up fields.now symbols.old) symbols.old }

@@ -17,8 +17,7 @@ use period_text::period::{PERIOD_OCTETS_ROOM, put_period};
 // The room that holds the notes of any call, their end included.
 pub(crate) const NOTES_LENGTH: usize = PERIOD_OCTETS_ROOM + 1;
 
-#[unsafe(no_mangle)]
-pub extern "C" fn sbus_notes_length() -> usize
+pub fn sbus_notes_length() -> usize
     ensures { result ≡ notes_room }
 {
     NOTES_LENGTH

@@ -25,8 +25,7 @@ fn number(reply: u8) -> u32
 }
 
 // Gives the bus an event: any unit number, any event number, any value.
-#[unsafe(no_mangle)]
-pub extern "C" fn sbus_event(
+pub fn sbus_event(
     bus: &mut [u8],
     notes: &mut [u8],
     unit: u32,
@@ -72,8 +71,7 @@ fn run_most(bus: &mut [u8], notes: &mut [u8], most: u32) -> u32
 }
 
 // Runs one period.
-#[unsafe(no_mangle)]
-pub extern "C" fn sbus_period(bus: &mut [u8], notes: &mut [u8]) -> u32
+pub fn sbus_period(bus: &mut [u8], notes: &mut [u8]) -> u32
     ensures value { result ≡ spec.host_reply bus.old notes.old periodCall }
     ensures bus_after { bus.new ≡ spec.host_bus bus.old notes.old periodCall }
     ensures notes_after { notes.new ≡ spec.host_notes bus.old notes.old periodCall }
@@ -82,8 +80,7 @@ pub extern "C" fn sbus_period(bus: &mut [u8], notes: &mut [u8]) -> u32
 }
 
 // Runs periods until `until` of them have been run since the bus was fresh or one hands back notes.
-#[unsafe(no_mangle)]
-pub extern "C" fn sbus_run(bus: &mut [u8], notes: &mut [u8], until: u32) -> u32
+pub fn sbus_run(bus: &mut [u8], notes: &mut [u8], until: u32) -> u32
     ensures value { result ≡ spec.host_run_reply bus.old notes.old (spec.most_to until bus.old) }
     ensures bus_after { bus.new ≡ spec.host_run_bus bus.old notes.old (spec.most_to until bus.old) }
     ensures notes_after { notes.new

@@ -1,0 +1,18 @@
+-- `letters_in` meets its contract: the part laid into the array fills it.
+use mathlib.Core.Path.{◌∙◌}
+use native.Mathlib.Omega.{arith}
+use borrow.Author.Tests.{eq-eqb, ne_eqb}
+use Rattle.symbols.specs.Symbols.{line_length}
+use Rattle.bus_octets.specs.Layout.{letters_at, letters_read}
+use Rattle.bus_octets.proofs.Lengths.{part_back}
+use Rattle.bus_octets.proofs.shown.letters_in.Goals as goal
+
+pub returns-then-s-eq-BUS_LENGTH : goal.returns-then-s-eq-BUS_LENGTH
+unfolding letters_read
+returns-then-s-eq-BUS_LENGTH c =
+    let s = c.args.s.now in
+    rw (eq-eqb _ _ c.if-s-eq-BUS_LENGTH.true) (c.put.ensures.room_is ∙ part_back line_length letters_at s (omega (arith, c.if-s-eq-BUS_LENGTH.true)))
+
+pub returns-else-s-eq-BUS_LENGTH : goal.returns-else-s-eq-BUS_LENGTH
+unfolding letters_read
+returns-else-s-eq-BUS_LENGTH c = rw (ne_eqb _ _ c.if-s-eq-BUS_LENGTH.false)
