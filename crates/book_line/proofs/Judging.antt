@@ -64,19 +64,19 @@ module _ (f0 f1 f2 v : List ℕ) (ends : Ends) where
   unfolding judged_fields
   wrong_unit k h = rw (and_right_false (is_number f0) (is_number f1) (number_wrong f1 k h))
 
-  pub wrong_told : (event : ℕ) (fits : Bool) → event ≡ event_named f2 → fits ≡ value_fits event v → not (not (eqb event 0) && fits) ≡ true
+  pub wrong_told : (event : ℕ) (fits : Bool) → event ≡ event_named f2 → fits ≡ value_fits event v → (not (eqb event 0) && fits) ≡ false
       → Judged.Refused 12 ≡ judged_fields f0 f1 f2 v ends
   unfolding judged_fields
-  wrong_told event fits e w h = rw (and_right_false (is_number f0 && is_number f1) said (not-true said (rw (w, e) at h)))
+  wrong_told event fits e w h = rw (and_right_false (is_number f0 && is_number f1) said (rw (w, e) at h))
 
   pub right : (p u event : ℕ) (fits : Bool) → Number.Is p ≡ number_of f0 → Number.Is u ≡ number_of f1
-      → event ≡ event_named f2 → fits ≡ value_fits event v → not (not (eqb event 0) && fits) ≡ false
+      → event ≡ event_named f2 → fits ≡ value_fits event v → (not (eqb event 0) && fits) ≡ true
       → Judged.Entry p u event ends ≡ judged_fields f0 f1 f2 v ends
   unfolding judged_fields
   right p u event fits period unit e w h =
       let x = number_said f0 p period in
       let y = number_said f1 u unit in
-      rw (e, x.formed, y.formed, not-false said (rw (w, e) at h), x.value, y.value)
+      rw (e, x.formed, y.formed, rw (w, e) at h, x.value, y.value)
 
 -- ---- A line of right form.
 module _ (line : List ℕ) where

@@ -54,17 +54,17 @@ module _ (f : List ℕ) where
   abbrev pub sized : Bool
   sized = leb 1 (length f) && leb (length f) most_digits
 
-  pub few : not sized ≡ false → length f ≤ most_digits
-  few e = leb-true (length f) most_digits (and_both (leb 1 (length f)) (leb (length f) most_digits) (not-false sized e)).1
+  pub few : sized ≡ true → length f ≤ most_digits
+  few e = leb-true (length f) most_digits (and_both (leb 1 (length f)) (leb (length f) most_digits) e).1
 
-  pub number_unsized : not sized ≡ true → Number.Refused 12 ≡ number_of f
+  pub number_unsized : sized ≡ false → Number.Refused 12 ≡ number_of f
   unfolding number_of is_number
-  number_unsized e = rw (not-true sized e)
+  number_unsized e = rw e
 
   pub number_wrong : all is_digit f ≡ false → Number.Refused 12 ≡ number_of f
   unfolding number_of is_number
   number_wrong e = rw (and_right_false sized (all is_digit f) e)
 
-  pub number_is : {n : ℕ} → not sized ≡ false → all is_digit f ≡ true → number f ≡ n → Number.Is n ≡ number_of f
+  pub number_is : {n : ℕ} → sized ≡ true → all is_digit f ≡ true → number f ≡ n → Number.Is n ≡ number_of f
   unfolding number_of is_number
-  number_is s e v = rw (not-false sized s, e, v)
+  number_is s e v = rw (s, e, v)

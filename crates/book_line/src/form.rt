@@ -25,7 +25,7 @@ pub fn is_absent(v: &[u8]) -> bool
 }
 
 // Tests whether a value is a body in hexadecimal.
-pub fn is_body_lem(v: &[u8]) -> bool
+pub fn is_body(v: &[u8]) -> bool
     ensures { result ≡ spec.is_body_text v.now }
 {
     is_absent(v) | ((1 <= v.len()) & (v.len() % 2 == 0) & all_hex(v))
@@ -69,7 +69,7 @@ pub fn value_fits(event: u8, v: &[u8]) -> bool
 {
     match form_of(event) {
         ValueForm::Absent => is_absent(v),
-        ValueForm::Body => is_body_lem(v),
+        ValueForm::Body => is_body(v),
         ValueForm::Letters => is_hit(v),
     }
 }
