@@ -98,6 +98,7 @@ impl Reader {
 
     // Puts an octet that is whole with this bit in its place, unless the longest body ends before
     // it.
+    #[tactic(auto, unfolding(crate::specs::Counters::store_whole, crate::specs::Counters::fills, crate::specs::Counters::is_data))]
     fn store_whole(self, bit: bool, octets: &mut [u8])
         requires { longest_body ≤ length octets.old }
         ensures { octets.new ≡ store_whole bit self octets.old }
@@ -182,6 +183,7 @@ impl Reader {
 
     // Gives the answer to a bit. Where this bit ends a flag or is the seventh 1, the six 1s before
     // it are no data bits, nor is the 0 before these where a flag ends.
+    #[tactic(auto, unfolding(crate::specs::Counters::answer_to, crate::specs::Counters::aborted_after, crate::specs::Counters::between_flags))]
     fn answer_to(self, bit: bool) -> ReaderAnswer
         ensures { result ≡ answer_to bit self }
     {
