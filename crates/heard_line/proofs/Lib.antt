@@ -1,3 +1,2 @@
--- What the INFO lines show (Shown); lemmas (Senses).
-pub mod Senses
+-- What the INFO lines show (Shown).
 pub mod Shown

@@ -24,6 +24,7 @@ pub enum SensedUp {
 }
 
 // Works out what a downward line shows, or refuses with 2 what is no line.
+#[tactic(auto, unfolding(crate::specs::Calls::sensed_down, crate::specs::Sensing::shown_down))]
 pub fn sense_down(line: &[u8]) -> SensedDown
     ensures { result ≡ calls.sensed_down line.now }
 {
@@ -39,6 +40,7 @@ pub fn sense_down(line: &[u8]) -> SensedDown
 }
 
 // Works out what an upward line shows, or refuses with 2 what is no line.
+#[tactic(auto, unfolding(crate::specs::Calls::sensed_up, crate::specs::Sensing::shown_up))]
 pub fn sense_up(line: &[u8]) -> SensedUp
     ensures { result ≡ calls.sensed_up line.now }
 {
