@@ -52,6 +52,7 @@ impl Network {
     }
 
     // Tests whether every field is in its range.
+    #[tactic(auto, unfolding(crate::specs::Calls::network_in_range))]
     pub fn in_range(self) -> bool
         ensures { result ≡ calls.network_in_range self }
     {
@@ -131,6 +132,7 @@ impl Network {
     }
 
     // Tests whether record and period are in range.
+    #[tactic(auto, unfolding(crate::specs::Calls::ready))]
     fn ready(self, now: Periods) -> bool
         ensures { result ≡ calls.ready now self }
     {
