@@ -4,7 +4,6 @@
 -- `is_digit`, `is_hex`, `is_letter`, `number`. Assumes nothing.
 use Rattle.std.specs.Prelude.{Bool, true, cond, not, ◌&&◌, ◌||◌, List, [] as []ᴸ, ◌∷◌ as ◌∷ᴸ◌, ℕ, suc, ◌+◌, ◌-◌, ◌*◌, eqb, leb, get_or}
 use Prim.Native.Char.{code}
-use Prim.Native.String.{String, [], ◌∷◌}
 use Rattle.symbols.specs.Symbols.{same_symbols}
 
 abbrev pub LF : ℕ

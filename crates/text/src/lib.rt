@@ -1,5 +1,7 @@
 // Text as octets (document 01, "Bench book and report", first paragraph): where a piece ends, the
 // fields of a line as the parts of it that they are, tests of a whole text.
+#![tactic(auto)]
+
 pub mod field;
 pub mod length;
 pub mod octets;

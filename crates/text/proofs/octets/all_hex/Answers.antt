@@ -1,5 +1,4 @@
 -- `octets::all_hex` meets its contract: the answer is that of the octets passed and that of the octets from i on.
-use Prim.Native.Nat.{◌-◌}
 use native.Mathlib.Omega.{arith}
 use Rattle.text.specs.Text.{is_hex}
 use Rattle.text.proofs.Pieces.{all_next, all_done}

@@ -1,6 +1,5 @@
 -- `piece::is_one_piece` meets its contract: the answer is that of the octets passed and that of the octets from i on.
 use mathlib.Core.Path.{refl}
-use Prim.Native.Nat.{◌-◌}
 use native.Mathlib.Omega.{arith}
 use Rattle.text.proofs.Pieces.{all_next, all_done}
 use Rattle.text.proofs.piece.is_one_piece.Goals as goal

@@ -1,6 +1,5 @@
 -- `piece::long_piece_end` meets its contract: the piece at `from` ends where the one at i does.
 use mathlib.Core.Path.{◌∙◌}
-use Prim.Native.Nat.{◌-◌}
 use Rattle.text.proofs.Pieces.{upto_skip}
 use Rattle.text.proofs.piece.long_piece_end.Goals as goal
 

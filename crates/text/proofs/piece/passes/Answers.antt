@@ -12,4 +12,4 @@ returns-clause-bound c =
     let text = args.text.now in
     let w : args.at + 16 - args.at ≡ 16 = omega arith in
     λ e. upto_past args.sep 16 (drop args.at text) (omega (arith, length-drop args.at text))
-        (rw w at (sym c.is_one_piece.ensures ∙ e))
+    (rw w at (sym c.is_one_piece.ensures ∙ e))

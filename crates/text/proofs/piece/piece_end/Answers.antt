@@ -1,5 +1,4 @@
 -- `piece::piece_end` meets its contract: the piece that is looked at from i on ends where the piece at `from` does.
-use Prim.Native.Nat.{◌-◌}
 use native.Mathlib.Omega.{arith}
 use Rattle.text.proofs.Pieces.{upto_stop, upto_go, upto_end}
 use Rattle.text.proofs.piece.piece_end.Goals as goal
