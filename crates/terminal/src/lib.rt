@@ -53,6 +53,7 @@ impl Terminal {
     }
 
     // Tests whether every field is in its range.
+    #[tactic(auto, unfolding(crate::specs::Calls::terminal_in_range))]
     pub fn in_range(self) -> bool
         ensures { result ≡ calls.terminal_in_range self }
     {
