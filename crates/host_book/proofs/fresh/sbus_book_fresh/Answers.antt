@@ -1,0 +1,16 @@
+-- `sbus_book_fresh` meets its contract: a fresh bus, and three octets behind it.
+use mathlib.Core.Path.{sym, ◌∙◌}
+use native.Mathlib.Omega.{arith}
+use lib.Seq.{length-take-le}
+use borrow.Author.Tests.{eq-eqb}
+use Rattle.bus_octets.specs.Layout.{bus_length}
+use Rattle.host_book.proofs.Made.{fresh_made}
+use Rattle.host_book.proofs.fresh.sbus_book_fresh.Goals as goal
+
+pub slice_bounds-sbus_fresh-end-2 : goal.slice_bounds-sbus_fresh-end-2
+slice_bounds-sbus_fresh-end-2 c = sym (length-take-le bus_length c.args.book.now (omega (arith, c.if-book-ne-BOOK_LENGTH.false)))
+
+pub returns-clause-book_after : goal.returns-clause-book_after
+returns-clause-book_after c =
+    let e = eq-eqb _ _ c.if1.false in
+    rw e (c.put.ensures.room_is ∙ fresh_made c.args.book.now c.if1.false _ c.sbus-fresh.ensures.1)
