@@ -1,0 +1,8 @@
+-- `in_range` meets its contract: each part is in its range.
+use Rattle.bus_record.specs.Record.{record_in_range}
+use Rattle.bus_record.proofs.record.BusRecord.in_range.Goals as goal
+
+pub returns : goal.returns
+unfolding record_in_range
+returns c =
+    simp (c.in_range.ensures, c.in-range2.ensures, c.in-range3.ensures, c.in-range4.ensures, c.rests-cycle.ensures)

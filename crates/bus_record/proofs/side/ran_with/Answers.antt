@@ -1,0 +1,8 @@
+-- `ran_with` meets its contract: all that a period gives, field by field.
+use Rattle.bus_record.specs.NetworkSide.{period_has_note, answer_with}
+use Rattle.bus_record.proofs.side.ran_with.Goals as goal
+
+pub returns : goal.returns
+unfolding answer_with period_has_note
+returns c =
+    simp (c.with_counts.ensures, c.next_period_lem.ensures, c.with-network.ensures, c.with-echo.ensures, c.with-hit.ensures, c.counted.ensures, c.reader-after.ensures)
