@@ -1,4 +1,6 @@
 // The D opportunities of a period over the lent terminal records.
+#![tactic(auto)]
+
 pub mod opportunity;
 pub mod part;
 pub mod rest;

@@ -9,6 +9,10 @@ pub returns-then-state-ne-G3-clause-value : goal.returns-then-state-ne-G3-clause
 unfolding read_in octets_in
 returns-then-state-ne-G3-clause-value c = simp (ne_eqb _ _ c.if-state-ne-G3.true) c.quiet-start.ensures
 
+pub returns-then-state-ne-G3-clause-octets_after : goal.returns-then-state-ne-G3-clause-octets_after
+unfolding octets_in
+returns-then-state-ne-G3-clause-octets_after c = simp (ne_eqb _ _ c.if-state-ne-G3.true)
+
 pub returns-then-waits-ds-clause-value : goal.returns-then-waits-ds-clause-value
 unfolding read_in octets_in
 returns-then-waits-ds-clause-value c =

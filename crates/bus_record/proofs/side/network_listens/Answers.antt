@@ -11,12 +11,12 @@ returns-then-network_rests-timer_due c =
     c.args.network
     c.due.result
     c.due-2.result
-    c.next_period_lem.ensures
+    c.next_period-next.ensures
     c.due.ensures
     c.due-2.ensures
-    c.network_rests_lem.ensures
+    c.network_rests.ensures
     c.if-network_rests-timer_due.true
 
 pub returns : goal.returns
 unfolding network_listens timer_step hearing_step
-returns c = simp (c.timer_due-timed.ensures, c.next_period_lem.ensures, c.hear-heard.ensures)
+returns c = simp (c.timer_due-timed.ensures, c.next_period-next.ensures, c.hear-heard.ensures)

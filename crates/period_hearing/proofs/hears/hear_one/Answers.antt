@@ -13,7 +13,7 @@ returns-then-not-due c =
     c.rests.ensures
     c.if-rests.true
     c.due.ensures
-    c.if-not-due.true
+    (rw c.if-not-due.true)
 
 pub returns : goal.returns
 unfolding heard_one timer_step hearing_step has_note

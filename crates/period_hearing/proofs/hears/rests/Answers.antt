@@ -2,7 +2,7 @@
 use borrow.Author.Tests.{eq-eqb, ne_eqb}
 use Rattle.period_hearing.specs.Hears.{rests}
 use Rattle.period_hearing.proofs.hears.rests.Goals as goal
-use Rattle.period_hearing.proofs.hears.rests.Goals.{then-terminal-eq0, else-terminal-eq0}
+use Rattle.period_hearing.proofs.hears.rests.Goals.{then-terminal-eq0+else-state-eq-F7+else-state, else-terminal-eq0}
 
 pub returns-then-state-eq-F7 : goal.returns-then-state-eq-F7
 unfolding rests
@@ -16,6 +16,6 @@ pub returns : goal.returns
 unfolding rests
 returns c =
     elim c.if-terminal-eq0.branch [
-      then-terminal-eq0 w ↦ simp (w.if-state.false, ne_eqb _ _ w.if-state-eq-F7.false, eq-eqb _ _ w.if-terminal-eq0.true) |
+      then-terminal-eq0+else-state-eq-F7+else-state w ↦ simp (w.if-state.false, ne_eqb _ _ w.if-state-eq-F7.false, eq-eqb _ _ w.if-terminal-eq0.true) |
       else-terminal-eq0 w ↦ simp (ne_eqb _ _ w.if-terminal-eq0.false)
     ]
