@@ -73,26 +73,26 @@ module _ (images i octets : ℕ) (t : Terminal) (fit : Bool) (is : fit ≡ termi
   abbrev is_body_lem : Bool
   is_body_lem = not (eqb octets 0) && leb octets longest_body
 
-  pub reason_1 : not fit ≡ true → 1 ≡ frame_reason images i octets t
+  pub reason_1 : fit ≡ false → 1 ≡ frame_reason images i octets t
   unfolding frame_reason first_holding
   reason_1 a = rw (← is, a)
 
-  module _ (a : not fit ≡ false) where
-    pub reason_2 : not lent ≡ true → 2 ≡ frame_reason images i octets t
+  module _ (a : fit ≡ true) where
+    pub reason_2 : lent ≡ false → 2 ≡ frame_reason images i octets t
     unfolding frame_reason first_holding
     reason_2 b = rw (← is, a, b)
 
-    module _ (b : not lent ≡ false) where
+    module _ (b : lent ≡ true) where
       pub reason_6 : (t.state ≡ F7 → ⊥) → 6 ≡ frame_reason images i octets t
       unfolding frame_reason first_holding
       reason_6 c = rw (← is, a, b, ne_eqb t.state F7 c)
 
       module _ (c : t.state ≡ F7) where
-        pub reason_7 : not is_body_lem ≡ true → 7 ≡ frame_reason images i octets t
+        pub reason_7 : is_body_lem ≡ false → 7 ≡ frame_reason images i octets t
         unfolding frame_reason first_holding
         reason_7 d = rw (← is, a, b, eq-eqb t.state F7 c, body_test octets, d)
 
-        module _ (d : not is_body_lem ≡ false) where
+        module _ (d : is_body_lem ≡ true) where
           pub reason_0 : t.access.held ≡ 0 → 0 ≡ frame_reason images i octets t
           unfolding frame_reason first_holding
           reason_0 e = rw (← is, a, b, eq-eqb t.state F7 c, body_test octets, d, eq-eqb t.access.held 0 e)
