@@ -1,5 +1,7 @@
 // The calls over terminals held by value: a caller that has the eight records in an array hands it
 // over and gets it back, and lends no terminal.
+#![tactic(auto)]
+
 ghost use Rattle.std.specs.Prelude.{◌≡◌};
 ghost use Rattle.exchange.specs.Opportunities as opportunities;
 ghost use Rattle.bus_call_specs.specs.Event as events;

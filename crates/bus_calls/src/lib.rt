@@ -1,4 +1,6 @@
 // The calls on a bus: its record by value, the eight terminal records lent as one slice.
+#![tactic(auto)]
+
 pub mod event;
 mod fields;
 mod network_end;
