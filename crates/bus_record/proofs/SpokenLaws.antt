@@ -1,15 +1,11 @@
 -- What a bit more leaves of what the reader has said, by its answer; and four 1s, where it waits (`four_ones`).
 use mathlib.Core.Bool.{Bool, true, false, not, ◌&&◌}
-use mathlib.Core.List.{List, [], ◌∷◌}
-use mathlib.Core.Logic.{⊎_elim}
+use mathlib.Core.List.{List}
 use mathlib.Core.Path.{◌≡◌, refl}
 use Prim.Native.Nat.{ℕ}
-use native.Mathlib.Omega.{arith}
 use lib.Dec.{eqb, ltb}
 use lib.ListN.{length}
 use borrow.Author.Tests.{eqb-true, not-true}
-use types.Run.{OneOf}
-use denote.Enum.Declared.{tag_of}
 use Rattle.test_lemmas.proofs.ByCases.{by_test}
 use Rattle.test_lemmas.proofs.Operators.{and_both}
 use Rattle.hdlc.specs.Image.{longest_body}
@@ -21,7 +17,6 @@ use Rattle.d_reader.specs.declared.Reader.{Reader}
 use Rattle.d_reader.specs.declared.Read.{Read}
 use Rattle.d_reader.specs.declared.ReaderAnswer.{ReaderAnswer}
 use Rattle.d_reader.specs.declared.ReaderAnswer.TheVariants.{Nothing, Heard, Torn, Refused}
-use Rattle.d_reader.specs.contracts.ReaderAnswer.{the_type}
 use Rattle.bus_record.specs.Reading.{quiet_reading, said_with, spoken_to, octets_to, spoken_to_four, octets_to_four, reader_waits}
 use Rattle.bus_record.specs.declared.reading.Spoken.{Spoken}
 
@@ -38,17 +33,17 @@ module _ (b : Bool) (buf : List ℕ) (s : Spoken) (x : Read) (e : x ≡ read_bit
   unfolding said_with
   torn_said a = rw (answered, a)
 
-  silent : (a : ReaderAnswer) → OneOf (0 ∷ 3 ∷ []) (tag_of the_type a)
+  silent : (a : ReaderAnswer) → ((n : ℕ) → a ≡ Heard n → ⊥) → (a ≡ Torn → ⊥)
       → ◌≡◌ {A = Spoken} (record { reader = x.reader; body = s.body; note = s.note }) (said_with a x.reader s)
   unfolding said_with
-  silent Nothing k = refl
-  silent (Heard n) k = ⊎_elim (λ h. absurd (omega arith)) (λ h. absurd (omega arith)) k
-  silent Torn k = ⊎_elim (λ h. absurd (omega arith)) (λ h. absurd (omega arith)) k
-  silent (Refused n) k = refl
+  silent Nothing h t = refl
+  silent (Heard n) h t = absurd (h n refl)
+  silent Torn h t = absurd (t refl)
+  silent (Refused n) h t = refl
 
-  pub none_said : OneOf (0 ∷ 3 ∷ []) (tag_of the_type x.answer)
+  pub none_said : ((n : ℕ) → x.answer ≡ Heard n → ⊥) → (x.answer ≡ Torn → ⊥)
       → ◌≡◌ {A = Spoken} (record { reader = x.reader; body = s.body; note = s.note }) (spoken_to b buf s)
-  none_said k = rw answered (silent x.answer k)
+  none_said h t = rw answered (silent x.answer h t)
 
 -- four bits one after the other
 pub four_read_lem : (ds : Four) (buf b1 b2 b3 b4 : List ℕ) (s s1 s2 s3 s4 : Spoken)

@@ -1,17 +1,18 @@
 -- `heard_down` meets its contract: without a hit the line is not built; under one it is, and is a line.
 use mathlib.Core.Path.{refl, ◌∙◌}
+use borrow.Author.Tests.{not-true, not-false}
 use Rattle.bus_record.specs.Echo.{heard_down}
 use Rattle.bus_record.proofs.EchoLaws.{heard_under, line_is, never_refused}
 use Rattle.bus_record.proofs.echo.heard_down.Goals as goal
 
 pub returns-then-not-bus : goal.returns-then-not-bus
 unfolding heard_down
-returns-then-not-bus c = simp c.if-not-bus.true c.shown_by-quick.ensures
+returns-then-not-bus c = simp (not-true c.args.bus.hit c.if-not-bus.true) c.shown_by-quick.ensures
 
 pub returns-in-Line : goal.returns-in-Line
 returns-in-Line c =
-    line_is (c.sense_down.ensures ∙ heard_under c.args.bus c.args.ds c.args.letters.now _ _ _ c.if-not-bus.false refl c.build_down.ensures c.apply_hit.ensures.octets) c.in-Line.is
+    line_is (c.sense_down.ensures ∙ heard_under c.args.bus c.args.ds c.args.letters.now _ _ _ (not-false c.args.bus.hit c.if-not-bus.false) refl c.build_down.ensures c.apply_hit.ensures.octets) c.in-Line.is
 
 pub returns-in-Refused : goal.returns-in-Refused
 returns-in-Refused c =
-    never_refused (c.sense_down.ensures ∙ heard_under c.args.bus c.args.ds c.args.letters.now _ _ _ c.if-not-bus.false refl c.build_down.ensures c.apply_hit.ensures.octets) c.in-Refused.is
+    never_refused (c.sense_down.ensures ∙ heard_under c.args.bus c.args.ds c.args.letters.now _ _ _ (not-false c.args.bus.hit c.if-not-bus.false) refl c.build_down.ensures c.apply_hit.ensures.octets) c.in-Refused.is
