@@ -1,4 +1,6 @@
 // A bus as octets of one length.
+#![tactic(auto)]
+
 pub mod laid;
 pub mod layout;
 pub mod numbers;

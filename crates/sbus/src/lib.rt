@@ -1,6 +1,8 @@
+// The library for C, libsbus.a, whose header is host/sbus.h. It does no work of its own: each export
+// calls the function of its name in host_frames, host_bus, host_steps or host_book, and has its
+// clauses.
 #![tactic(auto)]
-// The library for C, libsbus.a, whose header is host/sbus.h. It does no work of its own: each export calls the function of its name in host_frames,
-// host_bus, host_steps or host_book, and promises what that one promises.
+
 pub mod book;
 pub mod bus;
 pub mod frames;

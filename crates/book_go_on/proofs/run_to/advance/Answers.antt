@@ -6,12 +6,15 @@ use Rattle.bus_record.specs.declared.side.RunAnswer.{RunAnswer}
 use Rattle.book_go_on.proofs.Running.{ran_some, advanced, advanced_quiet}
 use Rattle.book_go_on.proofs.run_to.advance.Goals as goal
 
-pub returns-then-not-answer-clause-runs_to : goal.returns-then-not-answer-clause-runs_to
-returns-then-not-answer-clause-runs_to c =
+pub returns-then-not-answer : goal.returns-then-not-answer
+returns-then-not-answer c =
     let a = c.args in
-    (advanced_quiet a.u.bus a.u.terminals a.images.now a.octets.now a.letters.now a.to a.room.now a.u.wrote c.requires.ready c.requires.periods_lt_to
-    c.requires.to_le_most_periods c.requires.period_room_in_bounds
-    c.run-g.result _ c.run-g.ensures.answer_value c.run-g.ensures.terminals_value c.run-g.ensures.notes_value c.run-g.ensures.octets_after (not-true c.run-g.result.answer.told c.if-not-answer.true)).0
+    let r = c.requires in
+    let e = c.run-g.ensures in
+    let w = advanced_quiet a.u.bus a.u.terminals a.images.now a.octets.now a.letters.now a.to a.room.now a.u.wrote r.ready
+        r.periods_lt_to r.to_le_most_periods r.period_room_in_bounds c.run-g.result _ e.answer_value e.terminals_value e.notes_value
+        e.octets_after (not-true c.run-g.result.answer.told c.if-not-answer.true) in
+    record { runs_to = w.0; periods_lt_periods = w.1 }
 
 pub overflow_sub-bus : goal.overflow_sub-bus
 overflow_sub-bus c =
@@ -23,16 +26,12 @@ overflow_sub-bus c =
           c.requires.to_le_most_periods,
     )
 
-pub returns-clause-runs_to : goal.returns-clause-runs_to
-returns-clause-runs_to c =
+pub returns : goal.returns
+returns c =
     let a = c.args in
-    (advanced a.u.bus a.u.terminals a.images.now a.octets.now a.letters.now a.to a.room.now a.u.wrote c.requires.ready c.requires.periods_lt_to
-    c.requires.to_le_most_periods c.requires.period_room_in_bounds
-    c.run.result _ c.run.ensures.0 c.run.ensures.1.0 c.run.ensures.1.1.0 c.run.ensures.1.1.1 _ _ c.put_period-wrote.ensures).0
-
-pub returns-clause-periods_lt_periods : goal.returns-clause-periods_lt_periods
-returns-clause-periods_lt_periods c =
-    let a = c.args in
-    (advanced a.u.bus a.u.terminals a.images.now a.octets.now a.letters.now a.to a.room.now a.u.wrote c.requires.ready c.requires.periods_lt_to
-    c.requires.to_le_most_periods c.requires.period_room_in_bounds
-    c.run.result _ c.run.ensures.0 c.run.ensures.1.0 c.run.ensures.1.1.0 c.run.ensures.1.1.1 _ _ c.put_period-wrote.ensures).1
+    let r = c.requires in
+    let e = c.run-g.ensures in
+    let w = advanced a.u.bus a.u.terminals a.images.now a.octets.now a.letters.now a.to a.room.now a.u.wrote r.ready r.periods_lt_to
+        r.to_le_most_periods r.period_room_in_bounds
+        c.run-g.result _ e.answer_value e.terminals_value e.notes_value e.octets_after _ _ c.put_period-wrote.ensures in
+    record { runs_to = w.0; periods_lt_periods = w.1 }

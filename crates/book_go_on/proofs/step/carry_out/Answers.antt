@@ -7,11 +7,13 @@ use native.Mathlib.Omega.{arith}
 use lib.ListN.{length}
 use Rattle.book_line.specs.Value.{value_octets}
 use Rattle.book_line.specs.Laying.{value_room}
-use Rattle.book_reader.specs.Step.{at_lines, taken_by}
+use Rattle.book_reader.specs.Step.{at_lines, taken_by, value_at}
+use Rattle.book_reader.proofs.RunOn.{entered}
 use Rattle.bus_call_specs.specs.Kept.{found}
 use Rattle.book_reader.specs.declared.step.Step.{Step}
 use Rattle.report.specs.Ahead.{BookState, TEXT, OVER}
 use Rattle.book_go_on.specs.Steps.{Reads}
+use Rattle.book_go_on.proofs.Lines.{short_value}
 use Rattle.book_go_on.proofs.Moving.{turns, steps_at, step_first, step_done, step_fault, step_more}
 use Rattle.book_go_on.proofs.step.carry_out.Goals as goal
 
@@ -24,14 +26,22 @@ reads_as r e = rw e at r
 few : (number : ℕ) (value value' : List ℕ) → length (value_octets number value) ≤ value_room → value ≡ value' → length (value_octets number value') ≤ value_room
 few number value value' h e = rw e at h
 
-pub line-requires-clause-periods_le_period : goal.line-requires-clause-periods_le_period
-line-requires-clause-periods_le_period c = ?
-
-pub line-requires-clause-period_le_most_periods : goal.line-requires-clause-period_le_most_periods
-line-requires-clause-period_le_most_periods c = ?
-
-pub line-requires-clause-value_len_bound : goal.line-requires-clause-value_len_bound
-line-requires-clause-value_len_bound c = ?
+pub line-requires : goal.line-requires
+line-requires c =
+    let r = c.requires in
+    let i = r.read in
+    let g = c.args.w.progress in
+    let q = c.in-Entry.is in
+    let e = entered i.text i.at g.stage g.bus.periods.0 i.whole _ _ _ _ _ (i.reads.says ∙ q) in
+    let short = few _ _ _ (short_value e) (ap (value_at i.text i.at) (sym q) ∙ i.reads.value_is) in
+    record {
+      goes = r.goes;
+      begun_value = r.begun_value;
+      over_value = r.over_value;
+      periods_le_period = e.after;
+      period_le_most_periods = e.most;
+      value_len_bound = short;
+    }
 
 pub returns-in-Begun-clause-steps_by : goal.returns-in-Begun-clause-steps_by
 unfolding taken_by

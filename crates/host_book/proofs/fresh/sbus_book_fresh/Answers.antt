@@ -12,5 +12,5 @@ slice_bounds-sbus_fresh-end-2 c = sym (length-take-le bus_length c.args.book.now
 
 pub returns-clause-book_after : goal.returns-clause-book_after
 returns-clause-book_after c =
-    let e = eq-eqb _ _ c.if1.false in
-    rw e (c.put.ensures.room_is ∙ fresh_made c.args.book.now c.if1.false _ c.sbus-fresh.ensures.1)
+    let z = c.if-book-ne-BOOK_LENGTH.false in
+    rw (eq-eqb _ _ z) (c.put.ensures.room_is ∙ fresh_made c.args.book.now z _ c.sbus_fresh.ensures.bus_after)

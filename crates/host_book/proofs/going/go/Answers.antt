@@ -7,25 +7,22 @@ use Rattle.host_book.proofs.Gone.{long, gone}
 use Rattle.host_book.proofs.going.go.Goals as goal
 
 pub slice_bounds-letters_in-end : goal.slice_bounds-letters_in-end
-slice_bounds-letters_in-end c = omega (arith, long _ c.before.before.before.before.before.requires)
+slice_bounds-letters_in-end c = omega (arith, long _ c.requires)
 
 pub slice_bounds-letters_in-end-2 : goal.slice_bounds-letters_in-end-2
-slice_bounds-letters_in-end-2 c =
-    let start = c.before.before.before.before.before.before in sym (length-take-le bus_length start.args.book.now (omega (arith, long _ start.requires)))
+slice_bounds-letters_in-end-2 c = sym (length-take-le bus_length c.args.book.now (omega (arith, long _ c.requires)))
 
 pub slice_bounds-octets_in-end : goal.slice_bounds-octets_in-end
-slice_bounds-octets_in-end c = omega (arith, long _ c.before.before.before.before.before.before.before.requires)
+slice_bounds-octets_in-end c = omega (arith, long _ c.requires)
 
 pub slice_bounds-octets_in-end-2 : goal.slice_bounds-octets_in-end-2
-slice_bounds-octets_in-end-2 c =
-    let start = c.before.before.before.before.before.before.before.before in sym (length-take-le bus_length start.args.book.now (omega (arith, long _ start.requires)))
+slice_bounds-octets_in-end-2 c = sym (length-take-le bus_length c.args.book.now (omega (arith, long _ c.requires)))
 
 pub slice_bounds-images-end : goal.slice_bounds-images-end
-slice_bounds-images-end c = omega (arith, long _ c.before.before.before.before.before.before.before.before.before.requires)
+slice_bounds-images-end c = omega (arith, long _ c.requires)
 
 pub returns : goal.returns
 returns c =
-    let start = progress.before.before.before.before.before in
-    let a = start.args in
-    gone a.book.now start.requires a.text.now a.report.now a.whole c.go_on-w.result _ _ _ _ _ _ _ _ _ c.progress-in.ensures refl
-    c.letters-in.ensures c.octets_in_lem.ensures c.go_on-w.ensures c.lay_progress.ensures
+    let a = c.args in
+    gone a.book.now c.requires a.text.now a.report.now a.whole c.go_on-w.result _ _ _ _ _ _ _ _ _ c.progress_in-progress.ensures refl
+    c.letters_in-letters.ensures c.octets_in-octets.ensures c.go_on-w.ensures c.lay_progress.ensures

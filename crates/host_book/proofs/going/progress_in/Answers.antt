@@ -7,7 +7,7 @@ unfolding progress_in
 returns c =
     rw (
       c.record_in-record.ensures,
-      c.terminals_in_lem.ensures,
+      c.terminals_in-terminals.ensures,
       c.octet_at.ensures,
       c.flag_at.ensures,
       c.flag_at-2.ensures,

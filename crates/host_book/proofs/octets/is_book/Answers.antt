@@ -12,8 +12,8 @@ unfolding is_book
 returns-then-b-ne-BOOK_LENGTH c = rw (ne_eqb _ _ c.if-b-ne-BOOK_LENGTH.true)
 
 pub slice_bounds-is_bus-end : goal.slice_bounds-is_bus-end
-slice_bounds-is_bus-end c = sym (length-take-le bus_length left.before.before.args.b.now (omega (arith, c.if1.false)))
+slice_bounds-is_bus-end c = sym (length-take-le bus_length c.args.b.now (omega (arith, c.if-b-ne-BOOK_LENGTH.false)))
 
 pub returns : goal.returns
 unfolding is_book
-returns c = rw (eq-eqb _ _ c.if1.false, c.is_bus_lem.ensures, c.octet_at.ensures, c.octet_at-2.ensures)
+returns c = rw (eq-eqb _ _ c.if-b-ne-BOOK_LENGTH.false, c.is_bus.ensures, c.octet_at.ensures, c.octet_at-2.ensures)
