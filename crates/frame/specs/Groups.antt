@@ -1,6 +1,6 @@
 -- Laws: the groups of an upward frame, each with its L, for the laws about such frames together.
 -- Interface: `group_symbols`, `up_groups`. Assumes nothing.
-use Rattle.std.specs.Prelude.{Bool, false, List, [], ◌∷◌, ◌++◌, ℕ}
+use Rattle.std.specs.Prelude.{Bool, List, [], ◌∷◌, ◌++◌, ℕ}
 use Rattle.frame.specs.Bits.{octet_bits, balanced}
 use Rattle.frame.specs.Polarity.{alternate}
 use Rattle.symbols.specs.Symbols.{plus, minus}

@@ -1,1 +1,2 @@
 // Lemmas about tests that the proofs of every crate cite. No code.
+#![tactic(auto)]

@@ -1,6 +1,5 @@
 -- `framed::first_pulse` meets its contract: the first pulse is that of the symbols from i on.
 use mathlib.Core.Path.{sym, ◌∙◌}
-use Prim.Native.Nat.{◌-◌}
 use native.Mathlib.Omega.{arith}
 use borrow.Author.Tests.{eq-eqb, ne_eqb}
 use Rattle.framed.specs.Framed.{first_pulse}

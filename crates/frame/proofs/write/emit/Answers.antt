@@ -1,5 +1,4 @@
 -- `frame::write::emit` meets its contract.
-use Prim.Native.Nat.{◌-◌}
 use native.Mathlib.Omega.{arith}
 use Rattle.symbols.proofs.Written.{done_length}
 use Rattle.frame.proofs.Emit.{line_of, emit_start, emit_next, emit_done}
