@@ -1,5 +1,4 @@
 -- `combining::combine::overlay` meets its contract.
-use Prim.Native.Nat.{◌-◌}
 use Rattle.symbols.proofs.Fill.{fill_done}
 use Rattle.combining.proofs.combine.overlay.Goals as goal
 

@@ -8,7 +8,7 @@ use Rattle.combining.proofs.combine.senders.Goals as goal
 
 pub loop-n-preserved : goal.loop-n-preserved
 loop-n-preserved c =
-    let n = c.loop-n.n in 
+    let n = c.loop-n.n in
     let k : n * line_length + line_length - n * line_length ≡ line_length = omega arith in
     found_next c.loop-n.invariant (omega arith) _ (c.fits.ensures ∙ rw k)
 

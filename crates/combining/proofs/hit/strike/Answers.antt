@@ -1,5 +1,4 @@
 -- `combining::hit::strike` meets its contract.
-use Prim.Native.Nat.{◌-◌}
 use Rattle.combining.specs.Hit.{hit}
 use Rattle.symbols.proofs.Fill.{fill_done}
 use Rattle.combining.proofs.hit.strike.Goals as goal

@@ -18,8 +18,8 @@ returns-then-up-eq0 c =
     let a = c.args in
     let wrote = c.write_down.ensures in
     let w =
-        written_does a.up a.fields.now a.symbols.now (sym c.accepts.ensures ∙ c.if-not-accepts.false)
-        (line_downward a.up a.fields.now c.if-up-eq0.true c.down_from-f.ensures) (wrote.reply, wrote.octets)
+    written_does a.up a.fields.now a.symbols.now (sym c.accepts.ensures ∙ c.if-not-accepts.false)
+    (line_downward a.up a.fields.now c.if-up-eq0.true c.down_from-f.ensures) (wrote.reply, wrote.octets)
     in
     record { reply = w.0; octets = w.1 }
 
@@ -28,7 +28,7 @@ returns-else-up-eq0 c =
     let a = c.args in
     let wrote = c.write_up.ensures in
     let w =
-        written_does a.up a.fields.now a.symbols.now (sym c.accepts.ensures ∙ c.if-not-accepts.false)
-        (line_upward a.up a.fields.now c.if-up-eq0.false c.down_from-f.ensures) (wrote.reply, wrote.octets)
+    written_does a.up a.fields.now a.symbols.now (sym c.accepts.ensures ∙ c.if-not-accepts.false)
+    (line_upward a.up a.fields.now c.if-up-eq0.false c.down_from-f.ensures) (wrote.reply, wrote.octets)
     in
     record { reply = w.0; octets = w.1 }

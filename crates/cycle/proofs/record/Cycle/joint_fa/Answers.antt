@@ -1,6 +1,5 @@
 -- `cycle::record::Cycle::joint_fa` meets its contract: the AND is that of the terminals passed.
 use mathlib.Core.Path.{refl}
-use Prim.Native.Nat.{◌-◌}
 use native.Mathlib.Numerals.{add-one}
 use native.Mathlib.Omega.{arith}
 use Rattle.cycle.specs.Cycle.{fa_below}
