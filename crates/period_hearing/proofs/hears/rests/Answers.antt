@@ -16,6 +16,6 @@ pub returns : goal.returns
 unfolding rests
 returns c =
     elim c.if-terminal-eq0.branch [
-      then-terminal-eq0+else-state-eq-F7+else-state w ↦ simp (w.if-state.false, ne_eqb _ _ w.if-state-eq-F7.false, eq-eqb _ _ w.if-terminal-eq0.true) |
-      else-terminal-eq0 w ↦ simp (ne_eqb _ _ w.if-terminal-eq0.false)
+      | then-terminal-eq0+else-state-eq-F7+else-state w ↦ simp (w.if-state.false, ne_eqb _ _ w.if-state-eq-F7.false, eq-eqb _ _ w.if-terminal-eq0.true)
+      | else-terminal-eq0 w ↦ simp (ne_eqb _ _ w.if-terminal-eq0.false)
     ]
