@@ -6,7 +6,7 @@ use Prim.Native.Nat.{ℕ, ◌≤◌, ◌<◌}
 use native.Mathlib.Omega.{arith}
 use lib.Dec.{eqb, ltb}
 use lib.ListN.{length}
-use borrow.Author.Tests.{eqb-true, eqb-false, ne_eqb, ltb-true, lt-ltb, le-ltb, not-true, not-false}
+use borrow.Author.Tests.{eqb-true, eqb-false, ne_eqb, ltb-true, lt-ltb, le-ltb, not-true}
 use Rattle.test_lemmas.proofs.ByCases.{by_test, and_left, and_right, and_right_false}
 use Rattle.text.specs.Text.{fields, field, number}
 use Rattle.text.specs.Fields.{ends_of}

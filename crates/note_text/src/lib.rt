@@ -1,6 +1,8 @@
 // Notes in lent room, as text (document 01, "Bench book and report") or as octets. Every function
 // whose name begins with `put` puts its part behind the `wrote` octets written so far, as much of
 // it as there is room for, and gives how many octets are written then.
+#![tactic(auto)]
+
 pub mod form;
 pub mod hex;
 pub mod low;

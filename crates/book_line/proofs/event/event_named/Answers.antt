@@ -1,6 +1,5 @@
 -- `event::event_named` meets its contract: the table is the list's names, one behind the other, and none of the first k is the one looked for.
 use mathlib.Core.Path.{sym, ◌∙◌}
-use Prim.Native.Nat.{◌-◌}
 use native.Mathlib.Omega.{arith}
 use Rattle.text.proofs.Joined.{lies}
 use Rattle.book_line.specs.EventNames.{event_names}

@@ -1,6 +1,5 @@
 -- `form::form_of` meets its contract: the two tables are the list, and none of its first k events is the one looked for.
 use mathlib.Core.Path.{◌∙◌}
-use Prim.Native.Nat.{◌-◌}
 use Rattle.text.proofs.Lookup.{looking_found, looking_end}
 use Rattle.book_line.proofs.EventTable.{form_is}
 use Rattle.book_line.proofs.form.form_of.Goals as goal

@@ -1,8 +1,6 @@
 -- `number::digits` meets its contract: the digits before i have been read.
 use mathlib.Core.Path.{sym, ◌∙◌}
-use Prim.Native.Nat.{◌-◌}
 use native.Mathlib.Omega.{arith}
-use borrow.Author.Tests.{not-true, not-false}
 use Rattle.text.specs.Text.{is_digit}
 use Rattle.text.proofs.Pieces.{all_stop, all_end}
 use Rattle.book_line.proofs.Numbers.{reading_next, reading_done, reading_small, few, number_unsized, number_wrong, number_is}

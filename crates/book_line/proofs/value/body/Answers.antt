@@ -1,6 +1,5 @@
 -- `value::body` meets its contract: the octets of n pairs of digits have been laid.
 use mathlib.Core.Path.{sym, ◌∙◌}
-use Prim.Native.Nat.{◌-◌}
 use native.Mathlib.Omega.{arith}
 use Rattle.book_line.proofs.Laying.{laying_next, laying_done}
 use Rattle.book_line.proofs.Values.{length_pairs, pairs_at}

@@ -1,6 +1,5 @@
 -- `value::letters` meets its contract: the codes of n letters have been laid.
 use mathlib.Core.Path.{sym, ◌∙◌}
-use Prim.Native.Nat.{◌-◌}
 use native.Mathlib.Omega.{arith}
 use lib.ListN.{length-map}
 use Rattle.book_line.specs.Value.{letter_code}

@@ -1,5 +1,4 @@
 -- `put_hex` meets its contract: after i turns the first i octets are put (proofs/HexLaws).
-use Prim.Native.Nat.{◌-◌}
 use native.Mathlib.Omega.{arith}
 use Rattle.note_text.specs.NoteText.{hex_of}
 use Rattle.note_text.proofs.RoomLaws.{put_start}

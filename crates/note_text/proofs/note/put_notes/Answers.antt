@@ -1,5 +1,5 @@
 -- `put_notes` meets its contract: after i turns the first i notes are put.
-use Prim.Native.Nat.{ℕ, ◌-◌}
+use Prim.Native.Nat.{ℕ}
 use native.Mathlib.Omega.{arith}
 use mathlib.Core.List.{List, [], ◌∷◌}
 use Rattle.bus_rules.specs.Bus.{notes_of}

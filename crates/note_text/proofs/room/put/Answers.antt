@@ -1,5 +1,4 @@
 -- `put` meets its contract: its loop lays one octet after the other (proofs/RoomLaws).
-use Prim.Native.Nat.{◌-◌}
 use mathlib.Core.Path.{sym}
 use native.Mathlib.Omega.{arith}
 use Rattle.note_text.proofs.RoomLaws.{laid_none, laying_next, laying_ends}

@@ -1,7 +1,6 @@
 -- `open_as` meets its contract: the two tables are the codes that leave something open (proofs/NoteTable), and none of the first k is the one
 -- looked for.
 use mathlib.Core.Path.{◌∙◌}
-use Prim.Native.Nat.{◌-◌}
 use native.Mathlib.Omega.{arith}
 use Rattle.notes_and_cells.specs.Names.{printed}
 use Rattle.text.proofs.Lookup.{looking_next, looking_found, looking_end}
