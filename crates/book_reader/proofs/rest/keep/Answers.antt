@@ -2,10 +2,10 @@
 -- so what is still to be moved is read as it was.
 use mathlib.Core.Path.{◌≡◌, ap, ◌∙◌}
 use mathlib.Core.List.{List}
-use Prim.Native.Nat.{ℕ, ◌+◌, ◌-◌}
+use Prim.Native.Nat.{ℕ, ◌+◌}
 use native.Mathlib.Omega.{arith}
 use lib.ListN.{length, set, get_or}
-use Rattle.book_reader.proofs.Moving.{fronted, front_turn, length_fronted, moved_count, moved_all}
+use Rattle.book_reader.proofs.Moving.{fronted, front_turn, length_fronted, moved_all}
 use Rattle.book_reader.proofs.rest.keep.Goals as goal
 
 pub loop-i-preserved : goal.loop-i-preserved

@@ -1,5 +1,4 @@
 use mathlib.Core.Path.{sym, ◌∙◌}
-use borrow.Author.Tests.{not-true, not-false}
 use Rattle.book_reader.proofs.Returns.{ruled_wrong, ruled_late, ruled_entry}
 use Rattle.book_reader.proofs.step.rule.Goals as goal
 

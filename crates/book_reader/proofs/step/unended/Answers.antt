@@ -1,5 +1,5 @@
 use native.Mathlib.Omega.{arith}
-use borrow.Author.Tests.{eq-eqb, ne_eqb, lt-ltb, le-ltb, not-true, not-false}
+use borrow.Author.Tests.{eq-eqb, ne_eqb, lt-ltb, le-ltb}
 use Rattle.book_line.specs.Line.{longest_line}
 use Rattle.book_reader.specs.Step.{unended}
 use Rattle.book_reader.proofs.step.unended.Goals as goal
