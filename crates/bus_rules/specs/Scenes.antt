@@ -377,8 +377,8 @@ t1_first = (refl, refl, refl)
 -- T1, and T3 of terminal 2, are due as period 8 starts: their notes come with the call that runs
 -- period 7, after what is heard in it, unit 0 first, and have the number 8
 pub timers_next :
-    handed_back (bus_with 7 (network_in G2 8 0) (fresh_station ∷ station_in F4 8 access.fresh ∷ station_in F2 0 access.fresh
-    ∷ [])) (period ∷ [])
+    handed_back (bus_with 7 (network_in G2 8 0) (fresh_station ∷ station_in F4 8 access.fresh ∷ station_in F2 0 access.fresh ∷ []))
+    (period ∷ [])
     ≡ note 7 3 mph_ii_connected [] ∷ note 8 0 ph_deact [] ∷ note 8 2 mph_deact [] ∷ note 8 2 ph_deact [] ∷ []
 unfolding handed_back
 timers_next = refl

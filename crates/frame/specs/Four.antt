@@ -14,8 +14,7 @@ filled_with_ones bits = record {
   first = get_or bits 0 true;
   second = get_or bits 1 true;
   third = get_or bits 2 true;
-  fourth =
-      get_or bits 3 true;
+  fourth = get_or bits 3 true;
 }
 
 -- Four bits all alike.

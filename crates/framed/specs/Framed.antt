@@ -11,8 +11,10 @@ first_pulse (s ∷ ss) = cond (eqb s none) (first_pulse ss) s
 
 -- Whether symbol 1 is plus, 2 is minus, and the first pulse in the n symbols from 3 on is minus.
 unfoldable pub framed_in : ℕ → List ℕ → Bool
-framed_in n l = cond (eqb (get_or l 0 none) plus) (cond (eqb (get_or l 1 none) minus) (eqb (first_pulse (take n
-    (drop 2 l))) minus) false) false
+framed_in n l =
+    cond (eqb (get_or l 0 none) plus)
+    (cond (eqb (get_or l 1 none) minus) (eqb (first_pulse (take n (drop 2 l))) minus) false)
+    false
 
 -- Downward 3 to 15, upward 3 to 14.
 abbrev pub framed_down : List ℕ → Bool

@@ -42,8 +42,8 @@ octets_then images a octets = octets_after a.answer.bus (tally_then images a) oc
 -- at most n periods more
 unfoldable pub alone_on : List ℕ → ℕ → Alone → List ℕ → Alone
 alone_on images zero a octets = a
-alone_on images (suc n) a octets = cond (goes_alone images a) (alone_on images n (alone_after images a octets)
-    (octets_then images a octets)) a
+alone_on images (suc n) a octets =
+    cond (goes_alone images a) (alone_on images n (alone_after images a octets) (octets_then images a octets)) a
 
 unfoldable pub octets_on : List ℕ → ℕ → Alone → List ℕ → List ℕ
 octets_on images zero a octets = octets
