@@ -14,7 +14,7 @@ unfolding network_asked asked
 returns c =
     let event = c.args.event in
     let number : c.if-event-eq-AR.number ≡ cond (eqb event AR) Table63.ar_row Table63.dr_row = elim c.if-event-eq-AR.branch [
-      then-event-eq-AR w ↦ w.number-is ∙ simp (eq-eqb _ _ w.if-event-eq-AR.true)
+      | then-event-eq-AR w ↦ w.number-is ∙ simp (eq-eqb _ _ w.if-event-eq-AR.true)
       | else-event-eq-AR w ↦ w.number-is ∙ simp (ne_eqb _ _ w.if-event-eq-AR.false)
     ] in
     simp (c.replied.ensures, c.with_network-after.ensures, c.reader_after.ensures, c.request-step.ensures, number)

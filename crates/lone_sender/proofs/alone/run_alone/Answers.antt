@@ -8,7 +8,7 @@ pub loop-going-preserved : goal.loop-going-preserved
 loop-going-preserved c =
     let side = c.network_side-answer in (
       going_on c.loop-going.invariant.0 c.loop-going-test.true c.tally_of-tally.ensures side.ensures.value side.ensures.octets_after
-      c.after_four-next-in-loop-going.ensures c.stays_alone-in-loop-going.ensures,
+          c.after_four-next-in-loop-going.ensures c.stays_alone-in-loop-going.ensures,
       side.auto.octets ∙ c.loop-going.invariant.1,
     )
 

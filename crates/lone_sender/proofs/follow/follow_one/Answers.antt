@@ -26,7 +26,7 @@ returns c =
     let lone = c.args.lone in
     let t = c.args.t in
     let is : c.if-i-lone.access ≡ followed_access lone c.args.i t.access = elim c.if-i-lone.branch [
-      then-i-lone w ↦ w.access-is ∙ rw (eq-eqb _ _ w.if-i-lone.true)
+      | then-i-lone w ↦ w.access-is ∙ rw (eq-eqb _ _ w.if-i-lone.true)
       | else-i-lone w ↦ w.access-is ∙ rw (ne_eqb _ _ w.if-i-lone.false)
     ] in
     c.with_access.ensures ∙ in_f7_lem lone c.args.i t (eq-eqb _ _ c.if-t-ne-F7.false) is

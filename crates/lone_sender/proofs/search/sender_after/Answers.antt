@@ -23,7 +23,7 @@ returns-then-t-access c =
     let t = c.args.t in
     let before = c.args.before in
     let is : c.if-t-eq-F7.count ≡ cond (counting t) t.access.count before.count = elim c.if-t-eq-F7.branch [
-      then-t-eq-F7 w ↦ w.count-is ∙ rw (eq-eqb _ _ w.if-t-eq-F7.true)
+      | then-t-eq-F7 w ↦ w.count-is ∙ rw (eq-eqb _ _ w.if-t-eq-F7.true)
       | else-t-eq-F7 w ↦ w.count-is ∙ rw (ne_eqb _ _ w.if-t-eq-F7.false)
     ] in
     found c.args.i before t c.if-t-eq-F7.count is c.if-t-access.true
@@ -33,7 +33,7 @@ returns-else-t-access c =
     let t = c.args.t in
     let before = c.args.before in
     let is : c.if-t-eq-F7.count ≡ cond (counting t) t.access.count before.count = elim c.if-t-eq-F7.branch [
-      then-t-eq-F7 w ↦ w.count-is ∙ rw (eq-eqb _ _ w.if-t-eq-F7.true)
+      | then-t-eq-F7 w ↦ w.count-is ∙ rw (eq-eqb _ _ w.if-t-eq-F7.true)
       | else-t-eq-F7 w ↦ w.count-is ∙ rw (ne_eqb _ _ w.if-t-eq-F7.false)
     ] in
     passed c.args.i before t c.if-t-eq-F7.count is c.if-t-access.false

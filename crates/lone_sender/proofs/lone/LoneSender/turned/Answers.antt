@@ -13,7 +13,7 @@ unfolding lone_after_e lone_bit
 returns c =
     let s = c.args.self in
     let sent : c.if-self.sent ≡ cond (ltb s.sent s.length) (s.sent + 1) s.sent = elim c.if-self.branch [
-      then-self w ↦ w.sent-is ∙ rw (lt-ltb _ _ w.if-self.true)
+      | then-self w ↦ w.sent-is ∙ rw (lt-ltb _ _ w.if-self.true)
       | else-self w ↦ w.sent-is ∙ rw (le-ltb _ _ w.if-self.false)
     ] in
     simp (sent, c.counted.ensures, c.image_bit.ensures)
