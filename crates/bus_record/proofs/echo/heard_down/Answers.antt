@@ -11,8 +11,16 @@ returns-then-not-bus c = simp (not-true c.args.bus.hit c.if-not-bus.true) c.show
 
 pub returns-in-Line : goal.returns-in-Line
 returns-in-Line c =
-    line_is (c.sense_down.ensures ∙ heard_under c.args.bus c.args.ds c.args.letters.now _ _ _ (not-false c.args.bus.hit c.if-not-bus.false) refl c.build_down.ensures c.apply_hit.ensures.octets) c.in-Line.is
+    let struck = not-false c.args.bus.hit c.if-not-bus.false in
+    let heard =
+        heard_under c.args.bus c.args.ds c.args.letters.now _ _ _ struck refl c.build_down.ensures c.apply_hit.ensures.octets
+    in
+    line_is (c.sense_down.ensures ∙ heard) c.in-Line.is
 
 pub returns-in-Refused : goal.returns-in-Refused
 returns-in-Refused c =
-    never_refused (c.sense_down.ensures ∙ heard_under c.args.bus c.args.ds c.args.letters.now _ _ _ (not-false c.args.bus.hit c.if-not-bus.false) refl c.build_down.ensures c.apply_hit.ensures.octets) c.in-Refused.is
+    let struck = not-false c.args.bus.hit c.if-not-bus.false in
+    let heard =
+        heard_under c.args.bus c.args.ds c.args.letters.now _ _ _ struck refl c.build_down.ensures c.apply_hit.ensures.octets
+    in
+    never_refused (c.sense_down.ensures ∙ heard) c.in-Refused.is

@@ -2,10 +2,14 @@
 use Rattle.bus_record.proofs.SpokenLaws.{four_read_lem}
 use Rattle.bus_record.proofs.reading.read_four.Goals as goal
 
-pub returns-clause-value : goal.returns-clause-value
-returns-clause-value c =
-    (four_read_lem c.args.ds c.args.octets.now _ _ _ _ _ _ _ _ _ c.read_on-first.ensures.value c.read_on-first.ensures.octets_after c.read_on-second.ensures.value c.read_on-second.ensures.octets_after c.read_on-third.ensures.value c.read_on-third.ensures.octets_after c.read_on.ensures.value c.read_on.ensures.octets_after).0
-
-pub returns-clause-octets_after : goal.returns-clause-octets_after
-returns-clause-octets_after c =
-    (four_read_lem c.args.ds c.args.octets.now _ _ _ _ _ _ _ _ _ c.read_on-first.ensures.value c.read_on-first.ensures.octets_after c.read_on-second.ensures.value c.read_on-second.ensures.octets_after c.read_on-third.ensures.value c.read_on-third.ensures.octets_after c.read_on.ensures.value c.read_on.ensures.octets_after).1
+pub returns : goal.returns
+returns c =
+    let first = c.read_on-first.ensures in
+    let second = c.read_on-second.ensures in
+    let third = c.read_on-third.ensures in
+    let fourth = c.read_on.ensures in
+    let four =
+        four_read_lem c.args.ds c.args.octets.now _ _ _ _ _ _ _ _ _ first.value first.octets_after second.value second.octets_after
+        third.value third.octets_after fourth.value fourth.octets_after
+    in
+    record { value = four.0; octets_after = four.1 }

@@ -24,7 +24,8 @@ returns-in-Torn-clause-octets_after c = c.read-read.ensures.octets_after
 pub returns-in_default-clause-value : goal.returns-in_default-clause-value
 unfolding octets_to
 returns-in_default-clause-value c =
-    none_said c.args.bit c.args.octets.now c.args.self c.read-read.result c.read-read.ensures.value c.in_default.not-Heard c.in_default.not-Torn
+    none_said c.args.bit c.args.octets.now c.args.self c.read-read.result c.read-read.ensures.value c.in_default.not-Heard
+    c.in_default.not-Torn
 
 pub returns-in_default-clause-octets_after : goal.returns-in_default-clause-octets_after
 unfolding octets_to
