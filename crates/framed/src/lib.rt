@@ -9,6 +9,7 @@ ghost use Rattle.framed.specs.Framed.{first_pulse, framed_in, framed_down, frame
 use symbols::{LINE_LENGTH, MINUS, NONE, PLUS, TestAnswer, answer, fits};
 
 // Gives the first pulse of s, or none where s has no pulse.
+#[tactic(auto, using(crate::proofs::Passing::pulse_here, crate::proofs::Passing::pulse_next, crate::proofs::Passing::pulse_none))]
 fn first_pulse(s: &[u8]) -> u8
     ensures { result ≡ first_pulse s.now }
 {
@@ -24,6 +25,7 @@ fn first_pulse(s: &[u8]) -> u8
 
 // Tests whether a line is framed: symbol 1 is plus, 2 is minus, and the first pulse in the n
 // symbols from 3 on is minus.
+#[tactic(auto, unfolding(crate::specs::Framed::framed_in))]
 fn framed_in(line: &[u8], n: usize) -> bool
     requires n_bound { n + 2 ≤ line_length }
     requires line_len { length line.now ≡ line_length }
