@@ -24,7 +24,10 @@ pub returns-then-not-lent-fits : goal.returns-then-not-lent-fits
 unfolding run_reason lent_fits
 returns-then-not-lent-fits c =
     let a = c.args in
-    rw (of_callee a.ready c.in_range.ensures c.if-not-ready-in_range.false, of_callee (lent a.images a.octets a.notes) c.fits.ensures c.if-not-lent-fits.true)
+    rw (
+      of_callee a.ready c.in_range.ensures c.if-not-ready-in_range.false,
+      of_callee (lent a.images a.octets a.notes) c.fits.ensures c.if-not-lent-fits.true,
+    )
 
 pub returns-then-most-all_run : goal.returns-then-most-all_run
 unfolding run_reason lent_fits

@@ -12,7 +12,8 @@ returns-then-not-ready-in_range c = stops 1 _ _ (rw (← c.in_range.ensures) (ap
 pub returns-then-not-images-fits : goal.returns-then-not-images-fits
 unfolding first_reason
 returns-then-not-images-fits c =
-    goes_on 1 _ _ 2 (rw (← c.in_range.ensures) (ap not c.if-not-ready-in_range.false)) (stops 2 _ _ (rw (← c.fits.ensures) (ap not c.if-not-images-fits.true)))
+    goes_on 1 _ _ 2 (rw (← c.in_range.ensures) (ap not c.if-not-ready-in_range.false))
+    (stops 2 _ _ (rw (← c.fits.ensures) (ap not c.if-not-images-fits.true)))
 
 pub returns : goal.returns
 unfolding first_reason

@@ -13,7 +13,8 @@ use Rattle.lone_sender.specs.declared.lone.LoneSender.{LoneSender}
 use Rattle.lone_sender.proofs.follow.follow_one.Goals as goal
 use Rattle.lone_sender.proofs.follow.follow_one.Goals.{then-i-lone, else-i-lone}
 
-in_f7_lem : (s : LoneSender) (i : ℕ) (t : Terminal) {a : Access} → eqb t.state F7 ≡ true → a ≡ followed_access s i t.access → with_access a t ≡ followed s i t
+in_f7_lem : (s : LoneSender) (i : ℕ) (t : Terminal) {a : Access} → eqb t.state F7 ≡ true → a ≡ followed_access s i t.access
+    → with_access a t ≡ followed s i t
 unfolding followed
 in_f7_lem s i t h is = rw (h, is)
 

@@ -10,11 +10,17 @@ use Rattle.lone_sender.proofs.search.sender_after.Goals as goal
 use Rattle.lone_sender.proofs.search.sender_after.Goals.{then-t-eq-F7, else-t-eq-F7}
 
 module _ (i : ℕ) (s : LoneSender) (t : Terminal) (count : ℕ) (is : count ≡ cond (counting t) t.access.count s.count) where
-  found : sending_now t ≡ true → ◌≡◌ {A = LoneSender} (record { at = i; length = t.access.length; sent = t.access.sent; count = count; last = t.access.last }) (sender_after i s t)
+  abbrev it : LoneSender
+  it = record { at = i; length = t.access.length; sent = t.access.sent; count = count; last = t.access.last }
+
+  abbrev as_before : LoneSender
+  as_before = record { at = s.at; length = s.length; sent = s.sent; count = count; last = s.last }
+
+  found : sending_now t ≡ true → it ≡ sender_after i s t
   unfolding sender_after
   found h = rw (is, h)
 
-  passed : sending_now t ≡ false → ◌≡◌ {A = LoneSender} (record { at = s.at; length = s.length; sent = s.sent; count = count; last = s.last }) (sender_after i s t)
+  passed : sending_now t ≡ false → as_before ≡ sender_after i s t
   unfolding sender_after
   passed h = rw (is, h)
 
