@@ -337,13 +337,13 @@ lists_stepped_from s b (step x room ∷ more) o start = (
   o,
   λ v.
       let n = steps s b o (step x room) _ _ _ (step_parts s room o.is_bus_lem x) (one_goes s b o.is_bus_lem start o.carries x v) in
-      (n.0, lists_stepped_from _ _ more n.1 (sound_after b _ start)),
+      (n.0, lists_stepped_from (laws.bus_after s (step x room)) (after_all b (laws.calls_of_host s (step x room))) more n.1 (sound_after b _ start)),
 )
 lists_stepped_from s b (run_to until room ∷ more) o start = (
   o,
   λ v.
       let n = steps s b o (run_to until room) _ _ _ (run_parts s room o.is_bus_lem until) (run_goes s b o.is_bus_lem start o.carries (most_to until s)) in
-      (n.0, lists_stepped_from _ _ more n.1 (sound_after b _ start)),
+      (n.0, lists_stepped_from (laws.bus_after s (run_to until room)) (after_all b (laws.calls_of_host s (run_to until room))) more n.1 (sound_after b _ start)),
 )
 
 -- ---- The fresh bus.

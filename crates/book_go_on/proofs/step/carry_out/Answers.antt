@@ -78,7 +78,7 @@ returns-in-Fault-clause-steps_by c =
     (turns a.w a.images.now a.octets.now a.letters.now a.room.now a.said a.value.now g.stage g.begun true 0 _ OVER _
     (λ text at whole q. steps_at 0
     (step_fault text whole (found g.bus g.terminals a.images.now a.octets.now a.letters.now) g.stage g.begun g.over at
-    a.room.now a.w.wrote c.requires.goes.fits c.requires.begun_value c.requires.over_value _ c.in-Fault.given.0.1 (q ∙ e) c.requires.period_room_in_bounds _ _ c.put_stopped-wrote.ensures) (omega arith)) c.turned-in-Fault.result c.turned-in-Fault.ensures).0
+    a.room.now a.w.wrote c.requires.goes.fits c.requires.begun_value c.requires.over_value _ (omega arith) (q ∙ e) c.requires.period_room_in_bounds _ _ c.put_stopped-wrote.ensures) (omega arith)) c.turned-in-Fault.result c.turned-in-Fault.ensures).0
 
 pub returns-in-More-clause-steps_by : goal.returns-in-More-clause-steps_by
 returns-in-More-clause-steps_by c =

@@ -2,7 +2,7 @@
 use mathlib.Core.Path.{sym, ◌∙◌}
 use mathlib.Core.Bool.{true}
 use native.Mathlib.Omega.{arith}
-use borrow.Author.Tests.{leb-true, not-true, not-false}
+use borrow.Author.Tests.{leb-true, not-true}
 use Rattle.bus_call_specs.specs.Kept.{found}
 use Rattle.report.specs.Ahead.{ROOM, OVER}
 use Rattle.book_go_on.proofs.Moving.{turns, steps_at, step_over, step_full, step_heading}
@@ -24,7 +24,7 @@ returns-then-not-has_room-clause-steps_by c =
     (turns a.w a.images.now a.octets.now a.letters.now a.room.now a.said a.value.now g.stage g.begun g.over 0 a.w.wrote ROOM _
     (λ text at whole q. steps_at 0
     (step_full text whole (found g.bus g.terminals a.images.now a.octets.now a.letters.now) g.stage g.begun g.over at
-    a.room.now a.w.wrote c.requires.goes.fits (sym c.has_room.ensures ∙ not-true c.has_room.result c.if-not-has_room.true) c.if-w.false) (omega arith)) c.stays-then-not-has_room.result c.stays-then-not-has_room.ensures).0
+    a.room.now a.w.wrote c.requires.goes.fits (sym c.has_room.ensures ∙ c.if-not-has_room.true) c.if-w.false) (omega arith)) c.stays-then-not-has_room.result c.stays-then-not-has_room.ensures).0
 
 pub returns-then-not-w-clause-steps_by : goal.returns-then-not-w-clause-steps_by
 returns-then-not-w-clause-steps_by c =
@@ -34,4 +34,4 @@ returns-then-not-w-clause-steps_by c =
     (λ text at whole q. steps_at 0
     (step_heading text whole (found g.bus g.terminals a.images.now a.octets.now a.letters.now) g.stage g.begun g.over at
     a.room.now a.w.wrote c.requires.goes.fits c.if-w.false (not-true g.begun c.if-not-w.true)
-    (leb-true _ _ (sym c.has_room.ensures ∙ not-false c.has_room.result c.if-not-has_room.false)) _ _ c.put_heading-wrote.ensures) (omega arith)) c.turned.result c.turned.ensures).0
+    (leb-true _ _ (sym c.has_room.ensures ∙ c.if-not-has_room.false)) _ _ c.put_heading-wrote.ensures) (omega arith)) c.turned.result c.turned.ensures).0
