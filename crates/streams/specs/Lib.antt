@@ -1,2 +1,3 @@
--- What is done where a call of the system fails.
+-- How much a read gives, and what is done where a call of the system fails.
+pub mod Counts
 pub mod Failure

@@ -1,10 +1,13 @@
 // Calls of the system that have failed and are tried again.
 ghost use Rattle.std.specs.Prelude.{◌≡◌};
-ghost use Rattle.streams.specs.Failure.{errno_of, is_tried_again};
+ghost use Rattle.std.specs.IoError.{raw_os_error};
+ghost use Rattle.streams.specs.Failure.{errno_of, errno_in, is_tried_again};
 
 use super::pause::pause;
+use std::io;
 
-// As in crate `libc`, where errno has a sign.
+// As Linux numbers them: errno of a call that a signal has interrupted, and of one that could move
+// nothing yet.
 const EINTR: u64 = 4;
 
 const EAGAIN: u64 = 11;
@@ -27,18 +30,23 @@ fn number(error: i32) -> u64
     if error < 0 { 0 } else { error as u64 }
 }
 
-// Gives errno where the call just made has failed, which an answer below 0 says, else 0.
-pub(crate) fn error_of(answer: isize) -> u64 {
-    if answer < 0 { number(os::errno()) } else { 0 }
+// Gives errno of a call that has failed, 0 where the error has none: the system's errors have one.
+pub(crate) fn error_of(error: &io::Error) -> u64
+    ensures { result ≡ errno_in (raw_os_error error.now) }
+{
+    match error.raw_os_error() {
+        Some(errno) => number(errno),
+        None => 0,
+    }
 }
 
 // Tests whether a call that gave this errno is tried again. Where it could move nothing yet, waits
 // for a while first.
-pub(crate) fn again(error: u64) -> bool
+pub(crate) fn again(rt: &HostRuntime, error: u64) -> bool
     ensures { result ≡ is_tried_again error }
 {
     if error == EAGAIN {
-        pause();
+        pause(rt);
     }
     (error == EAGAIN) | (error == EINTR)
 }

@@ -2,9 +2,9 @@
 ghost use Rattle.note_text.specs.Room.{Put};
 ghost use Rattle.streams.specs.Failure.{failure_line};
 
-use libc::STDERR_FILENO;
 use note_text::number::put_decimal;
 use note_text::room::put;
+use std::io::Write;
 
 // Puts the line: what has failed, a colon, a space, errno.
 fn put_failure(room: &mut [u8], what: &[u8], errno: u64) -> usize
@@ -17,8 +17,8 @@ fn put_failure(room: &mut [u8], what: &[u8], errno: u64) -> usize
 }
 
 // Says in one line what has failed, with errno. Nobody can be told where this fails too.
-pub(crate) fn say(what: &[u8], errno: u64) {
+pub(crate) fn say(rt: &HostRuntime, what: &[u8], errno: u64) {
     let mut room = [0u8; 80];
     let n = put_failure(&mut room, what, errno);
-    io::write_all(STDERR_FILENO, &room[..n]);
+    let _ = rt.stderr().write_all(&room[..n]);
 }

@@ -1,12 +1,8 @@
 // A wait.
-use libc::types::timespec;
+use std::thread;
+use std::time::Duration;
 
-// Waits for a millisecond, or until a signal comes.
-pub(crate) fn pause() {
-    let asked = timespec {
-        tv_sec: 0,
-        tv_nsec: 1000000,
-    };
-    let mut left = asked;
-    libc::nanosleep(&asked, &mut left);
+// Waits for a millisecond.
+pub(crate) fn pause(rt: &HostRuntime) {
+    thread::sleep(rt, Duration::from_millis(1));
 }
