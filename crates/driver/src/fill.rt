@@ -17,7 +17,14 @@ pub(crate) struct Filled {
 // Reads at most `most` octets behind those in hand, where the last call has stopped for text. A
 // read that gives nothing ends the book there, and so does one that fails, once that is said: a
 // read is offered one octet at least.
-pub(crate) fn fill(text: &mut [u8], have: usize, why: u8, whole: bool, most: usize) -> Filled
+pub(crate) fn fill(
+    rt: &HostRuntime,
+    text: &mut [u8],
+    have: usize,
+    why: u8,
+    whole: bool,
+    most: usize,
+) -> Filled
     requires have_in_bounds { have ≤ length text.old }
     requires have_in_bounds_2 { why ≡ TEXT → have < length text.old }
     requires most_nonzero { 0 < most }
@@ -27,7 +34,7 @@ pub(crate) fn fill(text: &mut [u8], have: usize, why: u8, whole: bool, most: usi
         return Filled { have, whole };
     }
     let end = have + least(most, text.len() - have);
-    let n = read_in(&mut text[have..end]);
+    let n = read_in(rt, &mut text[have..end]);
     Filled {
         have: have + n,
         whole: n == 0,

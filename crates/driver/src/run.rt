@@ -12,11 +12,15 @@ use hdlc::LONGEST_BODY;
 use period_text::period::PERIOD_ROOM;
 use symbols::LINE_LENGTH;
 
+// The octets of the book that are in hand at a time at the most.
+const TEXT_ROOM: usize = 65_536;
+
 // Takes turns until the book is over or a write has failed. Nothing says that the input ends, so
 // the turns are counted down, from a number that no run uses up (`RunEnds`). The first turn stands
 // before the loop: where the compiler sees a fresh book go into the loop, it copies the book's
 // fields one by one, at every turn.
 fn drive(
+    rt: &HostRuntime,
     text: &mut [u8],
     room: &mut [u8],
     images: &mut [u8],
@@ -39,10 +43,10 @@ fn drive(
         whole: false,
         failed: false,
     };
-    let mut h = turn(first, text, room, images, octets, letters, most);
+    let mut h = turn(rt, first, text, room, images, octets, letters, most);
     let mut turns = u64::MAX - 1;
     while (turns > 0) & (!h.failed & (h.why != OVER)) {
-        h = turn(h, text, room, images, octets, letters, most);
+        h = turn(rt, h, text, room, images, octets, letters, most);
         turns -= 1;
     }
 }
@@ -50,18 +54,19 @@ fn drive(
 // Reads the book from standard input, in parts of at most `most` octets (0 counts as 1), and writes
 // its report to standard output, through lent room. With less room than the notes of a period may
 // take a call does nothing: there is nothing to drive.
-pub fn run(room: &mut [u8], most: usize)
+pub fn run(rt: &HostRuntime, room: &mut [u8], most: usize)
     ensures { Runs most room.old room.new }
 {
     if room.len() < PERIOD_ROOM {
         return;
     }
-    let mut text = io::large_buffer();
+    let mut text = [0u8; TEXT_ROOM];
     let mut images = [0u8; IMAGES_ROOM];
     let mut octets = [0u8; LONGEST_BODY];
     let mut letters = [0u8; LINE_LENGTH];
     let part = if most == 0 { 1 } else { most };
     drive(
+        rt,
         &mut text,
         room,
         &mut images,

@@ -24,6 +24,7 @@ pub(crate) struct Held {
 // taken. Whether the write has failed is what `write_out` answers: no statement speaks of it. No
 // call is refused here (`Going`), so the reply, which is 0, is not looked at.
 pub(crate) fn turn(
+    rt: &HostRuntime,
     h: Held,
     text: &mut [u8],
     room: &mut [u8],
@@ -39,7 +40,7 @@ pub(crate) fn turn(
         text.old room.old images.old octets.old letters.old
         result text.new room.new images.new octets.new letters.new }
 {
-    let f = fill(text, h.have, h.why, h.whole, most);
+    let f = fill(rt, text, h.have, h.why, h.whole, most);
     let have = f.have;
     let before = h.progress;
     let w = go_on(
@@ -52,7 +53,7 @@ pub(crate) fn turn(
         f.whole,
     );
     let wrote = w.wrote;
-    let taken = write_out(&room[..wrote]);
+    let taken = write_out(rt, &room[..wrote]);
     let left = keep(text, w.taken, have);
     let progress = w.progress;
     Held {
