@@ -3,11 +3,14 @@
 // there, as the annex has them; then the reply, the notes and the period at whose start each timer
 // is due, as tables 6-2 and 6-3 and document 01 have them. `stdout` is written from those. IV.2.1,
 // the echo, is in `bus_rows`.
+#![tactic(auto)]
+
 ghost use Rattle.std.specs.Prelude.{◌≤◌, length};
 
 use dchannel::access::Class;
 use frame::fields::Four;
 use print::{number, say, stimulus};
+use std::io;
 
 mod d_channel;
 mod network_end;
@@ -26,7 +29,7 @@ const ONES: Four = Four {
 
 // Runs the tests of table IV-2 or IV-3 in a state, numbered from `first` on, by their stimuli:
 // events of table 6-3 or 6-2.
-fn tests(table: u8, first: u8, state: u8, events: &[u8])
+fn tests(rt: &impl Print, table: u8, first: u8, state: u8, events: &[u8]) -> io::Result<()>
     requires first_bound { first ≤ 64 }
     requires events_len_bound { length events.now ≤ 8 }
 {
@@ -34,34 +37,37 @@ fn tests(table: u8, first: u8, state: u8, events: &[u8])
     while i < events.len() {
         let test = first + i as u8;
         let event = events[i];
-        before(table, test, state, event);
+        before(rt, table, test, state, event)?;
         if table == 2 {
-            network_end::test(state, event);
+            network_end::test(rt, state, event)?;
         } else {
-            terminals::test(state, event);
+            terminals::test(rt, state, event)?;
         }
         i += 1;
     }
+    Ok(())
 }
 
 // Prints what a row has before the next state.
-fn before(table: u8, test: u8, state: u8, event: u8) {
-    number(b"\nIV-", table);
-    number(b" ", test);
+fn before(rt: &impl Print, table: u8, test: u8, state: u8, event: u8) -> io::Result<()> {
+    number(rt, "\nIV-", table)?;
+    number(rt, " ", test)?;
     if table == 2 {
         stimulus(
-            b" G",
+            rt,
+            " G",
             state,
             b"           PH-AR     MPH-DR    T1        T2        INFO 0    INFO 1    INFO 3    loss               ",
             event,
-        );
+        )
     } else {
         stimulus(
-            b" F",
+            rt,
+            " F",
             state,
             b"           on        off       PH-AR     T3        INFO 0    signal    INFO 2    INFO 4    loss     ",
             event,
-        );
+        )
     }
 }
 
@@ -73,11 +79,11 @@ fn due(now: bool, runs: bool, later: u64) -> u64 {
     if runs { later } else { 0 }
 }
 
-fn main() {
-    say(b"JT-I430, annex IV");
-    network_end::rows();
-    terminals::rows();
-    d_channel::tests(1, Class::One);
-    d_channel::tests(2, Class::Two);
-    say(b"\n");
+fn main(rt: HostRuntime) -> io::Result<()> {
+    say(&rt, "JT-I430, annex IV")?;
+    network_end::rows(&rt)?;
+    terminals::rows(&rt)?;
+    d_channel::tests(&rt, 1, Class::One)?;
+    d_channel::tests(&rt, 2, Class::Two)?;
+    say(&rt, "\n")
 }

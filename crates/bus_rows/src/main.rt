@@ -19,12 +19,15 @@
 // terminal 2, with body 00, sends a 0, and stops at the next E; terminal 2 is done, and its second
 // frame waits for C = 9 while terminal 1 starts over at C = 8. Its last rows count what E follows
 // each D in G3.
+#![tactic(auto)]
+
 use bench::{Bench, given, until};
 use bus_event::event::IMAGES_ROOM;
 use bus_record::record::BusRecord;
 use hdlc::LONGEST_BODY;
 use notes_and_cells::events::{AR, D1, ON};
 use print::{say, two};
+use std::io;
 use terminal::Terminal;
 
 mod bench;
@@ -45,7 +48,7 @@ const IV_2_1: [[u8; 4]; 6] = [
 ];
 
 // Prints the rows of a book, and gives how often each E followed each D in G3.
-fn book(events: &[[u8; 4]], used: usize) -> [u32; 4] {
+fn book(rt: &impl Print, events: &[[u8; 4]], used: usize) -> io::Result<[u32; 4]> {
     let mut images = [0u8; IMAGES_ROOM];
     let mut body = [0u8; LONGEST_BODY];
     let mut counts = [0u32; 4];
@@ -58,9 +61,10 @@ fn book(events: &[[u8; 4]], used: usize) -> [u32; 4] {
         let e = events[i];
         i += 1;
         let mut terminals = bench.terminals;
-        bench = given(bench.bus, terminals, &mut images, e[0], e[1], e[2]);
+        bench = given(rt, bench.bus, terminals, &mut images, e[0], e[1], e[2])?;
         terminals = bench.terminals;
         bench = until(
+            rt,
             bench.bus,
             terminals,
             &images,
@@ -68,23 +72,24 @@ fn book(events: &[[u8; 4]], used: usize) -> [u32; 4] {
             &mut counts,
             used,
             e[3],
-        );
+        )?;
     }
-    counts
+    Ok(counts)
 }
 
 // Prints how often E was 0, and how often 1, after a D of 0 and after a D of 1.
-fn echoes(n: [u32; 4]) {
-    two(b"\nIV.2.1 D 0 echo 0:", n[0]);
-    two(b" 1:", n[1]);
-    two(b"\nIV.2.1 D 1 echo 0:", n[2]);
-    two(b" 1:", n[3]);
-    say(b"\n");
+fn echoes(rt: &impl Print, n: [u32; 4]) -> io::Result<()> {
+    two(rt, "\nIV.2.1 D 0 echo 0:", n[0])?;
+    two(rt, " 1:", n[1])?;
+    two(rt, "\nIV.2.1 D 1 echo 0:", n[2])?;
+    two(rt, " 1:", n[3])?;
+    say(rt, "\n")
 }
 
-fn main() {
-    say(b"document 01: the bench book");
-    book(&DOCUMENT_01, 1);
-    say(b"\nIV.2.1: the echo");
-    echoes(book(&IV_2_1, 2));
+fn main(rt: HostRuntime) -> io::Result<()> {
+    say(&rt, "document 01: the bench book")?;
+    book(&rt, &DOCUMENT_01, 1)?;
+    say(&rt, "\nIV.2.1: the echo")?;
+    let counts = book(&rt, &IV_2_1, 2)?;
+    echoes(&rt, counts)
 }

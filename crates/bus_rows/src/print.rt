@@ -1,39 +1,38 @@
 // Printing.
-use libc::STDOUT_FILENO;
 use notes_and_cells::notes::Notes;
+use std::io;
 
-pub(crate) fn say(text: &[u8]) {
-    io::write_all(STDOUT_FILENO, text);
+pub(crate) fn say(rt: &impl Print, text: &str) -> io::Result<()> {
+    rt.print(text)
 }
 
 // Prints a text and a number.
-pub(crate) fn number(text: &[u8], n: u32) {
-    say(text);
-    io::print_decimal(STDOUT_FILENO, n as u64);
+pub(crate) fn number(rt: &impl Print, text: &str, n: u32) -> io::Result<()> {
+    say(rt, text)?;
+    rt.print(n)
 }
 
 // Prints a text and a number in two places.
-pub(crate) fn two(text: &[u8], n: u32) {
-    say(text);
-    if n < 10 {
-        say(b" ");
-    }
-    io::print_decimal(STDOUT_FILENO, n as u64);
+pub(crate) fn two(rt: &impl Print, text: &str, n: u32) -> io::Result<()> {
+    say(rt, text)?;
+    print!(rt; "{n:2}")
 }
 
 // Prints the first `count` octets in hexadecimal.
-pub(crate) fn octets(o: &[u8], count: usize) {
+pub(crate) fn octets(rt: &impl Print, o: &[u8], count: usize) -> io::Result<()> {
     let mut i: usize = 0;
     while i < o.len() {
         if i < count {
-            io::print_hex(STDOUT_FILENO, o[i] as u64, 2);
+            let octet = o[i];
+            print!(rt; "{octet:02x}")?;
         }
         i += 1;
     }
+    Ok(())
 }
 
 // Prints the word of a code, from 1 on; in `words` each word stands behind a comma.
-pub(crate) fn word(words: &[u8], code: u8) {
+pub(crate) fn word(rt: &impl Print, words: &[u8], code: u8) -> io::Result<()> {
     let mut at: usize = 0;
     let mut i: usize = 0;
     while i < words.len() {
@@ -41,31 +40,33 @@ pub(crate) fn word(words: &[u8], code: u8) {
         if c == b',' {
             at += 1;
         } else if at == code as usize {
-            say(&[c]);
+            rt.write_all(&[c])?;
         }
         i += 1;
     }
+    Ok(())
 }
 
 // Prints a note of a unit by its code, 0 for none.
-pub(crate) fn note(unit: u32, code: u8) {
+pub(crate) fn note(rt: &impl Print, unit: u32, code: u8) -> io::Result<()> {
     if code == 0 {
-        return;
+        return Ok(());
     }
-    number(b"  ", unit);
+    number(rt, "  ", unit)?;
     word(
+        rt,
         b", PH-ACT, PH-DEACT, MPH-ACT, MPH-DEACT, MPH-EI, MPH-EI1, MPH-EI2, MPH-II connected, MPH-II disconnected\
         , heard , torn, done1, done2, dropped1, dropped2, refused",
         code,
-    );
+    )
 }
 
 // Prints the notes of a unit: those of completed frames by their codes, and others.
-pub(crate) fn notes(unit: u32, first: u8, second: u8, n: Notes) {
-    note(unit, first);
-    note(unit, second);
-    note(unit, n.1);
-    note(unit, n.2);
-    note(unit, n.3);
-    note(unit, n.4);
+pub(crate) fn notes(rt: &impl Print, unit: u32, first: u8, second: u8, n: Notes) -> io::Result<()> {
+    note(rt, unit, first)?;
+    note(rt, unit, second)?;
+    note(rt, unit, n.1)?;
+    note(rt, unit, n.2)?;
+    note(rt, unit, n.3)?;
+    note(rt, unit, n.4)
 }

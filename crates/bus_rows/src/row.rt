@@ -7,32 +7,41 @@ use bus_record::record::BusRecord;
 use notes_and_cells::events::D1;
 use notes_and_cells::notes::{DONE1, DONE2};
 use period_hearing::hears::UnitNotes;
+use std::io;
 use symbols::LINE_LENGTH;
 use table_6_2::F7;
 use table_6_3::G3;
 use terminal::Terminal;
 
 // Prints the row of an event, with its octet from D1 on, and what the call gives.
-pub(crate) fn event(period: u32, unit: u32, code: u8, octet: u8, g: HeldEvent) {
-    two(b"\n", period);
-    number(b" ", unit);
-    word(b", on, off, ar, dr, d1 , d2 , hit ", code);
-    octets(&[octet], (D1 <= code) as usize);
+pub(crate) fn event(
+    rt: &impl Print,
+    period: u32,
+    unit: u32,
+    code: u8,
+    octet: u8,
+    g: HeldEvent,
+) -> io::Result<()> {
+    two(rt, "\n", period)?;
+    number(rt, " ", unit)?;
+    word(rt, b", on, off, ar, dr, d1 , d2 , hit ", code)?;
+    octets(rt, &[octet], (D1 <= code) as usize)?;
     if g.told.reply != 0 {
-        number(b"  refused ", g.told.reply as u32);
+        number(rt, "  refused ", g.told.reply as u32)?;
     }
-    notes(unit, 0, 0, g.told.notes);
+    notes(rt, unit, 0, 0, g.told.notes)
 }
 
 // Runs the four opportunities of a period without a hit, and prints the states after them and the
 // pairs of E and D. Counts each E in G3 by the D before it.
 pub(crate) fn exchange(
+    rt: &impl Print,
     bus: BusRecord,
     before: [Terminal; 8],
     images: &[u8],
     counts: &mut [u32; 4],
     used: usize,
-) {
+) -> io::Result<()> {
     // No hit is given here, so that the letters stay as they are.
     let letters = [0u8; LINE_LENGTH];
     let mut pairs = [b' '; 12];
@@ -47,59 +56,70 @@ pub(crate) fn exchange(
         pairs[i * 3 + 1] = b'0' | m.e as u8;
         pairs[i * 3 + 2] = b'0' | m.echo as u8;
         let at = ((last as usize) << 1 | m.e as usize) % 4;
-        counts[at] = std::num::wrapping_add_u32(counts[at], (m.state == G3) as u32);
+        counts[at] = counts[at].wrapping_add((m.state == G3) as u32);
         i += 1;
     }
-    states(bus.periods.0, bus.network.state, terminals, used);
-    say(&pairs);
+    states(rt, bus.periods.0, bus.network.state, terminals, used)?;
+    rt.write_all(&pairs)
 }
 
 // Prints the period, unit 0 and the terminals in use.
-fn states(period: u32, network: u8, terminals: [Terminal; 8], used: usize) {
-    two(b"\n", period);
-    number(b" G", network as u32);
-    number(b" I", table_6_3::info_sent(network) as u32);
+fn states(
+    rt: &impl Print,
+    period: u32,
+    network: u8,
+    terminals: [Terminal; 8],
+    used: usize,
+) -> io::Result<()> {
+    two(rt, "\n", period)?;
+    number(rt, " G", network as u32)?;
+    number(rt, " I", table_6_3::info_sent(network) as u32)?;
     let mut i: usize = 0;
     while i < 8 {
         if i < used {
             let t = terminals[i];
-            terminal(t.state, t.access.count, t.access.low1, t.access.low2);
+            terminal(rt, t.state, t.access.count, t.access.low1, t.access.low2)?;
         }
         i += 1;
     }
-    say(b" ");
+    say(rt, " ")
 }
 
 // Prints a terminal: state, INFO, and in F7 its C, X1 and X2: 8 and 10 are even, and the low level
 // is one more.
-fn terminal(state: u8, count: u8, low1: bool, low2: bool) {
-    number(b"  F", state as u32);
-    number(b" I", table_6_2::info_sent(state) as u32);
+fn terminal(rt: &impl Print, state: u8, count: u8, low1: bool, low2: bool) -> io::Result<()> {
+    number(rt, "  F", state as u32)?;
+    number(rt, " I", table_6_2::info_sent(state) as u32)?;
     if state != F7 {
-        say(b"  -  -  -");
-        return;
+        return say(rt, "  -  -  -");
     }
-    two(b" ", count as u32);
+    two(rt, " ", count as u32)?;
     // 8 or 9, and 10 or 11.
-    two(b" ", 8 | low1 as u32);
-    two(b" ", 10 | low2 as u32);
+    two(rt, " ", 8 | low1 as u32)?;
+    two(rt, " ", 10 | low2 as u32)
 }
 
 // Prints the notes of a period: unit 0 with the octets of a heard body, the terminals, then those
 // of timers due at the next one's start.
-pub(crate) fn said(p: HeldRun, body: &[u8]) {
+pub(crate) fn said(rt: &impl Print, p: HeldRun, body: &[u8]) -> io::Result<()> {
     let ns = p.notes;
-    note(0, p.answer.said);
-    octets(body, p.answer.body as usize);
-    notes(0, 0, 0, p.answer.network.hearing);
-    of_terminals(ns, p.answer.done1, p.answer.done2, false);
-    notes(0, 0, 0, p.answer.network.timers);
-    of_terminals(ns, 0, 0, true);
+    note(rt, 0, p.answer.said)?;
+    octets(rt, body, p.answer.body as usize)?;
+    notes(rt, 0, 0, 0, p.answer.network.hearing)?;
+    of_terminals(rt, ns, p.answer.done1, p.answer.done2, false)?;
+    notes(rt, 0, 0, 0, p.answer.network.timers)?;
+    of_terminals(rt, ns, 0, 0, true)
 }
 
 // Prints the notes of the terminals: of completed frames, bit i for terminal i + 1, and of their
 // hearing or their timers.
-fn of_terminals(ns: [UnitNotes; 8], done1: u8, done2: u8, timed: bool) {
+fn of_terminals(
+    rt: &impl Print,
+    ns: [UnitNotes; 8],
+    done1: u8,
+    done2: u8,
+    timed: bool,
+) -> io::Result<()> {
     let mut first = done1;
     let mut second = done2;
     let mut i: usize = 0;
@@ -107,12 +127,13 @@ fn of_terminals(ns: [UnitNotes; 8], done1: u8, done2: u8, timed: bool) {
         let n = ns[i];
         let unit = i as u32 + 1;
         if timed {
-            notes(unit, 0, 0, n.timers);
+            notes(rt, unit, 0, 0, n.timers)?;
         } else {
-            notes(unit, first % 2 * DONE1, second % 2 * DONE2, n.hearing);
+            notes(rt, unit, first % 2 * DONE1, second % 2 * DONE2, n.hearing)?;
         }
         first = first / 2;
         second = second / 2;
         i += 1;
     }
+    Ok(())
 }

@@ -1,38 +1,40 @@
 // The edges of document 01 that are checked by running: a body of 266 octets is taken, one of 267
 // refused. The others stand in specs/Edges.antt.
+#![tactic(auto)]
+
 use dchannel::access::{Access, Class};
 use hdlc::LONGEST_BODY;
-use libc::STDOUT_FILENO;
 use packing::image::{IMAGE_ROOM, Imaged, image};
+use std::io;
 
 // Prints a text.
-fn say(text: &[u8]) {
-    io::write_all(STDOUT_FILENO, text);
+fn say(rt: &impl Print, text: &str) -> io::Result<()> {
+    rt.print(text)
 }
 
 // Prints the answer of the image call, and then that of handing the frame over.
-fn show(answer: Imaged) {
+fn show(rt: &impl Print, answer: Imaged) -> io::Result<()> {
     match answer {
         Imaged::Bits(n) => {
-            say(b"image of ");
-            io::print_decimal(STDOUT_FILENO, n as u64);
-            say(b" bits, reply ");
+            say(rt, "image of ")?;
+            rt.print(n)?;
+            say(rt, " bits, reply ")?;
             let handed = Access::fresh().hand(Class::One, n);
-            io::print_decimal(STDOUT_FILENO, handed.reply as u64);
+            rt.print(handed.reply)?;
         }
         Imaged::Refused(k) => {
-            say(b"refused ");
-            io::print_decimal(STDOUT_FILENO, k as u64);
+            say(rt, "refused ")?;
+            rt.print(k)?;
         }
     }
-    say(b"\n");
+    say(rt, "\n")
 }
 
-fn main() {
+fn main(rt: HostRuntime) -> io::Result<()> {
     let body = [255u8; LONGEST_BODY + 1];
     let mut out = [0u8; IMAGE_ROOM];
-    say(b"266 octets: ");
-    show(image(&body[..LONGEST_BODY], &mut out));
-    say(b"267 octets: ");
-    show(image(&body, &mut out));
+    say(&rt, "266 octets: ")?;
+    show(&rt, image(&body[..LONGEST_BODY], &mut out))?;
+    say(&rt, "267 octets: ")?;
+    show(&rt, image(&body, &mut out))
 }

@@ -1,12 +1,14 @@
 // Prints the INFO lines, some written frames and what several terminals give together as rows of
 // `+`, `-` and `0`, beside a row that names the field at each position: `1` for B1, `2` for B2, `f`
 // for FA.
+#![tactic(auto)]
+
 use combining::combine::{Combined, LINES_LENGTH, TERMINALS, combine};
 use combining::hit::{KEEP_LETTER, NONE_LETTER, PLUS_LETTER, apply_hit};
 use frame::fields::{CycleBits, DownFields, Four, UpFields};
 use frame::write::{write_down, write_up};
 use info::info::{info0, info1, info2, info2_with, info3, info3_with, info4, info4_with};
-use libc::STDOUT_FILENO;
+use std::io;
 use symbols::{LINE_LENGTH, MINUS, NONE, PLUS};
 
 // Gives the letter of a symbol.
@@ -30,11 +32,11 @@ fn letters(line: &mut [u8]) {
 }
 
 // Prints a name and then a line's letters, which take the symbols' place.
-fn show(name: &[u8], line: &mut [u8]) {
+fn show(rt: &impl Print, name: &str, line: &mut [u8]) -> io::Result<()> {
     letters(line);
-    io::write_all(STDOUT_FILENO, name);
-    io::write_all(STDOUT_FILENO, line);
-    io::write_all(STDOUT_FILENO, b"\n");
+    rt.print(name)?;
+    rt.write_all(line)?;
+    rt.print("\n")
 }
 
 // Gives four bits.
@@ -48,22 +50,22 @@ fn four(first: bool, second: bool, third: bool, fourth: bool) -> Four {
 }
 
 // Prints the INFO lines.
-fn infos() {
+fn infos(rt: &impl Print) -> io::Result<()> {
     let mut line = [NONE; LINE_LENGTH];
     info0(&mut line);
-    show(b"INFO 0           ", &mut line);
+    show(rt, "INFO 0           ", &mut line)?;
     info1(&mut line);
-    show(b"INFO 1           ", &mut line);
+    show(rt, "INFO 1           ", &mut line)?;
     info2(&mut line);
-    show(b"INFO 2           ", &mut line);
+    show(rt, "INFO 2           ", &mut line)?;
     info3(four(true, true, true, true), &mut line);
-    show(b"INFO 3 D 1111    ", &mut line);
+    show(rt, "INFO 3 D 1111    ", &mut line)?;
     info3(four(true, false, false, true), &mut line);
-    show(b"INFO 3 D 1001    ", &mut line);
+    show(rt, "INFO 3 D 1001    ", &mut line)?;
     info4(four(true, true, true, true), &mut line);
-    show(b"INFO 4 E 1111    ", &mut line);
+    show(rt, "INFO 4 E 1111    ", &mut line)?;
     info4(four(false, true, true, false), &mut line);
-    show(b"INFO 4 E 0110    ", &mut line);
+    show(rt, "INFO 4 E 0110    ", &mut line)
 }
 
 // Gives the fields of an upward frame with other B octets.
@@ -79,7 +81,7 @@ fn up_frame(fa: bool) -> UpFields {
 }
 
 // Prints frames with other B octets. FA at 1 makes N 0 downward, and its L 1 upward.
-fn frames() {
+fn frames(rt: &impl Print) -> io::Result<()> {
     let mut line = [NONE; LINE_LENGTH];
     let down = DownFields {
         b1first: 0xa5,
@@ -94,16 +96,16 @@ fn frames() {
         s: true,
     };
     write_down(down, &mut line);
-    show(b"down a5 0f 01 ff ", &mut line);
+    show(rt, "down a5 0f 01 ff ", &mut line)?;
     write_up(up_frame(false), &mut line);
-    show(b"up   a5 07 80 00 ", &mut line);
+    show(rt, "up   a5 07 80 00 ", &mut line)?;
     write_up(up_frame(true), &mut line);
-    show(b".. with FA 1     ", &mut line);
+    show(rt, ".. with FA 1     ", &mut line)
 }
 
 // Prints INFO 2, INFO 3 and INFO 4 as a cycle of Q and S bits sets them: in its first period, with S
 // at 1, and INFO 4 in its sixth, with S at 0.
-fn cycle_infos() {
+fn cycle_infos(rt: &impl Print) -> io::Result<()> {
     let bits = CycleBits {
         fa: true,
         m: true,
@@ -117,13 +119,13 @@ fn cycle_infos() {
     let ones = four(true, true, true, true);
     let mut line = [NONE; LINE_LENGTH];
     info2_with(bits, &mut line);
-    show(b"INFO 2 FA M S 1  ", &mut line);
+    show(rt, "INFO 2 FA M S 1  ", &mut line)?;
     info3_with(true, ones, &mut line);
-    show(b"INFO 3 FA 1      ", &mut line);
+    show(rt, "INFO 3 FA 1      ", &mut line)?;
     info4_with(bits, ones, &mut line);
-    show(b"INFO 4 FA M S 1  ", &mut line);
+    show(rt, "INFO 4 FA M S 1  ", &mut line)?;
     info4_with(sixth, ones, &mut line);
-    show(b"INFO 4 FA 1      ", &mut line);
+    show(rt, "INFO 4 FA 1      ", &mut line)
 }
 
 // Puts INFO 1 in the place of terminal 8 among the eight lines.
@@ -154,33 +156,31 @@ fn put_all_info3(lines: &mut [u8]) {
 }
 
 // Prints the line that the eight lines give together, and below it how many of them were taken.
-fn show_combined(name: &[u8], lines: &[u8]) {
+fn show_combined(rt: &impl Print, name: &str, lines: &[u8]) -> io::Result<()> {
     let mut line = [NONE; LINE_LENGTH];
     let answer = combine(lines, &mut line);
     let Combined::Line(taken) = answer else {
-        return;
+        return Ok(());
     };
-    show(name, &mut line);
-    io::write_all(STDOUT_FILENO, b"lines taken      ");
-    io::print_decimal(STDOUT_FILENO, taken as u64);
-    io::write_all(STDOUT_FILENO, b"\n");
+    show(rt, name, &mut line)?;
+    println!(rt; "lines taken      {taken}")
 }
 
 // Prints terminals together: none that sends, two, a third with INFO 1, and all eight.
-fn combined() {
+fn combined(rt: &impl Print) -> io::Result<()> {
     let mut lines = [NONE; LINES_LENGTH];
-    show_combined(b"nobody sends     ", &lines);
+    show_combined(rt, "nobody sends     ", &lines)?;
     put_info3(&mut lines, 0, four(true, false, true, true));
     put_info3(&mut lines, 2, four(true, true, false, true));
-    show_combined(b"D 1011 with 1101 ", &lines);
+    show_combined(rt, "D 1011 with 1101 ", &lines)?;
     put_info1(&mut lines);
-    show_combined(b".. with INFO 1   ", &lines);
+    show_combined(rt, ".. with INFO 1   ", &lines)?;
     put_all_info3(&mut lines);
-    show_combined(b"D 1111 of eight  ", &lines);
+    show_combined(rt, "D 1111 of eight  ", &lines)
 }
 
 // Prints a hit on INFO 2: plus at 3, none at 5 and 6.
-fn hit_line() {
+fn hit_line(rt: &impl Print) -> io::Result<()> {
     let mut line = [NONE; LINE_LENGTH];
     let mut hit = [KEEP_LETTER; LINE_LENGTH];
     hit[2] = PLUS_LETTER;
@@ -188,21 +188,15 @@ fn hit_line() {
     hit[5] = NONE_LETTER;
     info2(&mut line);
     apply_hit(&mut line, &hit);
-    show(b"INFO 2 hit kkpkn ", &mut line);
+    show(rt, "INFO 2 hit kkpkn ", &mut line)
 }
 
-fn main() {
-    io::write_all(
-        STDOUT_FILENO,
-        b"down             FL11111111EDAfN22222222EDM11111111EDS22222222EDL\n",
-    );
-    io::write_all(
-        STDOUT_FILENO,
-        b"up               FL11111111LDLfL22222222LDL11111111LDL22222222LDL\n",
-    );
-    infos();
-    frames();
-    cycle_infos();
-    combined();
-    hit_line();
+fn main(rt: HostRuntime) -> io::Result<()> {
+    rt.println("down             FL11111111EDAfN22222222EDM11111111EDS22222222EDL")?;
+    rt.println("up               FL11111111LDLfL22222222LDL11111111LDL22222222LDL")?;
+    infos(&rt)?;
+    frames(&rt)?;
+    cycle_infos(&rt)?;
+    combined(&rt)?;
+    hit_line(&rt)
 }
