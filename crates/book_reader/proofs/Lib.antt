@@ -1,10 +1,6 @@
--- Ways out of the calls (Returns), the walks over a reader: what they share (Held) and their calls (Calling); the rest of a text moved to the
--- front (Moving); the law of a call (Cut), what is known of an entry and the run towards it (RunOn), a book handed over in parts (Handing);
+-- Ways out of the calls (Returns); the rest of a text moved to the front (Moving); the law of a call (Cut), what is known of an entry and the run towards it (RunOn), a book handed over in parts (Handing);
 -- computed books (Examples).
 pub mod Returns
-pub mod Held
-pub mod Calling
-pub mod Asking
 pub mod Moving
 pub mod Cut
 pub mod RunOn

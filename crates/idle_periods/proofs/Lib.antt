@@ -1,5 +1,5 @@
 -- Tests of the code (Tests); a reach of 0 (NoReach); what a reach says (Stays); a period of a still bus (StillPeriod); the law of leaps
--- (Leaping); a leap, and a run of periods alone, as turns of a run's loop (Turning, AloneTurns); the structs of the walk (Structs).
+-- (Leaping); a leap, and a run of periods alone, as turns of a run's loop (Turning, AloneTurns).
 pub mod Tests
 pub mod NoReach
 pub mod Stays
@@ -7,4 +7,3 @@ pub mod StillPeriod
 pub mod Leaping
 pub mod Turning
 pub mod AloneTurns
-pub mod Structs

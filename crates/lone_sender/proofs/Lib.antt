@@ -1,7 +1,6 @@
 -- One opportunity and four of them, alone (LoneFour); the loop over such periods (AloneLoop); what a search that finds one has
--- shown (FoundAlone); a period alone (Period); the structs of the walks (Structs).
+-- shown (FoundAlone); a period alone (Period).
 pub mod LoneFour
 pub mod AloneLoop
 pub mod FoundAlone
 pub mod Period
-pub mod Structs

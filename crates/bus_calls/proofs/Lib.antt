@@ -1,2 +1,0 @@
--- The structs of the walks.
-pub mod Structs
