@@ -25,13 +25,7 @@ fn number(reply: u8) -> u32
 }
 
 // Gives the bus an event: any unit number, any event number, any value.
-pub fn sbus_event(
-    bus: &mut [u8],
-    notes: &mut [u8],
-    unit: u32,
-    event: u32,
-    value: &[u8],
-) -> u32
+pub fn sbus_event(bus: &mut [u8], notes: &mut [u8], unit: u32, event: u32, value: &[u8]) -> u32
     ensures value { result ≡ spec.host_reply bus.old notes.old (eventCall unit event value.now) }
     ensures bus_after { bus.new ≡ spec.host_bus bus.old notes.old (eventCall unit event value.now) }
     ensures notes_after { notes.new

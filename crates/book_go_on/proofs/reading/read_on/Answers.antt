@@ -18,9 +18,9 @@ pub step-w-requires : goal.step-w-requires
 step-w-requires c =
     let i = c.loop-going.invariant in
     let asks =
-      step_asks c.args.progress c.args.images.now c.args.octets.now c.args.letters.now c.args.text.now c.args.room.now c.args.whole
-      c.loop-going.w _ _ _ _ _ i.so_far _ _ _ c.stage_of.ensures c.periods_of.ensures (rw i.text_is at c.read-said.ensures)
-      c.loop-going.reader.text c.value-value.result i.text_is c.value-value.ensures in
+    step_asks c.args.progress c.args.images.now c.args.octets.now c.args.letters.now c.args.text.now c.args.room.now c.args.whole
+    c.loop-going.w _ _ _ _ _ i.so_far _ _ _ c.stage_of.ensures c.periods_of.ensures (rw i.text_is at c.read-said.ensures)
+    c.loop-going.reader.text c.value-value.result i.text_is c.value-value.ensures in
     record { goes = asks.0; read = asks.1 }
 
 pub loop-going-smaller : goal.loop-going-smaller
@@ -48,6 +48,6 @@ pub returns : goal.returns
 returns c =
     let i = c.loop-going.invariant in
     let stops =
-      goes_no_further c.args.progress c.args.images.now c.args.octets.now c.args.letters.now c.args.text.now c.args.room.now c.args.whole
-      c.loop-going.w _ _ _ _ _ i.so_far (sym i.going_is ∙ c.loop-going-test.false) _ c.at.ensures _ c.ended.ensures in
+    goes_no_further c.args.progress c.args.images.now c.args.octets.now c.args.letters.now c.args.text.now c.args.room.now c.args.whole
+    c.loop-going.w _ _ _ _ _ i.so_far (sym i.going_is ∙ c.loop-going-test.false) _ c.at.ensures _ c.ended.ensures in
     record { stopped = stops.0; reply_value = stops.1 }

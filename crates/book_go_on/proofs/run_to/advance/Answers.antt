@@ -12,8 +12,8 @@ returns-then-not-answer c =
     let r = c.requires in
     let e = c.run-g.ensures in
     let w = advanced_quiet a.u.bus a.u.terminals a.images.now a.octets.now a.letters.now a.to a.room.now a.u.wrote r.ready
-        r.periods_lt_to r.to_le_most_periods r.period_room_in_bounds c.run-g.result _ e.answer_value e.terminals_value e.notes_value
-        e.octets_after (not-true c.run-g.result.answer.told c.if-not-answer.true) in
+    r.periods_lt_to r.to_le_most_periods r.period_room_in_bounds c.run-g.result _ e.answer_value e.terminals_value e.notes_value
+    e.octets_after (not-true c.run-g.result.answer.told c.if-not-answer.true) in
     record { runs_to = w.0; periods_lt_periods = w.1 }
 
 pub overflow_sub-bus : goal.overflow_sub-bus
@@ -32,6 +32,6 @@ returns c =
     let r = c.requires in
     let e = c.run-g.ensures in
     let w = advanced a.u.bus a.u.terminals a.images.now a.octets.now a.letters.now a.to a.room.now a.u.wrote r.ready r.periods_lt_to
-        r.to_le_most_periods r.period_room_in_bounds
-        c.run-g.result _ e.answer_value e.terminals_value e.notes_value e.octets_after _ _ c.put_period-wrote.ensures in
+    r.to_le_most_periods r.period_room_in_bounds
+    c.run-g.result _ e.answer_value e.terminals_value e.notes_value e.octets_after _ _ c.put_period-wrote.ensures in
     record { runs_to = w.0; periods_lt_periods = w.1 }

@@ -14,6 +14,6 @@ returns c =
     let a = c.args in
     let e = c.event-g.ensures in
     let w = gave a.s.now c.requires _ _ _ _ c.record_in-bus.ensures c.terminals_in-before.ensures c.letters_in-letters.ensures
-        c.octets_in-octets.ensures a.unit a.event a.value.now c.event-g.result _ _ _ e.told_value e.terminals_value e.images_after
-        e.letters_after c.lay.ensures in
+    c.octets_in-octets.ensures a.unit a.event a.value.now c.event-g.result _ _ _ e.told_value e.terminals_value e.images_after
+    e.letters_after c.lay.ensures in
     record { value = w.0; s_after = w.1 }

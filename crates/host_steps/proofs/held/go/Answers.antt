@@ -14,5 +14,5 @@ returns c =
     let a = c.args in
     let e = c.run-g.ensures in
     let w = went a.s.now c.requires _ _ _ _ c.record_in-bus.ensures c.terminals_in-before.ensures c.letters_in-letters.ensures
-        c.octets_in-octets.ensures a.most c.run-g.result _ _ e.answer_value e.terminals_value e.notes_value e.octets_after c.lay.ensures in
+    c.octets_in-octets.ensures a.most c.run-g.result _ _ e.answer_value e.terminals_value e.notes_value e.octets_after c.lay.ensures in
     record { answer_value = w.0; notes_value = w.1.0; s_after = w.1.1 }

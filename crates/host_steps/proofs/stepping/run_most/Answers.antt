@@ -20,7 +20,7 @@ returns-then-answer-ne0 c =
     let a = c.args in
     let g = c.go-g.ensures in
     let w = run_refused a.bus.now a.notes.now a.most _ c.lent_reason-reason.ensures c.if-reason-ne0.false _ _ _ g.answer_value
-        g.notes_value g.s_after _ c.number.ensures c.if-answer-ne0.true in
+    g.notes_value g.s_after _ c.number.ensures c.if-answer-ne0.true in
     record { value = w.0; bus_after = w.1.0; notes_after = w.1.1 }
 
 pub slice_bounds-put_run-end : goal.slice_bounds-put_run-end
@@ -33,5 +33,5 @@ returns c =
     let a = c.args in
     let g = c.go-g.ensures in
     let w = run_ended a.bus.now a.notes.now a.most _ c.lent_reason-reason.ensures c.if-reason-ne0.false _ _ _ g.answer_value
-        g.notes_value g.s_after c.if-answer-ne0.false _ c.put_run.ensures in
+    g.notes_value g.s_after c.if-answer-ne0.false _ c.put_run.ensures in
     record { value = w.0; bus_after = w.1.0; notes_after = w.1.1 }

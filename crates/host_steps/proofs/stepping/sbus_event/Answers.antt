@@ -16,7 +16,7 @@ returns-then-told-ne0 c =
     let a = c.args in
     let g = c.give-told.ensures in
     let w = event_refused a.bus.now a.notes.now a.unit a.event a.value.now _ c.event_number.ensures _ c.lent_reason-reason.ensures
-        c.if-reason-ne0.false _ _ g.value g.s_after _ c.number.ensures c.if-told-ne0.true in
+    c.if-reason-ne0.false _ _ g.value g.s_after _ c.number.ensures c.if-told-ne0.true in
     record { value = w.0; bus_after = w.1.0; notes_after = w.1.1 }
 
 pub returns : goal.returns
@@ -24,5 +24,5 @@ returns c =
     let a = c.args in
     let g = c.give-told.ensures in
     let w = event_ended a.bus.now a.notes.now a.unit a.event a.value.now _ c.event_number.ensures _ c.lent_reason-reason.ensures
-        c.if-reason-ne0.false _ _ g.value g.s_after c.if-told-ne0.false _ c.record_in-period.ensures _ c.put_told.ensures in
+    c.if-reason-ne0.false _ _ g.value g.s_after c.if-told-ne0.false _ c.record_in-period.ensures _ c.put_told.ensures in
     record { value = w.0; bus_after = w.1.0; notes_after = w.1.1 }
