@@ -1,3 +1,2 @@
--- Alignment: its range is kept, and when the event of loss comes (Alignments); a period by tests put together (Following).
-pub mod Following
+-- Alignment: its range is kept, and when the event of loss comes (Alignments).
 pub mod Alignments

@@ -1,4 +1,6 @@
 // Alignment of one end (document 01, "The line", last paragraph).
+#![tactic(auto)]
+
 ghost use Rattle.std.specs.Prelude.{◌≡◌};
 ghost use Rattle.alignment.specs.Alignment as spec;
 
@@ -45,6 +47,7 @@ impl Alignment {
     // Follows a period, with or without a pulse, framed or not. A framed one counts while
     // unaligned, an unframed one with a pulse while aligned. One that counts makes the run longer,
     // or changes alignment where the run is then long enough.
+    #[tactic(auto, unfolding(crate::specs::Alignment::followed, crate::specs::Alignment::framed_period, crate::specs::Alignment::unframed_period))]
     pub fn follow(self, pulse: bool, framed: bool) -> Followed
         ensures { result ≡ spec.followed spec.framed_to_gain spec.unframed_to_lose pulse framed self }
     {

@@ -6,7 +6,6 @@ use Prim.Native.Nat.{ℕ, zero, suc, ◌+◌, ◌≤◌, ◌<◌}
 use native.Mathlib.Omega.{arith}
 use native.Mathlib.Numerals.{add-one}
 use lib.Dec.{eqb}
-use lib.ListN.{length}
 use borrow.Author.Tests.{leb-true, leb-false, eqb-false, eq-eqb, ne_eqb}
 use Rattle.dchannel.specs.declared.access.Access.{Access}
 use Rattle.test_lemmas.proofs.ByCases.{by_test}

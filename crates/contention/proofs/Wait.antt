@@ -16,7 +16,7 @@ use Rattle.test_lemmas.proofs.ByCases.{by_test}
 use Rattle.dchannel.specs.Access.{low_of, threshold, count_after}
 use Rattle.contention.specs.Channel.{Contender, Channel, Action, access_step_at, contender_after_e, run}
 use Rattle.contention.specs.Stretch.{Stretch, onward, contender, Waits, Completes, how_many, active_count, ImagesAtMost}
-use Rattle.contention.specs.Claims.{at, wait_bound, CompletedWithin, WaitEnds, InStretches}
+use Rattle.contention.specs.Claims.{wait_bound, CompletedWithin, WaitEnds, InStretches}
 use Rattle.contention.specs.Invariant.{Invariant}
 use Rattle.dchannel.proofs.AccessLaws.{count_one, count_stays, count_some}
 use Rattle.contention.proofs.Terminal.{Outcome, outcome, CompletedAt, completed, went_on, stopped, started, idled, outside, active_after, body_after, count_after_lem, level, level_least, level_most, level_threshold, threshold_low, threshold_of, low_stays, normal_stays, completed_low}

@@ -1,6 +1,6 @@
 -- Laws: stretches and what document 01, "Lists and stretches", says of the D opportunities in them.
 -- Interface: none but for laws and proofs. Assumes nothing.
-use Rattle.std.specs.Prelude.{Bool, true, false, cond, List, [], ◌∷◌, ◌++◌, ◌≡◌, ℕ, ◌+◌, ◌≤◌, length, get_or}
+use Rattle.std.specs.Prelude.{Bool, true, false, cond, List, [], ◌∷◌, ◌++◌, ◌≡◌, ℕ, ◌+◌, ◌≤◌, get_or}
 use Rattle.dchannel.specs.Access.{low_of}
 use Rattle.hdlc.specs.Reading.{Said, said}
 use Rattle.contention.specs.Channel.{Contender, Channel, Action, fresh_contender, access_step_at, together_d, step}

@@ -1,1 +1,2 @@
 // Terminals on one D channel: definitions (specs/) and theorems (proofs/) alone, no code.
+#![tactic(auto)]

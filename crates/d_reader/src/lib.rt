@@ -1,4 +1,6 @@
 // The network end's reader of D (document 01, "D access (6.1)").
+#![tactic(auto)]
+
 ghost use Rattle.std.specs.Prelude.{◌≡◌, List, ℕ, ◌≤◌, length};
 ghost use Rattle.hdlc.specs.Image.{longest_body};
 ghost use Rattle.hdlc.specs.Reading.{cleared};
@@ -86,6 +88,7 @@ impl Reader {
     }
 
     // Tests whether every field is in its range.
+    #[tactic(auto, unfolding(crate::specs::ReaderRange::reader_in_range))]
     pub fn in_range(self) -> bool
         ensures { result ≡ reader_in_range self }
     {
@@ -125,6 +128,7 @@ impl Reader {
     }
 
     // Gives the record after a bit.
+    #[tactic(auto, unfolding(crate::specs::Counters::after_bit))]
     fn after_bit(self, bit: bool) -> Self
         ensures { result ≡ after_bit bit self }
     {
@@ -156,6 +160,7 @@ impl Reader {
     }
 
     // Gives the record after a data bit; `ones` and `zero` are what these fields become.
+    #[tactic(auto, unfolding(crate::specs::Counters::one_more))]
     fn take_up(self, bit: bool, ones: u8, zero: bool) -> Self
         ensures { result ≡ take_up bit ones zero self }
     {

@@ -88,6 +88,7 @@ impl Access {
     // Hands over a frame of a class, whose image has `length` bits. It is refused with 7 where that
     // is less than the shortest image has or more than the longest, and with 8 where a frame is
     // held.
+    #[tactic(auto, unfolding(crate::specs::Calls::handed, crate::specs::Calls::is_image_length, crate::specs::Handing::taken_up))]
     pub fn hand(self, class: Class, length: u16) -> Handed
         ensures { result ≡ handed class length self }
     {
@@ -123,6 +124,7 @@ impl Access {
     }
 
     // Gives the record as the terminal enters F7: C is 0.
+    #[tactic(auto, unfolding(crate::specs::Access::entered))]
     pub fn enter(self) -> Self
         ensures { result ≡ entered self }
     {
@@ -139,6 +141,7 @@ impl Access {
 
     // Gives the record as the terminal leaves F7: a held frame is dropped, and both levels are
     // normal.
+    #[tactic(auto, unfolding(crate::specs::Handing::left))]
     pub fn leave(self) -> Left
         ensures { result ≡ left self }
     {
@@ -149,6 +152,7 @@ impl Access {
     }
 
     // Takes one D opportunity in F7: e is the E heard, and `next` is the image's bit number `sent`.
+    #[tactic(auto, using(test_lemmas::proofs::Operators::and_cond, crate::proofs::AccessLaws::leaves_at, crate::proofs::AccessLaws::access_step_leaves, crate::proofs::AccessLaws::access_step_ends, crate::proofs::AccessLaws::access_step_idles, crate::proofs::AccessLaws::same_beq), unfolding(crate::proofs::AccessLaws::leaves_at, crate::specs::Access::sends_next, crate::specs::Access::after_e, crate::specs::Access::idles))]
     pub fn access_step(self, e: bool, next: bool) -> AccessStep
         ensures { result ≡ access_step normal1 normal2 e next self }
     {
@@ -185,6 +189,7 @@ impl Access {
     }
 
     // Gives the record with C and the levels after an E.
+    #[tactic(auto, using(test_lemmas::proofs::Operators::without_cond), unfolding(crate::specs::Access::after_e, crate::specs::Access::count_after, crate::specs::Access::low_after))]
     fn after_e(self, e: bool) -> Self
         ensures { result ≡ after_e normal1 normal2 e self }
     {
@@ -209,6 +214,7 @@ impl Access {
     }
 
     // Ends a sending under way: the frame is completed, or it stays held and starts over.
+    #[tactic(auto, using(test_lemmas::proofs::Operators::or_cond), unfolding(crate::specs::Access::completes, crate::specs::Access::stops))]
     fn ends(self, completed: bool) -> AccessStep
         ensures { result ≡ cond completed (completes self) (stops self) }
     {
@@ -244,6 +250,7 @@ impl Access {
     }
 
     // Tests whether a held frame starts: C has reached the threshold of its class at its level.
+    #[tactic(auto, using(test_lemmas::proofs::Operators::without_cond, test_lemmas::proofs::Operators::byte_cond), unfolding(crate::specs::Access::may_start, crate::specs::Access::threshold, crate::specs::Access::low_of))]
     fn may_start(self) -> bool
         ensures { result ≡ may_start normal1 normal2 self }
     {
@@ -254,6 +261,7 @@ impl Access {
     }
 
     // Tests whether every further E of 1 leaves the record as it is.
+    #[tactic(auto, unfolding(crate::specs::AtRest::at_rest))]
     pub fn at_rest(self) -> bool
         ensures { result ≡ at_rest normal2 self }
     {
@@ -261,6 +269,7 @@ impl Access {
     }
 
     // Tests whether every field is in its range.
+    #[tactic(auto, unfolding(crate::specs::Ranges::access_in_range))]
     pub fn in_range(self) -> bool
         ensures { result ≡ access_in_range normal2 self }
     {

@@ -22,6 +22,7 @@ pub struct Upward {
 
 impl Downward {
     // Gives the event of table 6-2 that the line is, where the period makes f of alignment.
+    #[tactic(auto, unfolding(crate::specs::Heard::downward_event))]
     pub fn event(self, f: Followed) -> u8
         ensures { result ≡ downward_event self f }
     {
@@ -46,6 +47,7 @@ impl Downward {
 
 impl Upward {
     // Gives the event of table 6-3 that the line is, besides loss, 0 for none.
+    #[tactic(auto, unfolding(crate::specs::Heard::upward_event))]
     pub fn event(self, f: Followed) -> u8
         ensures { result ≡ upward_event self f }
     {
@@ -65,6 +67,7 @@ impl Upward {
 }
 
 // Gives the event of loss at the network end, 0 for none.
+#[tactic(auto, unfolding(crate::specs::Heard::loss_up))]
 pub fn loss_up(f: Followed) -> u8
     ensures { result ≡ loss_up f }
 {

@@ -1,4 +1,6 @@
 // The network end: states G1 to G4, alignment, T1 and T2.
+#![tactic(auto)]
+
 ghost use Rattle.std.specs.Prelude.{cond, ◌≡◌};
 ghost use Rattle.notes_and_cells.specs.Cells.{cell_of};
 ghost use Rattle.notes_and_cells.specs.CellParts.{is_void};
@@ -73,6 +75,7 @@ impl Network {
 
     // Takes a request, `ar` or `dr`, by its number in table 6-3. Any other number is refused with
     // 4, and a request whose cell is impossible or empty with 5.
+    #[tactic(auto, using(crate::proofs::TwoEvents::is_request_lem, crate::proofs::Barred::asked), unfolding(crate::specs::Calls::checked, crate::specs::Network::requests))]
     pub fn request(self, event: u8, now: Periods) -> NetworkStep
         ensures { result ≡ calls.request_call event now self }
     {
@@ -88,6 +91,7 @@ impl Network {
     }
 
     // Starts a period: takes the events of T1, then of T2, where they are due.
+    #[tactic(auto, using(crate::proofs::TwoEvents::t1_is, crate::proofs::TwoEvents::t2_is, crate::proofs::TwoEvents::timers_are), unfolding(crate::specs::Calls::checked))]
     pub fn timer_due(self, now: Periods) -> NetworkStep
         ensures { result ≡ calls.timer_call now self }
     {
@@ -106,6 +110,7 @@ impl Network {
 
     // Hears a period's upward line: takes the event of loss, if any, and then the event that the
     // line is.
+    #[tactic(auto, using(crate::proofs::TwoEvents::heard_with_loss, crate::proofs::TwoEvents::heard_without, crate::proofs::Barred::happened), unfolding(crate::specs::Calls::checked, crate::specs::Network::aligned))]
     pub fn hear(self, line: Upward, now: Periods) -> NetworkStep
         ensures { result ≡ calls.hear_call line now self }
     {
@@ -163,6 +168,7 @@ impl Network {
 
     // Takes an event of table 6-3: does what its cell says and replies 0; where the cell is
     // impossible or empty, changes nothing and replies `barred`.
+    #[tactic(auto, unfolding(crate::specs::Network::happens, crate::specs::Network::acts, crate::specs::Network::moved))]
     fn happens(self, barred: u8, event: u8, now: Periods) -> NetworkStep
         ensures { result ≡ cond (is_void (cell_of table63 event self.state))
             (spec.unchanged barred self) (spec.happens event now.0 self) }
@@ -187,6 +193,7 @@ impl Network {
 
     // Takes the event of a timer if it has `expired`, at the record with t1 and t2 in the place of
     // its timers; else changes nothing.
+    #[tactic(auto, using(crate::proofs::Barred::happened))]
     fn expires(self, expired: bool, t1: u64, t2: u64, event: u8, now: Periods) -> NetworkStep
         ensures { result ≡ cond expired
             (spec.happens event now.0 (record { t1 = t1; t2 = t2; state = self.state; alignment = self.alignment }))

@@ -3,14 +3,12 @@
 use mathlib.Core.Path.{◌≡◌, refl, ap, sym, ◌∙◌, subst}
 use mathlib.Core.Bool.{Bool, true, false, cond}
 use mathlib.Core.List.{List, [], ◌∷◌}
-use Prim.Native.Nat.{ℕ, zero, suc, ◌+◌, ◌<◌}
+use Prim.Native.Nat.{ℕ, zero, suc, ◌+◌, ◌<◌, ◌≤◌}
 use native.Mathlib.Nat.{add-zero, zero-add, add-suc, suc-add}
 use native.Mathlib.Omega.{arith}
 use lib.Dec.{eqb}
 use borrow.Author.Tests.{eqb-true}
 use lib.ListN.{get_or, length, get_or-eq_default}
-use types.Run.{OneOf}
-use mathlib.Core.Logic.{◌⊎◌, inl, inr, ⊎_elim}
 use Rattle.test_lemmas.proofs.ByCases.{both}
 use Rattle.notes_and_cells.specs.Cells.{cell_in, row_of, cell_of, info_in, impossible}
 use Rattle.notes_and_cells.specs.declared.cell.Cell.{Cell}
@@ -105,34 +103,14 @@ pub settled_info : {x : ℕ} (sent : List ℕ) (s : ℕ) → Settled eqb 0 x (0 
 unfolding info_in
 settled_info {x} sent s h = at_every eqb eqb-true 0 x (0 ∷ sent) s h
 
--- The row of event k, where the event is k.
-pub row_at : {x : Cell} (table : List (List Cell)) (event state k : ℕ) → event ≡ k → x ≡ cell_in (row_of table k) state → x ≡ cell_of table event state
-row_at table event state k e h = rw e h
-
--- What the last arm knows of the event: it is none of 1 to n.
-abbrev pub NoneOf : ℕ → ℕ → Type 0
-NoneOf zero event = Unit {0}
-NoneOf (suc n) event = NoneOf n event × (OneOf (suc n ∷ []) event → ⊥)
-
-beyond : (n event : ℕ) → NoneOf n event → (event ≡ 0) ⊎ (n < event)
-beyond zero zero h = inl refl
-beyond zero (suc event) h = inr (omega arith)
-beyond (suc n) event h = ⊎_elim (λ e. inl e) (λ l. inr (higher n event l h.1)) (beyond n event h.0)
-  where
-    higher : (n event : ℕ) → n < event → (event ≡ suc n → ⊥) → suc n < event
-    higher n event l f = omega arith
-
 pub no_cells : (s : ℕ) → Impossible ≡ cell_in [] s
 unfolding cell_in
 no_cells zero = refl
 no_cells (suc s) = refl
 
 -- An event past the table's rows, or 0, has impossible cells.
-pub no_row : (table : List (List Cell)) (event state : ℕ) → NoneOf (length table) event → Impossible ≡ cell_of table event state
-no_row table event state h = ⊎_elim (λ e. at_zero e) (λ l. past_all l) (beyond (length table) event h)
-  where
-    at_zero : event ≡ 0 → Impossible ≡ cell_of table event state
-    at_zero e = rw e (no_cells state)
-
-    past_all : length table < event → Impossible ≡ cell_of table event state
-    past_all l = let e : row_of table event ≡ [] = get_or-eq_default ([] ∷ table) [] l in rw e (no_cells state)
+pub no_row : (table : List (List Cell)) (event state : ℕ) → (1 ≤ event → event ≤ length table → ⊥) → Impossible ≡ cell_of table event state
+no_row table zero state h = no_cells state
+no_row table (suc event) state h =
+    let past : length table < suc event = omega arith in
+    let e : row_of table (suc event) ≡ [] = get_or-eq_default ([] ∷ table) [] past in rw e (no_cells state)

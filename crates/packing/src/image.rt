@@ -38,6 +38,7 @@ struct Packer {
 
 // Packs a body's image into `out` and answers its length in bits. A buffer that has no room for the
 // longest image is refused with 2, a body that is empty or too long with 7.
+#[tactic(auto, using(crate::proofs::PackerLaws::taken_bits), unfolding(crate::specs::Packing::imaged, crate::specs::Packing::imaged_octets, crate::specs::Packing::image_meaning, crate::specs::Packing::image_or, crate::specs::Packing::is_body_length))]
 pub fn image(body: &[u8], out: &mut [u8]) -> Imaged
     ensures value { result ≡ imaged body.now out.old }
     ensures out_after { out.new ≡ imaged_octets body.now out.old }
@@ -57,6 +58,7 @@ pub fn image(body: &[u8], out: &mut [u8]) -> Imaged
 }
 
 // Gives bit i of packed octets, 0 past their end.
+#[tactic(auto, unfolding(crate::specs::Packing::packed_bit, hdlc::specs::Bits::bit_of))]
 pub fn packed_bit(octets: &[u8], i: u16) -> bool
     ensures { result ≡ packed_bit octets.now i }
 {
@@ -71,6 +73,7 @@ pub fn packed_bit(octets: &[u8], i: u16) -> bool
 
 impl Packer {
     // Puts one bit; with its eighth bit an octet goes to its place in `out`.
+    #[tactic(auto, unfolding(crate::specs::Packer::put_bit, crate::specs::Packer::put_bit_octets, crate::specs::Packer::store_octet))]
     fn put_bit(self, bit: bool, out: &mut [u8]) -> Self
         requires at_bound { self.at < 8 * image_room }
         requires ones_bound { self.ones < 255 }

@@ -1,3 +1,5 @@
 // A body's image packed into octets.
+#![tactic(auto)]
+
 pub mod bits;
 pub mod image;

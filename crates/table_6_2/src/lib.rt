@@ -1,5 +1,7 @@
 // Table 6-2 of JT-I430: what a terminal in a state, F1 to F8, does at an event. The cells stand row
 // by row in specs/Table62.antt.
+#![tactic(auto)]
+
 ghost use Rattle.std.specs.Prelude.{◌≡◌};
 ghost use Rattle.notes_and_cells.specs.Cells.{cell_in, cell_of, info_in};
 ghost use Rattle.table_6_2.specs.Table62 as table;

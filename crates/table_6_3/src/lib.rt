@@ -1,5 +1,7 @@
 // Table 6-3 of JT-I430: what the network end in a state, G1 to G4, does at an event. The cells
 // stand row by row in specs/Table63.antt.
+#![tactic(auto)]
+
 ghost use Rattle.std.specs.Prelude.{◌≡◌};
 ghost use Rattle.notes_and_cells.specs.Cells.{cell_in, cell_of, info_in};
 ghost use Rattle.table_6_3.specs.Table63 as table;

@@ -10,12 +10,10 @@ use Rattle.notes_and_cells.specs.declared.cell.Cell.{Cell}
 use Rattle.notes_and_cells.specs.declared.cell.Cell.TheVariants.{To, Stay, Impossible, Absent}
 use Rattle.notes_and_cells.proofs.Everywhere.{at_state}
 use Rattle.notes_and_cells.proofs.NextState.{alike, alike_is}
-use Rattle.dchannel.specs.declared.access.Access.{Access}
 use Rattle.table_6_2.specs.Table62.{table62, F1, F8, ar_row}
 use Rattle.timing.specs.Calls.{periods_in_range}
 use Rattle.timing.specs.declared.counts.Periods.{Periods}
 use Rattle.alignment.specs.Alignment.{framed_to_gain, unframed_to_lose, followed}
-use Rattle.alignment.specs.declared.Alignment.{Alignment}
 use Rattle.alignment.specs.declared.Followed.{Followed}
 use Rattle.heard_line.specs.Heard.{downward_event}
 use Rattle.heard_line.specs.declared.heard.Downward.{Downward}

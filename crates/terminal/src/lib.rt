@@ -1,4 +1,6 @@
 // A terminal: states F1 to F8, alignment, T3 and its D access.
+#![tactic(auto)]
+
 ghost use Rattle.std.specs.Prelude.{◌≡◌, cond, ◌++◌};
 ghost use Rattle.notes_and_cells.specs.declared.cell.Cell.TheVariants.{To};
 ghost use Rattle.notes_and_cells.specs.Cells.{cell_of};
@@ -70,6 +72,7 @@ impl Terminal {
     }
 
     // Switches power on: refused with 5 outside F1. It finds the terminal unaligned, with no run.
+    #[tactic(auto, using(test_lemmas::proofs::Operators::cond_not, crate::proofs::Barred::happens_void), unfolding(crate::specs::Calls::checked, crate::specs::Terminal::switches_on, crate::specs::Terminal::aligned, crate::specs::Terminal::bars))]
     pub fn switch_on(self, now: Periods) -> TerminalStep
         ensures { result ≡ calls.switch_on_call now self }
     {
@@ -85,6 +88,7 @@ impl Terminal {
     }
 
     // Switches power off: refused with 5 in F1. It stops T3.
+    #[tactic(auto, using(test_lemmas::proofs::Operators::cond_not, crate::proofs::Barred::happens_void), unfolding(crate::specs::Calls::checked, crate::specs::Terminal::switches_off, crate::specs::Terminal::no_timer, crate::specs::Terminal::bars))]
     pub fn switch_off(self, now: Periods) -> TerminalStep
         ensures { result ≡ calls.switch_off_call now self }
     {
@@ -100,6 +104,7 @@ impl Terminal {
 
     // Hands over a frame of a class, whose image has `length` bits: refused with 6 outside F7, and
     // else with 7 or 8 as the D access refuses it.
+    #[tactic(auto, unfolding(crate::specs::Calls::hand_over_call, crate::specs::Calls::hands_over, crate::specs::Calls::holding))]
     pub fn hand_over(self, class: Class, length: u16) -> TerminalStep
         ensures { result ≡ calls.hand_over_call class length self }
     {
@@ -116,6 +121,7 @@ impl Terminal {
     }
 
     // Starts a period: takes the event of T3 where it is due, and T3 is spent.
+    #[tactic(auto, using(crate::proofs::Barred::happens_void), unfolding(crate::specs::Calls::checked, crate::specs::Terminal::timer, crate::specs::Terminal::no_timer))]
     pub fn timer_due(self, now: Periods) -> TerminalStep
         ensures { result ≡ calls.timer_call now self }
     {
@@ -124,6 +130,7 @@ impl Terminal {
 
     // Hears a period's downward line: takes the event that the line is. A terminal in F1 hears
     // nothing.
+    #[tactic(auto, using(crate::proofs::Barred::heard_is), unfolding(crate::specs::Calls::checked, crate::specs::Terminal::aligned))]
     pub fn hear(self, line: Downward, now: Periods) -> TerminalStep
         ensures { result ≡ calls.hear_call line now self }
     {
@@ -142,6 +149,7 @@ impl Terminal {
     // If `holds`, takes an event at the record with `t3` and `alignment` in the place of its own,
     // and replies `barred` where the event's cell is impossible or empty; else changes nothing and
     // replies `reply`. Where record or period is out of range, the call is refused with 1.
+    #[tactic(auto, using(crate::proofs::RangesKept::ready_both), unfolding(crate::specs::Calls::checked))]
     fn when(
         self,
         holds: bool,
@@ -215,6 +223,7 @@ impl Terminal {
 
     // Moves to a cell's next state, with the cell's timer action; its notes come after the note of
     // a frame that is dropped on the way.
+    #[tactic(auto, unfolding(crate::specs::Terminal::acts, crate::specs::Terminal::moved))]
     fn moves(self, next: u8, action: u8, notes: Notes, now: Periods) -> TerminalStep
         requires { packed_notes (noted notes) ≡ notes }
         ensures { result ≡ spec.acts (To next action notes) now.0 self }
@@ -243,6 +252,7 @@ impl Terminal {
 
 // Gives the D access on the way from a state to the next, and the class of the frame that is
 // dropped there, 0 for none.
+#[tactic(auto, unfolding(crate::specs::Terminal::access_after))]
 fn access_after(from: u8, next: u8, access: Access) -> Left
     ensures { result ≡ spec.access_after from next access }
 {
@@ -263,6 +273,7 @@ fn access_after(from: u8, next: u8, access: Access) -> Left
 }
 
 // Gives the notes of a cell, after the note of a dropped frame of this class, 0 for none.
+#[tactic(auto, using(notes_and_cells::proofs::NotesKept::few, notes_and_cells::proofs::NotesKept::put_first), unfolding(crate::specs::Terminal::dropped_note))]
 fn after_dropped(class: u8, notes: Notes) -> Notes
     requires { packed_notes (noted notes) ≡ notes }
     ensures { result ≡ packed_notes (spec.dropped_note class ++ noted notes) }

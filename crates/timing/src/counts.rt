@@ -30,6 +30,7 @@ impl Periods {
     }
 
     // Counts one period more, where one can be run.
+    #[tactic(auto, unfolding(crate::specs::Calls::next_period))]
     pub fn next_period(self) -> Self
         ensures { result ≡ next_period self }
     {
@@ -50,6 +51,7 @@ impl Opportunities {
     }
 
     // Counts the four of a period in G3.
+    #[tactic(auto, unfolding(crate::specs::Calls::four_more))]
     pub fn four_more(self) -> Self
         ensures { result ≡ four_more self }
     {

@@ -1,3 +1,5 @@
 // Counts of periods and D opportunities, and timers.
+#![tactic(auto)]
+
 pub mod counts;
 pub mod timers;

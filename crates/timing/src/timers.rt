@@ -14,6 +14,7 @@ pub const T2: u32 = 200;
 pub const T3: u32 = 120_000;
 
 // Tests whether a timer is due at the start of period `now`.
+#[tactic(auto, unfolding(crate::specs::Timers::due))]
 pub fn due(timer: u64, now: Periods) -> bool
     ensures { result ≡ due timer now.0 }
 {
@@ -25,6 +26,7 @@ pub fn due(timer: u64, now: Periods) -> bool
 
 // Gives a timer after a cell's action in period `now`: where this is `start`, it is started with
 // `length`; else it stays.
+#[tactic(auto, unfolding(crate::specs::Timers::started_by))]
 pub fn started_by(start: u8, length: u32, action: u8, now: Periods, timer: u64) -> u64
     ensures { result ≡ started_by start length action now.0 timer }
 {
@@ -37,6 +39,7 @@ pub fn started_by(start: u8, length: u32, action: u8, now: Periods, timer: u64) 
 
 // Gives a timer after a cell's action in period `now`, where START starts it with `length` and STOP
 // stops it: T1 in table 6-3, T3 in table 6-2.
+#[tactic(auto, unfolding(crate::specs::Timers::timer_after))]
 pub fn timer_after(length: u32, action: u8, now: Periods, timer: u64) -> u64
     ensures { result ≡ timer_after length action now.0 timer }
 {
@@ -48,6 +51,7 @@ pub fn timer_after(length: u32, action: u8, now: Periods, timer: u64) -> u64
 
 // Gives how many of the next periods' starts come before a timer is due, `most` at most; `now` is
 // the coming period.
+#[tactic(auto, unfolding(crate::specs::Clear::clear))]
 pub fn clear(now: Periods, most: u32, timer: u64) -> u32
     ensures { result ≡ clear now.0 most timer }
 {

@@ -1,6 +1,5 @@
 use native.Mathlib.Omega.{arith}
 use lib.ListN.{length}
-use Prim.Native.Nat.{◌-◌}
 use Rattle.hdlc.specs.Bits.{body_bits}
 use Rattle.hdlc.specs.Image.{stuff}
 use lib.Seq.{take-length}
@@ -45,15 +44,15 @@ loop-i-preserved c =
     let again =
     body_again c.args.body.now c.loop-i.i c.args.self c.loop-i.packer (omega arith) c.requires.ones_bound c.loop-i.invariant.1 _ c.packed_bit.ensures in
     elim c.if-packer-eq5.branch [
-        then-packer-eq5 w ↦
-        let second = w.put_bit-packer-then-packer-eq5.ensures in
-        let y =
-        put_two _ _ _ _ _ c.put_bit-packer.ensures.value c.put_bit-packer.ensures.out_after _ _ w.if-packer-eq5.true (w.packer-is ∙ second.value)
-        (w.out-is ∙ second.out_after) in
-        let x = again _ c.args.out.now _ _ c.loop-i.invariant.2 y.0 y.1 in (omega arith, x.0, x.1)
+      | then-packer-eq5 w ↦
+          let second = w.put_bit-packer-then-packer-eq5.ensures in
+          let y =
+          put_two _ _ _ _ _ c.put_bit-packer.ensures.value c.put_bit-packer.ensures.out_after _ _ w.if-packer-eq5.true (w.packer-is ∙ second.value)
+          (w.out-is ∙ second.out_after) in
+          let x = again _ c.args.out.now _ _ c.loop-i.invariant.2 y.0 y.1 in (omega arith, x.0, x.1)
       | else-packer-eq5 w ↦
-        let y = put_one _ _ _ _ _ c.put_bit-packer.ensures.value c.put_bit-packer.ensures.out_after w.if-packer-eq5.false in
-        let x = again _ c.args.out.now _ _ c.loop-i.invariant.2 (w.packer-is ∙ y.0) (w.out-is ∙ y.1) in (omega arith, x.0, x.1)
+          let y = put_one _ _ _ _ _ c.put_bit-packer.ensures.value c.put_bit-packer.ensures.out_after w.if-packer-eq5.false in
+          let x = again _ c.args.out.now _ _ c.loop-i.invariant.2 (w.packer-is ∙ y.0) (w.out-is ∙ y.1) in (omega arith, x.0, x.1)
     ]
 
 pub returns-clause-value : goal.returns-clause-value

@@ -1,6 +1,5 @@
 use mathlib.Core.Path.{refl}
 use native.Mathlib.Omega.{arith}
-use Prim.Native.Nat.{◌-◌}
 use Rattle.packing.specs.Packer.{put_bits, put_bits_octets}
 use Rattle.packing.proofs.ImageParts.{plain_again, plain_room}
 use Rattle.packing.proofs.image.Packer.put_plain.Goals as goal
