@@ -19,11 +19,12 @@ returns-then-not-answer c =
 pub overflow_sub-bus : goal.overflow_sub-bus
 overflow_sub-bus c =
     let a = c.args in
+    let r = c.requires in
     omega (
       arith,
       ap (λ (x : RunAnswer). x.bus.periods.0) c.run-g.ensures.answer_value,
-      ran_some a.u.bus a.u.terminals a.images.now a.octets.now a.letters.now a.to a.room.now a.u.wrote c.requires.ready c.requires.periods_lt_to
-          c.requires.to_le_most_periods,
+      ran_some a.u.bus a.u.terminals a.images.now a.octets.now a.letters.now a.to a.room.now a.u.wrote r.ready r.periods_lt_to
+          r.to_le_most_periods,
     )
 
 pub returns : goal.returns

@@ -7,8 +7,9 @@ use Rattle.book_go_on.specs.RunTo.{RunsTo}
 use Rattle.book_go_on.proofs.run_to.run_to.Given as goal
 
 abbrev pub invariant-loop-u : goal.invariant-loop-u
-invariant-loop-u l = RunsTo (found l.initial.u.bus l.initial.u.terminals l.images l.initial.octets l.letters) l.to l.initial.room l.initial.u.wrote (found l.u.bus l.u.terminals l.images l.octets l.letters)
-    l.u.wrote l.room
+invariant-loop-u l =
+    RunsTo (found l.initial.u.bus l.initial.u.terminals l.images l.initial.octets l.letters) l.to l.initial.room l.initial.u.wrote
+    (found l.u.bus l.u.terminals l.images l.octets l.letters) l.u.wrote l.room
     × (length l.octets ≡ length l.initial.octets)
 
 abbrev pub decreases-loop-u : goal.decreases-loop-u

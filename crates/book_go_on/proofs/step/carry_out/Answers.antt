@@ -18,12 +18,13 @@ use Rattle.book_go_on.proofs.Moving.{turns, steps_at, step_first, step_done, ste
 use Rattle.book_go_on.proofs.step.carry_out.Goals as goal
 
 -- what is read may be written another way
-reads_as : {text : List ℕ} {at : ℕ} {whole : Bool} {s : BookState} {said said' : Step} {value : List ℕ} → Reads text at whole s said value → said ≡ said'
-    → Reads text at whole s said' value
+reads_as : {text : List ℕ} {at : ℕ} {whole : Bool} {s : BookState} {said said' : Step} {value : List ℕ} → Reads text at whole s said value
+    → said ≡ said' → Reads text at whole s said' value
 reads_as r e = rw e at r
 
 -- the value that is at hand has few octets
-few : (number : ℕ) (value value' : List ℕ) → length (value_octets number value) ≤ value_room → value ≡ value' → length (value_octets number value') ≤ value_room
+few : (number : ℕ) (value value' : List ℕ) → length (value_octets number value) ≤ value_room → value ≡ value'
+    → length (value_octets number value') ≤ value_room
 few number value value' h e = rw e at h
 
 pub line-requires : goal.line-requires
@@ -47,13 +48,14 @@ pub returns-in-Begun-clause-steps_by : goal.returns-in-Begun-clause-steps_by
 unfolding taken_by
 returns-in-Begun-clause-steps_by c =
     let a = c.args in
+    let r = c.requires in
     let g = a.w.progress in
+    let k = found g.bus g.terminals a.images.now a.octets.now a.letters.now in
     let e = c.in-Begun.is in
     let n = c.octets_of.ensures ∙ ap taken_by e in
     (turns a.w a.images.now a.octets.now a.letters.now a.room.now a.said a.value.now at_lines g.begun g.over _ a.w.wrote 0 _
-    (λ text at whole q. steps_at _
-    (step_first text whole (found g.bus g.terminals a.images.now a.octets.now a.letters.now) g.stage g.begun g.over at
-    a.room.now a.w.wrote c.requires.goes.fits c.requires.begun_value c.requires.over_value (q ∙ e)) (ap (λ (k : ℕ). at + k) (sym n))) c.stays.result c.stays.ensures).0
+    (λ text at whole q. steps_at _ (step_first text whole k g.stage g.begun g.over at a.room.now a.w.wrote
+    r.goes.fits r.begun_value r.over_value (q ∙ e)) (ap (λ (k : ℕ). at + k) (sym n))) c.stays.result c.stays.ensures).0
 
 pub returns-in-Entry-clause-steps_by : goal.returns-in-Entry-clause-steps_by
 returns-in-Entry-clause-steps_by c =
@@ -63,29 +65,32 @@ returns-in-Entry-clause-steps_by c =
 pub returns-in-Done-clause-steps_by : goal.returns-in-Done-clause-steps_by
 returns-in-Done-clause-steps_by c =
     let a = c.args in
+    let r = c.requires in
     let g = a.w.progress in
+    let k = found g.bus g.terminals a.images.now a.octets.now a.letters.now in
     let e = c.in-Done.is in
     (turns a.w a.images.now a.octets.now a.letters.now a.room.now a.said a.value.now g.stage g.begun true 0 a.w.wrote OVER _
-    (λ text at whole q. steps_at 0
-    (step_done text whole (found g.bus g.terminals a.images.now a.octets.now a.letters.now) g.stage g.begun g.over at
-    a.room.now a.w.wrote c.requires.goes.fits c.requires.begun_value c.requires.over_value (q ∙ e)) (omega arith)) c.turned.result c.turned.ensures).0
+    (λ text at whole q. steps_at 0 (step_done text whole k g.stage g.begun g.over at a.room.now a.w.wrote
+    r.goes.fits r.begun_value r.over_value (q ∙ e)) (omega arith)) c.turned.result c.turned.ensures).0
 
 pub returns-in-Fault-clause-steps_by : goal.returns-in-Fault-clause-steps_by
 returns-in-Fault-clause-steps_by c =
     let a = c.args in
+    let r = c.requires in
     let g = a.w.progress in
+    let k = found g.bus g.terminals a.images.now a.octets.now a.letters.now in
     let e = c.in-Fault.is in
     (turns a.w a.images.now a.octets.now a.letters.now a.room.now a.said a.value.now g.stage g.begun true 0 _ OVER _
-    (λ text at whole q. steps_at 0
-    (step_fault text whole (found g.bus g.terminals a.images.now a.octets.now a.letters.now) g.stage g.begun g.over at
-    a.room.now a.w.wrote c.requires.goes.fits c.requires.begun_value c.requires.over_value _ (omega arith) (q ∙ e) c.requires.period_room_in_bounds _ _ c.put_stopped-wrote.ensures) (omega arith)) c.turned-in-Fault.result c.turned-in-Fault.ensures).0
+    (λ text at whole q. steps_at 0 (step_fault text whole k g.stage g.begun g.over at a.room.now a.w.wrote
+    r.goes.fits r.begun_value r.over_value _ (omega arith) (q ∙ e) r.period_room_in_bounds _ _ c.put_stopped-wrote.ensures) (omega arith)) c.turned-in-Fault.result c.turned-in-Fault.ensures).0
 
 pub returns-in-More-clause-steps_by : goal.returns-in-More-clause-steps_by
 returns-in-More-clause-steps_by c =
     let a = c.args in
+    let r = c.requires in
     let g = a.w.progress in
+    let k = found g.bus g.terminals a.images.now a.octets.now a.letters.now in
     let e = c.in-More.is in
     (turns a.w a.images.now a.octets.now a.letters.now a.room.now a.said a.value.now g.stage g.begun g.over 0 a.w.wrote TEXT _
-    (λ text at whole q. steps_at 0
-    (step_more text whole (found g.bus g.terminals a.images.now a.octets.now a.letters.now) g.stage g.begun g.over at
-    a.room.now a.w.wrote c.requires.goes.fits c.requires.begun_value c.requires.over_value (q ∙ e)) (omega arith)) c.stays-in-More.result c.stays-in-More.ensures).0
+    (λ text at whole q. steps_at 0 (step_more text whole k g.stage g.begun g.over at a.room.now a.w.wrote
+    r.goes.fits r.begun_value r.over_value (q ∙ e)) (omega arith)) c.stays-in-More.result c.stays-in-More.ensures).0

@@ -12,26 +12,26 @@ pub returns-then-w-clause-steps_by : goal.returns-then-w-clause-steps_by
 returns-then-w-clause-steps_by c =
     let a = c.args in
     let g = a.w.progress in
+    let k = found g.bus g.terminals a.images.now a.octets.now a.letters.now in
     (turns a.w a.images.now a.octets.now a.letters.now a.room.now a.said a.value.now g.stage g.begun g.over 0 a.w.wrote OVER _
-    (λ text at whole q. steps_at 0
-    (step_over text whole (found g.bus g.terminals a.images.now a.octets.now a.letters.now) g.stage g.begun g.over at
-    a.room.now a.w.wrote c.requires.goes.fits c.if-w.true) (omega arith)) c.stays.result c.stays.ensures).0
+    (λ text at whole q. steps_at 0 (step_over text whole k g.stage g.begun g.over at a.room.now a.w.wrote
+    c.requires.goes.fits c.if-w.true) (omega arith)) c.stays.result c.stays.ensures).0
 
 pub returns-then-not-has_room-clause-steps_by : goal.returns-then-not-has_room-clause-steps_by
 returns-then-not-has_room-clause-steps_by c =
     let a = c.args in
     let g = a.w.progress in
+    let k = found g.bus g.terminals a.images.now a.octets.now a.letters.now in
     (turns a.w a.images.now a.octets.now a.letters.now a.room.now a.said a.value.now g.stage g.begun g.over 0 a.w.wrote ROOM _
-    (λ text at whole q. steps_at 0
-    (step_full text whole (found g.bus g.terminals a.images.now a.octets.now a.letters.now) g.stage g.begun g.over at
-    a.room.now a.w.wrote c.requires.goes.fits (sym c.has_room.ensures ∙ c.if-not-has_room.true) c.if-w.false) (omega arith)) c.stays-then-not-has_room.result c.stays-then-not-has_room.ensures).0
+    (λ text at whole q. steps_at 0 (step_full text whole k g.stage g.begun g.over at a.room.now a.w.wrote
+    c.requires.goes.fits (sym c.has_room.ensures ∙ c.if-not-has_room.true) c.if-w.false) (omega arith)) c.stays-then-not-has_room.result c.stays-then-not-has_room.ensures).0
 
 pub returns-then-not-w-clause-steps_by : goal.returns-then-not-w-clause-steps_by
 returns-then-not-w-clause-steps_by c =
     let a = c.args in
     let g = a.w.progress in
+    let k = found g.bus g.terminals a.images.now a.octets.now a.letters.now in
     (turns a.w a.images.now a.octets.now a.letters.now a.room.now a.said a.value.now g.stage true g.over 0 _ 0 _
-    (λ text at whole q. steps_at 0
-    (step_heading text whole (found g.bus g.terminals a.images.now a.octets.now a.letters.now) g.stage g.begun g.over at
-    a.room.now a.w.wrote c.requires.goes.fits c.if-w.false (not-true g.begun c.if-not-w.true)
+    (λ text at whole q. steps_at 0 (step_heading text whole k g.stage g.begun g.over at a.room.now a.w.wrote
+    c.requires.goes.fits c.if-w.false (not-true g.begun c.if-not-w.true)
     (leb-true _ _ (sym c.has_room.ensures ∙ c.if-not-has_room.false)) _ _ c.put_heading-wrote.ensures) (omega arith)) c.turned.result c.turned.ensures).0

@@ -10,8 +10,8 @@ use Rattle.bus_octets.proofs.shown.letters_in.Goals as goal
 pub returns-then-s-eq-BUS_LENGTH : goal.returns-then-s-eq-BUS_LENGTH
 unfolding letters_read
 returns-then-s-eq-BUS_LENGTH c =
-    let s = c.args.s.now in
-    rw (eq-eqb _ _ c.if-s-eq-BUS_LENGTH.true) (c.put.ensures.room_is ∙ part_back line_length letters_at s (omega (arith, c.if-s-eq-BUS_LENGTH.true)))
+    let e = c.if-s-eq-BUS_LENGTH.true in
+    rw (eq-eqb _ _ e) (c.put.ensures.room_is ∙ part_back line_length letters_at c.args.s.now (omega (arith, e)))
 
 pub returns-else-s-eq-BUS_LENGTH : goal.returns-else-s-eq-BUS_LENGTH
 unfolding letters_read

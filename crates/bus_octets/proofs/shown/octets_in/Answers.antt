@@ -10,8 +10,8 @@ use Rattle.bus_octets.proofs.shown.octets_in.Goals as goal
 pub returns-then-s-eq-BUS_LENGTH : goal.returns-then-s-eq-BUS_LENGTH
 unfolding octets_of
 returns-then-s-eq-BUS_LENGTH c =
-    let s = c.args.s.now in
-    rw (eq-eqb _ _ c.if-s-eq-BUS_LENGTH.true) (c.put.ensures.room_is ∙ part_back longest_body octets_at s (omega (arith, c.if-s-eq-BUS_LENGTH.true)))
+    let e = c.if-s-eq-BUS_LENGTH.true in
+    rw (eq-eqb _ _ e) (c.put.ensures.room_is ∙ part_back longest_body octets_at c.args.s.now (omega (arith, e)))
 
 pub returns-else-s-eq-BUS_LENGTH : goal.returns-else-s-eq-BUS_LENGTH
 unfolding octets_of

@@ -10,7 +10,8 @@ use Rattle.bus_octets.proofs.test.all_in_range.Goals as goal
 
 pub loop-i-preserved : goal.loop-i-preserved
 loop-i-preserved c =
-    (c.loop-i.invariant.0, omega arith, rw (c.loop-i.invariant.2, c.in_range-ok.ensures) (one_read also_in_range true c.loop-i.i _ _ (omega (arith, c.loop-i.invariant.0))))
+    let i = c.loop-i.invariant in
+    (i.0, omega arith, rw (i.2, c.in_range-ok.ensures) (one_read also_in_range true c.loop-i.i _ _ (omega (arith, i.0))))
 
 pub returns : goal.returns
 returns c =
