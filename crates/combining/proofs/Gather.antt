@@ -7,8 +7,8 @@ use native.Mathlib.Omega.{arith}
 use borrow.Author.Tests.{eqb-true}
 use lib.Bits.{bit_or}
 use lib.Dec.{eqb}
-use lib.ListN.{length, get_or, take, drop, length-drop, get_or-replicate}
-use lib.Seq.{drop-drop, length-take-le}
+use lib.ListN.{length, get_or, take, drop, get_or-replicate}
+use lib.Seq.{drop-drop}
 use Rattle.symbols.specs.Symbols.{none, plus, minus, line_length, fits, line_by}
 use Rattle.symbols.specs.Calls.{leaves}
 use Rattle.frame.specs.Bits.{bit}
@@ -80,10 +80,6 @@ small_sending i (l ∷ ls) h =
     let rest = small_sending i ls (λ j. h (suc j)) in
     by_test (is_sending l) (λ t. rw t (small_cons (get_or l i none) (column i (sending ls)) (h 0) rest)) (λ t. rw t rest)
 
--- A part of 48 of the lines.
-pub part_line : (lines : List ℕ) (n : ℕ) → length lines ≡ lines_length → n < terminals → length (take line_length (drop (n * line_length) lines)) ≡ line_length
-part_line lines n h k = length-take-le line_length (drop (n * line_length) lines) (rw length-drop (omega arith))
-
 -- The lines from index n on of terminals that send.
 abbrev to_come : List ℕ → ℕ → List (List ℕ)
 to_come lines n = sending (rows (terminals - n) (drop (n * line_length) lines))
@@ -96,9 +92,6 @@ pub record Gathering (lines out₀ out : List ℕ) (taken n : ℕ) : Type 0 wher
   pub count : lines_taken lines ≡ taken + length (to_come lines n)
   pub value : (i : ℕ) → i < line_length
       → gathered (get_or out₀ i none) (column i (sending (rows terminals lines))) ≡ gathered (get_or out i none) (column i (to_come lines n))
-
-pub gather_start : (lines out : List ℕ) → length out ≡ line_length → Gathering lines out out 0 0
-gather_start lines out h = record { long = h; low = omega arith; few = omega arith; count = omega arith; value = λ i k. refl }
 
 module _ {lines out₀ out : List ℕ} {taken n : ℕ} (m : Gathering lines out₀ out taken n) where
   -- The line at index n.
@@ -169,11 +162,7 @@ combines lines cleared all last h z a e =
         rw (a, get_d_tabulate line_length (λ j. gathered (get_or cleared j none) (column j sent)) i k, z, get_or-replicate {A = ℕ} line_length i none 0 k)
         (gathered_combined (column i sent) (small i))
 
--- What the call replies and leaves, refused or not.
-pub combine_refused : (lines lent : List ℕ) → combine_fits lines lent ≡ false
-    → (Combined.Refused 2 ≡ combined_reply (combine_fits lines lent) (lines_taken lines)) × (lent ≡ leaves (combine_fits lines lent) (eight lines) lent)
-combine_refused lines lent h = (rw h, rw h)
-
+-- What the call replies and leaves where it is lent lines.
 pub combine_done : (lines lent last : List ℕ) (taken : ℕ) → combine_fits lines lent ≡ true → taken ≡ lines_taken lines → last ≡ eight lines
     → (Combined.Line taken ≡ combined_reply (combine_fits lines lent) (lines_taken lines)) × (last ≡ leaves (combine_fits lines lent) (eight lines) lent)
 combine_done lines lent last taken h n e = (rw (h, n), rw h e)

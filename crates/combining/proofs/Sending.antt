@@ -114,9 +114,6 @@ pub record Found (lines : List ℕ) (found : List Bool) (n : ℕ) : Type 0 where
   pub low : n ≤ terminals
   pub done : (k : ℕ) → k < n → get_or found k false ≡ get_or (who_sends lines) k false
 
-pub found_start : (lines : List ℕ) → Found lines (replicate terminals false) 0
-found_start lines = record { long = refl; low = omega arith; done = λ k l. absurd (omega arith) }
-
 module _ {lines : List ℕ} {found : List Bool} {n : ℕ} (m : Found lines found n) where
   -- The terminal at index n sends unless its line has no code above none.
   pub found_next : n < terminals → (pulseless : Bool) → pulseless ≡ fits line_length none (take line_length (drop (n * line_length) lines))

@@ -73,9 +73,6 @@ module _ {w : ℕ} {out₀ out : List ℕ} {bits next i : ℕ} (m : Emitting w o
   pub emit_done : line_length ≤ i → out ≡ line_of w
   emit_done h = fill_done m.filled h ∙ sym (line_is (line_of w) (λ k. get_or (line_of w) k 0) (length_line w) (λ k l. refl))
 
-  pub emit_length : length out ≡ line_length
-  emit_length = m.filled.long
-
 -- The line of the number whose bits are a frame's is the frame's.
 pub of_bits : (bits : List Bool) (w : ℕ) → top_bits 46 w ≡ drop 2 bits → line_of w ≡ symbols bits
 unfolding symbols

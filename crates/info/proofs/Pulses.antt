@@ -1,13 +1,11 @@
 -- The pulses of INFO 4: the line of nones with ten symbols set is INFO 4, for each of the sixteen echoes.
-use mathlib.Core.Path.{◌≡◌, refl, ap}
+use mathlib.Core.Path.{◌≡◌, refl}
 use mathlib.Core.Bool.{Bool, true, false, cond}
 use mathlib.Core.List.{List}
 use Prim.Native.Nat.{ℕ}
-use native.Mathlib.Omega.{arith}
 use lib.Dec.{eqb}
-use lib.ListN.{length, set}
-use Rattle.symbols.specs.Symbols.{none, plus, minus, line_length}
-use Rattle.symbols.specs.Calls.{reply}
+use lib.ListN.{set}
+use Rattle.symbols.specs.Symbols.{none, plus, minus}
 use Rattle.frame.specs.Bits.{octet_bits, zeros}
 use Rattle.frame.specs.Polarity.{opposite, alternate, symbols}
 use Rattle.frame.specs.Down.{down_body, down_bits, down_line}
@@ -57,15 +55,3 @@ pub pulses_put : (e : Four) {line : List ℕ} {fa m s l e₁ e₂ e₃ e₄ last
     → e₁ ≡ at e.first plus → e₂ ≡ at e.second fa → e₃ ≡ at e.third m → e₄ ≡ at e.fourth s → last ≡ at (eqb l minus) minus
     → set (set (set (set (set (set (set (set (set (set line 0 plus) 1 minus) 10 e₁) 13 fa) 23 e₂) 25 m) 34 e₃) 36 s) 45 e₄) 47 last ≡ info4 e
 pulses_put e z p₁ p₂ p₃ p₄ q₁ q₂ q₃ q₄ q₅ = rw (z, q₅, q₄, q₃, q₂, q₁, p₄, p₃, p₂, p₁) (each e.first e.second e.third e.fourth)
-
-pub nones_long : {line : List ℕ} → line ≡ info0 → length line ≡ line_length
-nones_long z = ap length z
-
--- ---- By its reply, whether a call was lent a line.
-pub good_reply : (good : Bool) (n : ℕ) → n ≡ reply good → n ≡ 0 → good ≡ true
-good_reply true n e z = refl
-good_reply false n e z = absurd (omega arith)
-
-pub bad_reply : (good : Bool) (n : ℕ) → n ≡ reply good → (n ≡ 0 → ⊥) → good ≡ false
-bad_reply true n e z = absurd (z e)
-bad_reply false n e z = refl

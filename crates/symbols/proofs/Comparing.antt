@@ -20,9 +20,6 @@ pub record Comparing (xs ys : List ℕ) (ok : Bool) (i : ℕ) : Type 0 where
   pub within : i ≤ length xs
   pub rest : same_symbols xs ys ≡ (ok && same_symbols (drop i xs) (drop i ys))
 
-pub comparing_starts : (xs ys : List ℕ) → length xs ≡ length ys → Comparing xs ys true 0
-comparing_starts xs ys h = record { long = h; within = omega arith; rest = refl }
-
 module _ {xs ys : List ℕ} {ok : Bool} {i : ℕ} (c : Comparing xs ys ok i) where
   here : i < length xs
       → same_symbols (drop i xs) (drop i ys) ≡ (eqb (get_or xs i 0) (get_or ys i 0) && same_symbols (drop (suc i) xs) (drop (suc i) ys))

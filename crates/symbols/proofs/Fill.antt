@@ -60,13 +60,7 @@ pub record Filled (f : ℕ → ℕ) (xs₀ xs : List ℕ) (i : ℕ) : Type 0 whe
   pub done : (k : ℕ) → k < i → get_or xs k 0 ≡ f k
   pub rest : (k : ℕ) → i ≤ k → get_or xs k 0 ≡ get_or xs₀ k 0
 
-pub fill_start : (f : ℕ → ℕ) (xs : List ℕ) → length xs ≡ line_length → Filled f xs xs 0
-fill_start f xs h = record { long = h; done = λ k l. absurd (omega arith); rest = λ k l. refl }
-
 module _ {f : ℕ → ℕ} {xs₀ xs : List ℕ} {i : ℕ} (m : Filled f xs₀ xs i) where
-  pub fill_read : get_or xs i 0 ≡ get_or xs₀ i 0
-  fill_read = m.rest i (omega arith)
-
   pub fill_next : i < line_length → (v : ℕ) → v ≡ f i → Filled f xs₀ (set xs i v) (i + 1)
   fill_next h v e = record {
     long = length-set xs i v ∙ m.long;

@@ -79,6 +79,3 @@ module _ (l : List ℕ) {b : Bool} (e : b ≡ is_line l) where
 
   pub tested_is : b ≡ true → (test : List ℕ → Bool) (a : TestAnswer) (r : Bool) → r ≡ test l → a ≡ answer r → a ≡ tested test l
   tested_is t test a r q p = rw (sym e ∙ t, p, q)
-
-  pub tested_refused : b ≡ false → (test : List ℕ → Bool) → TestAnswer.Refused 2 ≡ tested test l
-  tested_refused t test = rw (sym e ∙ t)

@@ -34,9 +34,6 @@ pub record Tested (F : List ℕ → Bool) (s : List ℕ) (i : ℕ) (ok : Bool) :
   pub low : i ≤ length s
   pub rest : F s ≡ (ok && F (drop i s))
 
-pub tested_start : {F : List ℕ → Bool} {s : List ℕ} → Tested F s 0 true
-tested_start = record { low = omega arith; rest = refl }
-
 module _ {F : List ℕ → Bool} {s : List ℕ} {i : ℕ} {ok : Bool} (r : Tested F s i ok) where
   pub tested_next : (b : Bool) → i < length s → F (get_or s i 0 ∷ drop (suc i) s) ≡ (b && F (drop (suc i) s)) → Tested F s (i + 1) (ok && b)
   tested_next b h e =

@@ -26,6 +26,7 @@ pub enum TestAnswer {
 }
 
 // Tests whether s is n codes, each at most top.
+#[tactic(auto, unfolding(crate::specs::Symbols::fits))]
 pub fn fits(s: &[u8], n: usize, top: u8) -> bool
     ensures { result ≡ spec.fits n top s.now }
 {

@@ -1,8 +1,7 @@
 -- Rattle's operators on bools, as the definitions write them.
 use mathlib.Core.Bool.{Bool, true, false, cond, not, ◌&&◌, ◌||◌}
 use mathlib.Core.Path.{◌≡◌, refl}
-use Prim.Native.Nat.{ℕ, ◌≤◌}
-use native.Mathlib.Omega.{arith}
+use Prim.Native.Nat.{ℕ}
 use mir.Val.{bool_byte}
 
 -- `a | b`
@@ -33,10 +32,6 @@ without_cond false b = refl
 pub byte_cond : (a : Bool) → bool_byte a ≡ cond {A = ℕ} a 1 0
 byte_cond true = refl
 byte_cond false = refl
-
-pub byte_most : (a : Bool) → bool_byte a ≤ 1
-byte_most true = omega arith
-byte_most false = omega arith
 
 -- `!a` in a choice
 pub cond_not : {X : Type 0} (b : Bool) (x y : X) → cond (not b) x y ≡ cond b y x
