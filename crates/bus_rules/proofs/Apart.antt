@@ -29,7 +29,6 @@ use Rattle.terminal.proofs.RangesKept.{terminal_fits}
 use Rattle.bus_rules.specs.Bus.{Station, Bus, terminals, fresh_station, fresh_bus, station_at}
 use Rattle.bus_rules.specs.Exchange.{any_sends, any_info1, any_info3, in_f7, station_after_e, exchanged, whole_down}
 use Rattle.bus_rules.specs.Period.{terminal_hears, stepped, heard_by, timed, period_run}
-use Rattle.notes_and_cells.specs.Events as events
 use Rattle.bus_rules.specs.Event.{class_of, station_of, terminal_does, with_frame, station_after, refusal, event_done}
 use Rattle.bus_rules.specs.Calls.{Call, reply, does, after, after_all}
 use Rattle.bus_rules.specs.Calls.Call.{event, period}

@@ -1,18 +1,17 @@
 -- The laws of `specs/CycleOnBus.antt`.
-use mathlib.Core.Path.{◌≡◌, refl, sym, ap, ◌∙◌}
-use mathlib.Core.Bool.{Bool, true, false, not, cond, ◌&&◌, ◌||◌, and-true, and_assoc}
+use mathlib.Core.Path.{◌≡◌, refl, sym, ◌∙◌}
+use mathlib.Core.Bool.{Bool, true, false, not, ◌&&◌, ◌||◌, and-true, and_assoc}
 use mathlib.Core.List.{List, [], ◌∷◌, map}
 use Prim.Native.Nat.{ℕ, zero, suc, ◌+◌}
 use native.Mathlib.Omega.{arith}
-use lib.Dec.{eqb}
 use lib.ListN.{length, get_or}
 use Rattle.test_lemmas.proofs.ByCases.{by_test}
-use Rattle.hdlc.specs.Bits.{number_low_first, bit_of}
+use Rattle.hdlc.specs.Bits.{bit_of}
 use Rattle.hdlc.proofs.OctetLaws.{number_bit}
-use Rattle.cycle.specs.Cycle.{has_bit, up_fa, fa_below, joint_fa}
+use Rattle.cycle.specs.Cycle.{has_bit, up_fa, fa_below}
 use Rattle.cycle.specs.declared.record.Cycle.{Cycle}
 use Rattle.cycle.specs.Periods as cycles
-use Rattle.bus_rules.specs.Bus.{Station, Bus, terminals}
+use Rattle.bus_rules.specs.Bus.{Station, Bus}
 use Rattle.bus_rules.specs.Exchange.{Sender, Opportunity, stations_of, hears_e, station_after_e, in_f7, onward, begins, as_sender, senders_after, exchanged, e_comes, fa_down, fa_sent}
 use Rattle.bus_rules.specs.Period.{mask_of, cycle_after, heard_by, timed, period_run}
 use Rattle.bus_rules.specs.Quick.{all_fa}

@@ -1,12 +1,11 @@
 -- The laws of `specs/Off.antt`.
 use mathlib.Core.Path.{◌≡◌, refl, ap, ◌∙◌}
-use mathlib.Core.Bool.{Bool, false, cond}
+use mathlib.Core.Bool.{Bool, false}
 use mathlib.Core.List.{List, [], ◌∷◌, map}
 use Prim.Native.Nat.{ℕ, suc, ◌-◌}
 use lib.Dec.{eqb}
 use Rattle.test_lemmas.proofs.ByCases.{by_test}
 use Rattle.frame.specs.Four.{filled_with_ones}
-use Rattle.frame.specs.declared.fields.CycleBits.{CycleBits}
 use Rattle.info.specs.Info.{unset}
 use Rattle.combining.specs.Combine.{combined}
 use Rattle.combining.specs.Sent.{sent_line}
@@ -17,7 +16,7 @@ use Rattle.cycle.proofs.Laws.{not_running}
 use Rattle.notes_and_cells.specs.Cells.{info_in}
 use Rattle.notes_and_cells.specs.Events.{HIT}
 use Rattle.table_6_2.specs.Table62 as Table62
-use Rattle.bus_rules.specs.Bus.{Hit, Bus, Note}
+use Rattle.bus_rules.specs.Bus.{Bus, Note}
 use Rattle.bus_rules.specs.Exchange.{Sender, Opportunity, struck_by, sent_down, sent_up, line_down, onward, begins, exchanged, whole_down, fa_sent, fa_down, sent_from, whole_up}
 use Rattle.bus_rules.specs.Order.{no_cycle, unit_by_unit}
 use Rattle.bus_rules.specs.CycleNotes.{q_notes, s_notes, cycle_notes}

@@ -8,8 +8,8 @@ use native.Mathlib.Omega.{arith}
 use lib.Dec.{eqb}
 use lib.ListN.{length, get_or, length-append}
 use lib.Seq.{get_or_at}
-use borrow.Author.Tests.{eqb-true, not-true}
-use Rattle.test_lemmas.proofs.ByCases.{by_test, and_left, and_right}
+use borrow.Author.Tests.{eqb-true}
+use Rattle.test_lemmas.proofs.ByCases.{by_test}
 use Rattle.symbols.specs.Symbols.{levels}
 use Rattle.frame.specs.Four.{pick, filled_with_ones, all_four, and_all}
 use Rattle.frame.specs.Bits.{d_bits, fa_bit, fa_index}

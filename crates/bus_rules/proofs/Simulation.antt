@@ -35,7 +35,7 @@ use Rattle.notes_and_cells.specs.Events.{D1, D2, HIT}
 use Rattle.bus_rules.specs.Calls.{Call, reply, does, after, after_all}
 use Rattle.bus_rules.specs.Calls.Call.{event, period}
 use Rattle.bus_rules.proofs.Refusals.{accepted_holds}
-use Rattle.bus_rules.proofs.Stations.{Each, stations_stationed, each_onward, each_begins, each_period, each_event}
+use Rattle.bus_rules.proofs.Stations.{stations_stationed, each_onward, each_begins, each_period, each_event}
 use Rattle.bus_rules.proofs.Mapping.{channel_at, imaged_turned, action_at, channel_onward}
 use Rattle.bus_rules.proofs.TerminalDoes.{does_by_state}
 

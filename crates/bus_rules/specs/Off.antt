@@ -3,7 +3,7 @@
 -- document 01's. The statements are types; `proofs/Off.antt` proves each under the same name in
 -- small letters.
 -- Interface: none but for laws and proofs. Assumes nothing.
-use Rattle.std.specs.Prelude.{◌≡◌, Bool, false, cond, List, [], map, ℕ, eqb}
+use Rattle.std.specs.Prelude.{◌≡◌, false, cond, List, [], map, ℕ, eqb}
 use Rattle.frame.specs.Four.{filled_with_ones}
 use Rattle.frame.specs.declared.fields.Four.{Four}
 use Rattle.info.specs.Info.{info0, info1, info2, info3, info4}
@@ -11,7 +11,7 @@ use Rattle.combining.specs.Combine.{combined}
 use Rattle.notes_and_cells.specs.Cells.{info_in}
 use Rattle.table_6_2.specs.Table62 as Table62
 use Rattle.table_6_3.specs.Table63 as Table63
-use Rattle.bus_rules.specs.Bus.{Hit, Bus}
+use Rattle.bus_rules.specs.Bus.{Bus}
 use Rattle.bus_rules.specs.Exchange.{Sender, Opportunity, struck_by, exchanged, whole_down, whole_up}
 use Rattle.bus_rules.specs.Period.{heard_by_unit}
 use Rattle.bus_rules.specs.Calls.{Call, after_all}
