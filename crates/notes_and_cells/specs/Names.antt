@@ -27,13 +27,13 @@ plain name = record { name = ascii name; value = no_value }
 -- The notes in the order of their codes, from 1; a number that is no code has none.
 unfoldable pub printed : List Printed
 printed =
-    plain "ph_act"
-    ∷ᴸ plain "ph_deact"
-    ∷ᴸ plain "mph_act"
-    ∷ᴸ plain "mph_deact"
-    ∷ᴸ plain "mph_ei"
-    ∷ᴸ plain "mph_ei1"
-    ∷ᴸ plain "mph_ei2"
+    plain "PH-ACT"
+    ∷ᴸ plain "PH-DEACT"
+    ∷ᴸ plain "MPH-ACT"
+    ∷ᴸ plain "MPH-DEACT"
+    ∷ᴸ plain "MPH-EI"
+    ∷ᴸ plain "MPH-EI1"
+    ∷ᴸ plain "MPH-EI2"
     ∷ᴸ record { name = ascii "MPH-II"; value = word (ascii "connected") }
     ∷ᴸ record { name = ascii "MPH-II"; value = word (ascii "disconnected") }
     ∷ᴸ record { name = ascii "heard"; value = body }
@@ -69,13 +69,13 @@ pub names_of_codes :
     ∷ᴸ REFUSED
     ∷ᴸ []ᴸ)
     ≡ map ascii
-    ("ph_act"
-    ∷ᴸ "ph_deact"
-    ∷ᴸ "mph_act"
-    ∷ᴸ "mph_deact"
-    ∷ᴸ "mph_ei"
-    ∷ᴸ "mph_ei1"
-    ∷ᴸ "mph_ei2"
+    ("PH-ACT"
+    ∷ᴸ "PH-DEACT"
+    ∷ᴸ "MPH-ACT"
+    ∷ᴸ "MPH-DEACT"
+    ∷ᴸ "MPH-EI"
+    ∷ᴸ "MPH-EI1"
+    ∷ᴸ "MPH-EI2"
     ∷ᴸ "MPH-II"
     ∷ᴸ "MPH-II"
     ∷ᴸ "heard"
