@@ -8,6 +8,7 @@ use frame_reader::read::{read_down, read_up};
 
 // Reads a frame, downward where `up` is 0, else upward: the fields of an upward one are given with
 // every other bit 0.
+#[tactic(auto, using(crate::proofs::Calls::read_downward, crate::proofs::Calls::read_upward))]
 fn read_as(up: u32, symbols: &[u8]) -> ReadDown
     ensures { result ≡ read_as up symbols.now }
 {
