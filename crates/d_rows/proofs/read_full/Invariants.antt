@@ -3,7 +3,7 @@ use Rattle.std.proofs.Common.{◌-◌, ◌≤◌, length}
 use Rattle.d_rows.proofs.read_full.Given as goal
 
 abbrev pub invariant-loop-have : goal.invariant-loop-have
-invariant-loop-have l = l.have ≤ length l.room
+invariant-loop-have g l = l.have ≤ length l.room
 
 abbrev pub decreases-loop-have : goal.decreases-loop-have
-decreases-loop-have l = length l.room - l.have
+decreases-loop-have g l = length l.room - l.have
