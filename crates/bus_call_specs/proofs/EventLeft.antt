@@ -46,8 +46,7 @@ use Rattle.bus_event.specs.Event.{images_room, are_letters, taken_over, asked, n
 use Rattle.bus_event.specs.Event as parts
 use Rattle.bus_call_specs.specs.Kept.{Kept, kept}
 use Rattle.bus_record.specs.Echo.{hit_in}
-use Rattle.bus_call_specs.specs.Event.{images_after}
-use Rattle.bus_call_specs.specs.Lists.{Carries, told}
+use Rattle.bus_call_specs.specs.Lists.{Carries}
 use Rattle.bus_call_specs.proofs.Fields.{periods_of, network_of}
 use Rattle.bus_call_specs.proofs.SameExchange.{SameBits, HasBits, has_stepped}
 use Rattle.bus_event.proofs.ImagePlaces.{put_length, put_there, put_elsewhere}

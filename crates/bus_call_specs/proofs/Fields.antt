@@ -1,10 +1,6 @@
 -- Two buses that are the same, field by field: of what a record shows and of a bus without its reader and its terminals.
-use mathlib.Core.Bool.{Bool}
 use mathlib.Core.Path.{◌≡◌, ap}
-use Prim.Native.Nat.{ℕ}
-use Rattle.network.specs.declared.Network.{Network}
-use Rattle.cycle.specs.declared.record.Cycle.{Cycle}
-use Rattle.bus_rules.specs.Bus.{Hit, Bus}
+use Rattle.bus_rules.specs.Bus.{Bus}
 
 module _ {x y : Bus} (h : x ≡ y) where
   pub periods_of : x.periods ≡ y.periods

@@ -16,7 +16,6 @@ use Rattle.timing.specs.Calls.{all_run}
 use Rattle.bus_rules.specs.Bus.{notes_of}
 use Rattle.bus_rules.specs.Order.{unit_by_unit}
 use Rattle.bus_rules.specs.Period.{heard_by, timed, period_run}
-use Rattle.bus_rules.specs.Calls.{Call}
 use Rattle.bus_rules.specs.Calls.Call.{period}
 use Rattle.period_hearing.specs.Hears.{has_note}
 use Rattle.period_hearing.specs.declared.hears.UnitNotes.{UnitNotes}

@@ -8,7 +8,7 @@ use lib.Dec.{eqb}
 use lib.ListN.{take}
 use Rattle.test_lemmas.proofs.ByCases.{by_test}
 use Rattle.table_6_3.specs.Table63.{G3}
-use Rattle.hdlc.specs.Reading.{Reading, Said, said}
+use Rattle.hdlc.specs.Reading.{Reading, Said}
 use Rattle.hdlc.specs.Reading.Said.{nothing, torn, heard}
 use Rattle.hdlc.proofs.ReadingLaws.{after, answers}
 use Rattle.d_reader.specs.Counters.{fresh_reader, read_bit, read_octets}

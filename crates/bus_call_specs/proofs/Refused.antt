@@ -30,7 +30,6 @@ use Rattle.terminal.specs.Terminal as terminal
 use Rattle.terminal.specs.Calls as terminalCalls
 use Rattle.terminal.specs.declared.Terminal.{Terminal}
 use Rattle.terminal.specs.declared.TerminalStep.{TerminalStep}
-use Rattle.bus_rules.specs.Bus.{terminals}
 use Rattle.bus_rules.specs.Event.{among, class_of, call_reasons, first_holding}
 use Rattle.notes_and_cells.specs.Events.{ON, OFF, AR, D1, D2, HIT}
 use Rattle.bus_rules.specs.Calls.{Call, bus_refusals}

@@ -6,7 +6,7 @@ use mathlib.Core.List.{List, map}
 use Prim.Native.Nat.{ℕ, suc, ◌+◌, ◌≤◌, ◌<◌}
 use native.Mathlib.Omega.{arith}
 use lib.Dec.{eqb}
-use lib.ListN.{length, get_or}
+use lib.ListN.{get_or}
 use borrow.Author.Tests.{eqb-true, eqb-false}
 use Rattle.test_lemmas.proofs.ByCases.{by_test}
 use Rattle.dchannel.specs.Access.{normal1, normal2, entered, after_e, sends_next, completes, stops, idles, may_start, access_step}
