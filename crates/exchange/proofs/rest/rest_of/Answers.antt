@@ -1,5 +1,5 @@
 -- Each turn adds one terminal.
-use Rattle.std.proofs.Common.{arith, ◌∙◌}
+use Rattle.std.proofs.Common.{◌∙◌}
 use Rattle.slice_lemmas.proofs.Over.{read_next, gather_all}
 use Rattle.exchange.specs.Rest.{none_yet, also_rests, rest_of}
 use Rattle.exchange.proofs.rest.rest_of.Goals as goal
