@@ -13,7 +13,7 @@ pub returns-in-Line : goal.returns-in-Line
 returns-in-Line c =
     let struck = not-false c.args.bus.hit c.if-not-bus.false in
     let heard =
-        heard_under c.args.bus c.args.ds c.args.letters.now _ _ _ struck refl c.build_down.ensures c.apply_hit.ensures.octets
+    heard_under c.args.bus c.args.ds c.args.letters.now _ _ _ struck refl c.build_down.ensures c.apply_hit.ensures.octets
     in
     line_is (c.sense_down.ensures ∙ heard) c.in-Line.is
 
@@ -21,6 +21,6 @@ pub returns-in-Refused : goal.returns-in-Refused
 returns-in-Refused c =
     let struck = not-false c.args.bus.hit c.if-not-bus.false in
     let heard =
-        heard_under c.args.bus c.args.ds c.args.letters.now _ _ _ struck refl c.build_down.ensures c.apply_hit.ensures.octets
+    heard_under c.args.bus c.args.ds c.args.letters.now _ _ _ struck refl c.build_down.ensures c.apply_hit.ensures.octets
     in
     never_refused (c.sense_down.ensures ∙ heard) c.in-Refused.is
