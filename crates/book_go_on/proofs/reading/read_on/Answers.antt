@@ -29,7 +29,8 @@ loop-going-smaller c =
     fewer c.args.progress c.args.images.now c.args.octets.now c.args.letters.now c.args.text.now c.args.room.now c.args.whole
     c.loop-going.w _ _ _ _ _ i.so_far _ _ _ c.stage_of.ensures c.periods_of.ensures (rw i.text_is at c.read-said.ensures)
     c.loop-going.reader.text c.value-value.result i.text_is c.value-value.ensures c.step-w.result _ _ _ _ c.step-w.ensures.steps_by _ _
-    c.taken_of.ensures (rw i.text_is at c.next-reader.ensures.at_value) (eqb-true c.loop-going.w.why 0 (sym i.going_is ∙ c.loop-going-test.true))
+    c.taken_of.ensures (rw i.text_is at c.next-reader.ensures.at_value)
+    (eqb-true c.loop-going.w.why 0 (sym i.going_is ∙ c.loop-going-test.true))
 
 pub loop-going-preserved : goal.loop-going-preserved
 loop-going-preserved c =
@@ -40,8 +41,8 @@ loop-going-preserved c =
       so_far =
           goes_after c.args.progress c.args.images.now c.args.octets.now c.args.letters.now c.args.text.now c.args.room.now c.args.whole
           c.loop-going.w _ _ _ _ _ i.so_far _ _ _ c.stage_of.ensures c.periods_of.ensures (rw i.text_is at c.read-said.ensures)
-          c.loop-going.reader.text c.value-value.result i.text_is c.value-value.ensures c.step-w.result _ _ _ _ c.step-w.ensures.steps_by _ _
-          c.taken_of.ensures (rw i.text_is at c.next-reader.ensures.at_value);
+          c.loop-going.reader.text c.value-value.result i.text_is c.value-value.ensures c.step-w.result
+          _ _ _ _ c.step-w.ensures.steps_by _ _ c.taken_of.ensures (rw i.text_is at c.next-reader.ensures.at_value);
     }
 
 pub returns : goal.returns

@@ -11,8 +11,9 @@ use Rattle.bus_call_specs.proofs.Events.{within, when_refused, at_network, at_te
 use Rattle.bus_calls.proofs.event.event.Goals as goal
 
 -- The unit's terminal is there, so it is the same whatever is read past the list's end.
-told_at : (number : ℕ) (images : List ℕ) (i : ℕ) (value : List ℕ) (p q : Periods) (ts : List Terminal) (d : Terminal) (s : TerminalStep) → i < length ts
-    → s ≡ terminal_told number images i value p (get_or ts i d) → p ≡ q → s ≡ terminal_told number images i value q (get_or ts i fresh)
+told_at : (number : ℕ) (images : List ℕ) (i : ℕ) (value : List ℕ) (p q : Periods) (ts : List Terminal) (d : Terminal)
+    (s : TerminalStep) → i < length ts → s ≡ terminal_told number images i value p (get_or ts i d)
+    → p ≡ q → s ≡ terminal_told number images i value q (get_or ts i fresh)
 told_at number images i value p q ts d s l is e = rw (← e, get_or_default ts i fresh d l) is
 
 images_at : (number i : ℕ) (value images : List ℕ) (ts : List Terminal) (d : Terminal) (images' : List ℕ) → i < length ts

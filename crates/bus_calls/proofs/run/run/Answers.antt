@@ -12,12 +12,15 @@ use Rattle.idle_periods.proofs.Turning.{turned_within, turned_on}
 use Rattle.bus_calls.specs.declared.turn.Turn.{Turn}
 use Rattle.bus_calls.proofs.run.run.Goals as goal
 
-module _ (images letters : List ℕ) (ended : RunAnswer) (end : Kept) (last : RunAnswer) (left : ℕ) (ts : List Terminal) (os : List ℕ) (ns : List UnitNotes)
+module _ (images letters : List ℕ) (ended : RunAnswer) (end : Kept) (last : RunAnswer) (left : ℕ)
+    (ts : List Terminal) (os : List ℕ) (ns : List UnitNotes)
     (i : Going images letters ended end last left ts os ns) (on : run_goes_on last left ≡ true)
     (b : BusRecord) (is_b : b ≡ last.bus) (t : Turn) (o : ℕ) (is_o : o ≡ t.over) (ts' : List Terminal) (os' : List ℕ) (ns' : List UnitNotes)
     (so : Turns left (kept b ts images os letters ns) t.answer t.over (kept t.answer.bus ts' images os' letters ns')) where
   so_here : Turns left (kept last.bus ts images os letters ns) t.answer t.over (kept t.answer.bus ts' images os' letters ns')
-  so_here = subst (λ (x : BusRecord). Turns left (kept x ts images os letters ns) t.answer t.over (kept t.answer.bus ts' images os' letters ns')) is_b so
+  so_here =
+      subst (λ (x : BusRecord). Turns left (kept x ts images os letters ns) t.answer t.over (kept t.answer.bus ts' images os' letters ns'))
+      is_b so
 
   turn_within : 1 + o ≤ left
   turn_within = rw is_o (turned_within images letters ended end last left ts os ns i on t.answer t.over ts' os' ns' so_here)
@@ -43,12 +46,15 @@ advance-t-requires c =
 pub overflow_sub-left : goal.overflow_sub-left
 overflow_sub-left c =
     let i = c.loop-going.invariant in
-    turn_within _ _ _ _ _ _ _ _ _ i.so_far (sym i.going_is ∙ c.loop-going-test.true) _ c.bus_of.ensures c.advance-t.result _ c.over_of.ensures _ _ _ c.advance-t.ensures
+    turn_within _ _ _ _ _ _ _ _ _ i.so_far (sym i.going_is ∙ c.loop-going-test.true) _ c.bus_of.ensures c.advance-t.result _
+    c.over_of.ensures _ _ _ c.advance-t.ensures
 
 pub overflow_add-left : goal.overflow_add-left
 overflow_add-left c =
     let i = c.loop-going.invariant in
-    let within = turn_within _ _ _ _ _ _ _ _ _ i.so_far (sym i.going_is ∙ c.loop-going-test.true) _ c.bus_of.ensures c.advance-t.result _ c.over_of.ensures _ _ _ c.advance-t.ensures in
+    let within =
+    turn_within _ _ _ _ _ _ _ _ _ i.so_far (sym i.going_is ∙ c.loop-going-test.true) _ c.bus_of.ensures c.advance-t.result _
+    c.over_of.ensures _ _ _ c.advance-t.ensures in
     omega arith
 
 pub loop-going-smaller : goal.loop-going-smaller

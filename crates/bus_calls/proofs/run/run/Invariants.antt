@@ -11,7 +11,8 @@ invariant-loop-going l =
     let at = kept l.fn.bus l.fn.terminals l.fn.images l.fn.octets l.fn.letters l.fn.notes in
     record {
       going_is : l.going ≡ run_goes_on l.last l.left;
-      so_far : Going l.fn.images l.fn.letters (run_answer l.fn.most at) (kept_after l.fn.most at) l.last l.left l.terminals l.octets l.notes;
+      so_far : Going l.fn.images l.fn.letters (run_answer l.fn.most at) (kept_after l.fn.most at) l.last l.left l.terminals
+          l.octets l.notes;
     }
 
 abbrev pub decreases-loop-going : goal.decreases-loop-going

@@ -34,9 +34,10 @@ module _ (bus : BusRecord) (ys : List Terminal) (es os ls : List ℕ) where
   Sided m told r octs = (r ≡ answer_after bus m os told) × (octs ≡ octets_after bus m os)
 
   promised : (m₀ m : Tally) (ts us : List Terminal) (line : Downward) (p : Periods) (told : Bool) (ns : List UnitNotes) (r : RunAnswer)
-      (octs : List ℕ) (zs : List UnitNotes) → length zs ≡ length ts → m₀ ≡ first_tally bus ls → Exchanged m₀ m ts → line ≡ heard_down bus m.ds ls
-      → p ≡ bus.periods → Listened p zs ts line told us ns → Sided m told r octs → Promised r us octs ns
-  unfolding step_tally step_exchanged step_line step_terminals step_notes step_told step_answer step_octets listen_reply listen_terminals listen_notes
+      (octs : List ℕ) (zs : List UnitNotes) → length zs ≡ length ts → m₀ ≡ first_tally bus ls → Exchanged m₀ m ts
+      → line ≡ heard_down bus m.ds ls → p ≡ bus.periods → Listened p zs ts line told us ns → Sided m told r octs → Promised r us octs ns
+  unfolding step_tally step_exchanged step_line step_terminals step_notes step_told step_answer step_octets
+      listen_reply listen_terminals listen_notes
   promised m₀ m ts us line p told ns r octs zs even a b d q e f =
       let e' = rw (eq-eqb (length zs) (length ts) even) at e in
       (cc, cc, cc, cc)

@@ -31,9 +31,10 @@ module _ (bus : BusRecord) (ys : List Terminal) (es os ls : List ℕ) (us : List
     none_alone : a.over ≡ 0 → octets ≡ os
     none_alone z = ran.1 ∙ none_run es most bus b os (ap (λ (x : Alone). x.over) (sym ran.0) ∙ z)
 
-    alone_promised : (found : Search) → found ≡ searched bus.periods left ys → b ≡ found.lone → most ≡ alone_for found → most ≢ 0 → a.over ≢ 0
-        → (t : Turn) → (t.answer ≡ a.answer) × (t.over ≡ a.over - 1)
-        → (ts : List Terminal) → ts ≡ map_from (followed a.lone) 0 ys → (ns : List UnitNotes) → ns ≡ map_from silenced 0 us → Promised os t ts octets ns
+    alone_promised : (found : Search) → found ≡ searched bus.periods left ys → b ≡ found.lone → most ≡ alone_for found → most ≢ 0
+        → a.over ≢ 0 → (t : Turn) → (t.answer ≡ a.answer) × (t.over ≡ a.over - 1)
+        → (ts : List Terminal) → ts ≡ map_from (followed a.lone) 0 ys → (ns : List UnitNotes)
+        → ns ≡ map_from silenced 0 us → Promised os t ts octets ns
     alone_promised found is_found is_b is_most some over t is_t ts is_ts ns is_ns =
         let k = kept bus ys es os ls us in
         let look = searched bus.periods left ys in
@@ -59,7 +60,7 @@ pub returns : goal.returns
 returns c =
     let r = c.run_alone-alone.ensures in
     let t = c.turn_alone.ensures in
-    alone_promised c.args.bus c.args.terminals.now c.args.images.now c.args.octets.now c.args.letters.now c.args.notes.now c.args.left _ _ _ _
-    (r.value, r.octets_after) _ (c.find-found.ensures ∙ rw c.periods_of.ensures refl) c.lone_found.ensures c.alone_for-most.ensures
+    alone_promised c.args.bus c.args.terminals.now c.args.images.now c.args.octets.now c.args.letters.now c.args.notes.now c.args.left
+    _ _ _ _ (r.value, r.octets_after) _ (c.find-found.ensures ∙ rw c.periods_of.ensures refl) c.lone_found.ensures c.alone_for-most.ensures
     c.if-most-eq0.false (eqb-false c.run_alone-alone.result.over 0 (sym c.none_run.ensures ∙ c.if-none_run.false)) _
     (t.answer_value, t.over_value) _ (c.follow.ensures ∙ rw c.lone_after.ensures refl) _ c.silence.ensures

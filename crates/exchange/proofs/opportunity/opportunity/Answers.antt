@@ -45,9 +45,11 @@ pub returns-clause-value : goal.returns-clause-value
 unfolding tally_after
 returns-clause-value c =
     c.ended.ensures
-    ∙ ap ended (gather_all (tally_with c.args.images.now) (begun c.args.before) _ c.loop-i.i _ c.loop-i.invariant.tally_so_far (omega arith))
+    ∙ ap ended
+    (gather_all (tally_with c.args.images.now) (begun c.args.before) _ c.loop-i.i _ c.loop-i.invariant.tally_so_far (omega arith))
 
 pub returns-clause-terminals_after : goal.returns-clause-terminals_after
 unfolding terminals_after
 returns-clause-terminals_after c =
-    put_all (terminal_after_e c.args.images.now (begun c.args.before).e) c.loop-i.i _ _ c.loop-i.invariant.terminals_so_far c.loop-i-test.false
+    put_all (terminal_after_e c.args.images.now (begun c.args.before).e) c.loop-i.i _ _ c.loop-i.invariant.terminals_so_far
+    c.loop-i-test.false

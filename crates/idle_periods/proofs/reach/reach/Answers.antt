@@ -19,4 +19,5 @@ pub returns : goal.returns
 unfolding reach
 returns c =
     c.reached.ensures
-    ∙ ap (reached c.args.bus.network) (gather_all also_ahead (first_ahead c.args.bus c.args.left) _ c.loop-i.i _ c.loop-i.invariant c.loop-i-test.false)
+    ∙ ap (reached c.args.bus.network)
+    (gather_all also_ahead (first_ahead c.args.bus c.args.left) _ c.loop-i.i _ c.loop-i.invariant c.loop-i-test.false)
