@@ -10,7 +10,7 @@ use Rattle.d_reader.specs.declared.ReaderAnswer.{ReaderAnswer}
 use Rattle.d_reader.specs.declared.ReaderAnswer.TheVariants.{Nothing, Heard, Torn, Refused}
 use Rattle.d_reader.specs.declared.Read.{Read}
 
--- the count of bits goes up to here: mostBits, even less the seven of a flag, are too many for a
+-- the count of bits goes up to here: most_bits, even less the seven of a flag, are too many for a
 -- body
 abbrev pub most_bits : ℕ
 most_bits = 8 * longest_body + 8
@@ -23,7 +23,7 @@ fresh_reader = record { bits = 0; ones = 7; octet = 0; opened = false; zero = fa
 abbrev pub opened_reader : Reader
 opened_reader = record { bits = 0; ones = 0; octet = 0; opened = true; zero = false }
 
--- a count of bits with one bit more: it stays at mostBits once there
+-- a count of bits with one bit more: it stays at most_bits once there
 unfoldable pub one_more : ℕ → ℕ
 one_more n = cond (ltb n most_bits) (n + 1) most_bits
 

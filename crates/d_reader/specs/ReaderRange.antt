@@ -1,5 +1,5 @@
 -- Calls: every field of the reader's record in its range (document 01, refusal 1): the bits go up
--- to mostBits, the 1s to 7. An octet is any octet, and a bool has no range.
+-- to most_bits, the 1s to 7. An octet is any octet, and a bool has no range.
 -- Interface: every name. Assumes nothing.
 use Rattle.std.specs.Prelude.{Bool, false, cond, ltb, leb}
 use Rattle.d_reader.specs.Counters.{most_bits}

@@ -25,7 +25,7 @@ zero_counts [] = false
 zero_counts (true ∷ bs) = zero_counts bs
 zero_counts (false ∷ bs) = not (eqb (leading bs) 5)
 
--- a count of bits as the record has it: at most mostBits
+-- a count of bits as the record has it: at most most_bits
 unfoldable pub capped : ℕ → ℕ
 capped n = cond (ltb n most_bits) n most_bits
 

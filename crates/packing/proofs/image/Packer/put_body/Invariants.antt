@@ -7,7 +7,10 @@ use Rattle.packing.specs.Packer.{put_bits, put_bits_octets}
 use Rattle.packing.proofs.image.Packer.put_body.Given as goal
 
 abbrev pub invariant-loop-i : goal.invariant-loop-i
-invariant-loop-i l = (l.i ≤ 8 * length l.body) × (l.packer ≡ put_bits (stuff l.initial.packer.ones (take l.i (body_bits l.body))) l.initial.packer) × (l.out ≡ put_bits_octets (stuff l.initial.packer.ones (take l.i (body_bits l.body))) l.initial.packer l.initial.out)
+invariant-loop-i l =
+    (l.i ≤ 8 * length l.body)
+    × (l.packer ≡ put_bits (stuff l.initial.packer.ones (take l.i (body_bits l.body))) l.initial.packer)
+    × (l.out ≡ put_bits_octets (stuff l.initial.packer.ones (take l.i (body_bits l.body))) l.initial.packer l.initial.out)
 
 abbrev pub decreases-loop-i : goal.decreases-loop-i
 decreases-loop-i l = 8 * length l.body - l.i

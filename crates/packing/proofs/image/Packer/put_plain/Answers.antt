@@ -20,5 +20,9 @@ put_bit-packer-requires-clause-ones_bound c =
 
 pub loop-i-preserved : goal.loop-i-preserved
 loop-i-preserved c =
-    let args = c.args in
-    let x = plain_again args.octets.now c.loop-i.i args.self c.loop-i.packer (omega arith) _ args.out.now _ _ _ c.packed_bit.ensures c.loop-i.invariant.1 c.loop-i.invariant.2 c.put_bit-packer.ensures.value c.put_bit-packer.ensures.out_after in (omega arith, x.0, x.1)
+    let loop = c.loop-i in
+    let put = c.put_bit-packer.ensures in
+    let x =
+    plain_again c.args.octets.now loop.i c.args.self loop.packer (omega arith) _ c.args.out.now _ _ _ c.packed_bit.ensures loop.invariant.1
+    loop.invariant.2 put.value put.out_after in
+    (omega arith, x.0, x.1)
