@@ -1,6 +1,6 @@
 -- Whatever chain of turns (SoFar.antt) leads to where the loop begins leads on to where it stands, and what holds before a turn holds
 -- before the next one (Turning.antt). The turns are counted down.
-use Rattle.std.proofs.Common.{◌≡◌, ◌≤◌, ◌<◌, ℕ, List, length}
+use Rattle.std.proofs.Common.{◌≤◌, ◌<◌, ℕ, List, length}
 use Rattle.book_line.specs.Line.{longest_line}
 use Rattle.driver.specs.Turn.{Going}
 use Rattle.driver.proofs.SoFar.{SoFar}

@@ -13,8 +13,8 @@ pub returns : goal.returns
 returns c =
     let m = c.args.most in
     let part_is : c.if-most-eq0.part ≡ cond (eqb m 0) 1 m =
-        elim c.if-most-eq0.branch [
-          then-most-eq0 w ↦ w.part-is ∙ for_none m w.if-most-eq0.true
-        | else-most-eq0 w ↦ w.part-is ∙ for_some m w.if-most-eq0.false
-        ] in
+    elim c.if-most-eq0.branch [
+      | then-most-eq0 w ↦ w.part-is ∙ for_none m w.if-most-eq0.true
+      | else-most-eq0 w ↦ w.part-is ∙ for_some m w.if-most-eq0.false
+    ] in
     runs_driven c.if-room-lt-PERIOD_ROOM.false part_is refl (omega arith) any_letters c.drive.ensures
