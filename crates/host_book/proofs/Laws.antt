@@ -17,7 +17,7 @@ use Rattle.bus_octets.specs.Layout.{flag, bus_octets, bus_length, is_bus}
 use Rattle.bus_octets.proofs.Exact.{exact}
 use Rattle.bus_octets.proofs.RoundTrip.{flag_back, round_trip}
 use Rattle.host_steps.proofs.Laws.{zeros_long, zeros_are_letters}
-use Rattle.report.specs.Ahead.{BookState, fresh, ReadyState}
+use Rattle.report.specs.Ahead.{BookState, ReadyState}
 use Rattle.report.proofs.Driving.{written_right, fresh_state_ready}
 use Rattle.host_book.specs.Octets.{book_length, book_octets, book_state_in, is_book}
 use Rattle.host_book.specs.Laws.{BookStored, Settled, BookRoundTrip, BookExact}
