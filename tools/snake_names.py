@@ -107,7 +107,7 @@ def main():
             before = text_now[: m.start()]
             if (path.removeprefix("crates/"), name) in THERE and not before.endswith("."):
                 return name + "_lem"
-            if name not in new or name in goals or before.count('"') % 2:
+            if name not in new or name in goals or before.count('"') % 2 or (name in ALSO and path.endswith(".rt")):
                 return name
             if name in shared and name not in own and name not in brought and not before.endswith("."):
                 return name
