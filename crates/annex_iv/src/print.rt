@@ -1,45 +1,29 @@
 // Printing.
-ghost use Rattle.std.specs.Prelude.{◌≤◌, ◌+◌, ◌*◌, length};
-
 use notes_and_cells::notes::Notes;
+use refusals::Refusal;
 use std::io;
 
-// Prints a text.
-pub(crate) fn say(rt: &impl Print, text: &str) -> io::Result<()> {
-    rt.print(text)
-}
-
-// Prints a text and a number.
-pub(crate) fn number(rt: &impl Print, text: &str, n: u8) -> io::Result<()> {
-    say(rt, text)?;
-    rt.print(n)
-}
+// The notes by their codes, from 1 on. The standard's MPH-II(c) is for connected and MPH-II(d) for
+// disconnected.
+const NOTES: [&str; 9] = [
+    "PH-ACT",
+    "PH-DEACT",
+    "MPH-ACT",
+    "MPH-DEACT",
+    "MPH-EI",
+    "MPH-EI1",
+    "MPH-EI2",
+    "MPH-II(c)",
+    "MPH-II(d)",
+];
 
 // Prints a text, and the period at whose start a timer is due, `-` for none.
 pub(crate) fn timer(rt: &impl Print, text: &str, due: u64) -> io::Result<()> {
-    say(rt, text)?;
     if due == 0 {
-        say(rt, "-")
+        print!(rt; "{text}-")
     } else {
-        rt.print(due)
+        print!(rt; "{text}{due}")
     }
-}
-
-// Prints a state and a stimulus, by its name in a list of ten.
-pub(crate) fn stimulus(
-    rt: &impl Print,
-    letter: &str,
-    state: u8,
-    names: &[u8],
-    event: u8,
-) -> io::Result<()>
-    requires { 100 ≤ length names.now }
-{
-    number(rt, letter, state)?;
-    if event < 10 {
-        name(rt, names, event)?;
-    }
-    Ok(())
 }
 
 // Prints the next state, the INFO that is sent there, the reply and the notes.
@@ -51,38 +35,35 @@ pub(crate) fn outcome(
     reply: u8,
     n: Notes,
 ) -> io::Result<()> {
-    number(rt, letter, state)?;
-    number(rt, " I", info)?;
-    number(rt, " reply ", reply)?;
-    say(rt, " ")?;
-    note(rt, n.1)?;
-    note(rt, n.2)?;
-    note(rt, n.3)?;
-    note(rt, n.4)
-}
-
-// Prints name k, counted from 0, of a list of names of ten characters each.
-fn name(rt: &impl Print, names: &[u8], k: u8) -> io::Result<()>
-    requires { k * 10 + 10 ≤ length names.now }
-{
-    let at = k as usize * 10;
-    let end = at + 10;
-    rt.write_all(&names[at..end])
-}
-
-// Prints a note by its code, and nothing for 0. The standard's MPH-II(c) is for connected and
-// MPH-II(d) for disconnected.
-fn note(rt: &impl Print, code: u8) -> io::Result<()> {
-    if code == 0 {
-        return Ok(());
+    print!(rt; "{letter}{state} I{info} reply {reply} ")?;
+    for code in [n.1, n.2, n.3, n.4] {
+        if code != 0 {
+            let note = named(&NOTES, code, "another");
+            print!(rt; "{note:10}")?;
+        }
     }
-    if code < 10 {
-        name(
-            rt,
-            b"          PH-ACT    PH-DEACT  MPH-ACT   MPH-DEACT MPH-EI    MPH-EI1   MPH-EI2   MPH-II(c) MPH-II(d) ",
-            code,
-        )
-    } else {
-        say(rt, "another ")
+    Ok(())
+}
+
+// Gives the name of a number, counted from 1, or `other` for a number that has none.
+pub(crate) fn named<'a>(names: &[&'a str], number: u8, other: &'a str) -> &'a str {
+    names
+        .get((number as usize).wrapping_sub(1))
+        .copied()
+        .unwrap_or(other)
+}
+
+// Gives what a line shows; the refusal of one that is refused is printed, and it shows `nothing`.
+pub(crate) fn shown<T: Copy>(
+    rt: &impl Print,
+    sensed: Result<T, Refusal>,
+    nothing: T,
+) -> io::Result<T> {
+    match sensed {
+        Ok(shows) => Ok(shows),
+        Err(reason) => {
+            print!(rt; "refused {reason}")?;
+            Ok(nothing)
+        }
     }
 }

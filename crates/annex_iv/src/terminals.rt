@@ -1,110 +1,125 @@
 // Table IV-3: a terminal. Row 40 is empty.
-use super::print::{number, outcome, timer};
-use super::{NOW, ONES, due, tests};
+use super::print::{outcome, shown, timer};
+use super::table::{Rows, Table, run};
+use super::{NOW, ONES, due};
 use alignment::Alignment;
 use dchannel::access::Access;
 use heard_line::heard::Downward;
-use heard_line::sensing::{SensedDown, sense_down};
+use heard_line::sensing::sense_down;
 use info::info::{info2, info4};
+use notes_and_cells::cell::NO_NOTES;
+use refusals::Refusal;
 use std::io;
 use symbols::LINE_LENGTH;
 use table_6_2::{
-    AR_ROW, INFO_0_ROW, INFO_2_ROW, INFO_4_ROW, LOSS_ROW, OFF_ROW, ON_ROW, SIGNAL_ROW, T3_ROW,
-    info_sent,
+    AR_ROW, F1, F2, F3, F4, F5, F6, F7, F8, INFO_0_ROW, INFO_2_ROW, INFO_4_ROW, LOSS_ROW, OFF_ROW,
+    ON_ROW, SIGNAL_ROW, T3_ROW, info_sent,
 };
 use terminal::{Terminal, TerminalStep};
 use timing::counts::Periods;
 
-// Runs the rows of the table, state by state.
-pub(crate) fn rows(rt: &impl Print) -> io::Result<()> {
-    tests(rt, 3, 1, 1, &[ON_ROW, T3_ROW])?;
-    tests(
-        rt,
-        3,
-        3,
-        2,
-        &[
+// What a line shows that is none.
+const NOTHING: Downward = Downward {
+    pulse: false,
+    framed: false,
+    a: false,
+};
+
+struct AnyTerminal;
+
+const ROWS: [Rows; 8] = [
+    Rows {
+        state: F1,
+        first: 1,
+        stimuli: &[ON_ROW, T3_ROW],
+    },
+    Rows {
+        state: F2,
+        first: 3,
+        stimuli: &[
             OFF_ROW, INFO_0_ROW, INFO_2_ROW, INFO_4_ROW, SIGNAL_ROW, T3_ROW,
         ],
-    )?;
-    tests(
-        rt,
-        3,
-        9,
-        3,
-        &[
+    },
+    Rows {
+        state: F3,
+        first: 9,
+        stimuli: &[
             OFF_ROW, AR_ROW, INFO_0_ROW, INFO_2_ROW, INFO_4_ROW, SIGNAL_ROW, T3_ROW,
         ],
-    )?;
-    tests(
-        rt,
-        3,
-        16,
-        4,
-        &[
+    },
+    Rows {
+        state: F4,
+        first: 16,
+        stimuli: &[
             OFF_ROW, INFO_0_ROW, INFO_2_ROW, INFO_4_ROW, SIGNAL_ROW, T3_ROW,
         ],
-    )?;
-    tests(
-        rt,
-        3,
-        22,
-        5,
-        &[
+    },
+    Rows {
+        state: F5,
+        first: 22,
+        stimuli: &[
             OFF_ROW, INFO_0_ROW, INFO_2_ROW, INFO_4_ROW, SIGNAL_ROW, T3_ROW,
         ],
-    )?;
-    tests(
-        rt,
-        3,
-        28,
-        6,
-        &[
+    },
+    Rows {
+        state: F6,
+        first: 28,
+        stimuli: &[
             OFF_ROW, LOSS_ROW, AR_ROW, INFO_0_ROW, INFO_2_ROW, INFO_4_ROW, T3_ROW,
         ],
-    )?;
-    tests(
-        rt,
-        3,
-        35,
-        7,
-        &[OFF_ROW, LOSS_ROW, INFO_0_ROW, INFO_2_ROW, INFO_4_ROW],
-    )?;
-    tests(
-        rt,
-        3,
-        41,
-        8,
-        &[
+    },
+    Rows {
+        state: F7,
+        first: 35,
+        stimuli: &[OFF_ROW, LOSS_ROW, INFO_0_ROW, INFO_2_ROW, INFO_4_ROW],
+    },
+    Rows {
+        state: F8,
+        first: 41,
+        stimuli: &[
             OFF_ROW, AR_ROW, INFO_0_ROW, INFO_2_ROW, INFO_4_ROW, SIGNAL_ROW, T3_ROW,
         ],
-    )
+    },
+];
+
+// Runs the rows of the table.
+pub(crate) fn rows(rt: &impl Print) -> io::Result<()> {
+    run::<AnyTerminal>(rt, &ROWS)
 }
 
-// Runs one row: prints what comes of the stimulus.
-pub(crate) fn test(rt: &impl Print, state: u8, event: u8) -> io::Result<()> {
-    let step = meets(rt, unit(state, event), event)?;
-    let next = step.terminal.state;
-    outcome(rt, "F", next, info_sent(next), step.reply, step.notes)?;
-    timer(rt, "T3 ", step.terminal.t3)
+impl Table for AnyTerminal {
+    const NAME: &'static str = "IV-3";
+
+    const LETTER: &'static str = "F";
+
+    const STIMULI: [&'static str; 9] = [
+        "on", "off", "PH-AR", "T3", "INFO 0", "signal", "INFO 2", "INFO 4", "loss",
+    ];
+
+    fn test(rt: &impl Print, state: u8, stimulus: u8) -> io::Result<()> {
+        let before = unit(state, stimulus);
+        let answer = meets(rt, before, stimulus)?;
+        let reply = answer.map_or_else(|refusal| refusal.number(), |_| 0);
+        let step = answer.unwrap_or(TerminalStep {
+            terminal: before,
+            notes: NO_NOTES,
+        });
+        let next = step.terminal.state;
+        outcome(rt, Self::LETTER, next, info_sent(next), reply, step.notes)?;
+        timer(rt, "T3 ", step.terminal.t3)
+    }
 }
 
 // Gives the stimulus to a unit.
-fn meets(rt: &impl Print, unit: Terminal, event: u8) -> io::Result<TerminalStep> {
-    if event == ON_ROW {
-        return Ok(unit.switch_on(Periods(NOW)));
-    }
-    if event == OFF_ROW {
-        return Ok(unit.switch_off(Periods(NOW)));
-    }
-    if event == AR_ROW {
-        return Ok(unit.request(Periods(NOW)));
-    }
-    if event == T3_ROW {
-        return Ok(unit.timer_due(Periods(NOW)));
-    }
-    let line = downward(rt, event)?;
-    Ok(unit.hear(line, Periods(NOW)))
+fn meets(rt: &impl Print, unit: Terminal, event: u8) -> io::Result<Result<TerminalStep, Refusal>> {
+    let step = match event {
+        ON_ROW => unit.switch_on(Periods(NOW)),
+        OFF_ROW => unit.switch_off(Periods(NOW)),
+        AR_ROW => unit.request(Periods(NOW)),
+        T3_ROW => unit.timer_due(Periods(NOW)),
+        _ => unit.hear(downward(rt, event)?, Periods(NOW)),
+    };
+    Ok(step)
 }
 
 // Gives the unit as it is before the stimulus: T3 runs in every state in which it may run; to hear
@@ -129,30 +144,14 @@ fn downward(rt: &impl Print, event: u8) -> io::Result<Downward> {
     match event {
         INFO_0_ROW => {}
         INFO_2_ROW => {
-            info2(&mut line);
+            let _ = info2(&mut line);
         }
         INFO_4_ROW => {
-            info4(ONES, &mut line);
+            let _ = info4(ONES, &mut line);
         }
         _ => {
             line[4] = 1;
         }
     }
-    shown(rt, &line)
-}
-
-// Gives what a line shows; the refusal of one that is refused is printed, and it shows nothing.
-fn shown(rt: &impl Print, line: &[u8; LINE_LENGTH]) -> io::Result<Downward> {
-    let sensed = sense_down(line);
-    match sensed {
-        SensedDown::Line(shows) => Ok(shows),
-        SensedDown::Refused(k) => {
-            number(rt, "refused ", k)?;
-            Ok(Downward {
-                pulse: false,
-                framed: false,
-                a: false,
-            })
-        }
-    }
+    shown(rt, sense_down(&line), NOTHING)
 }

@@ -3,7 +3,7 @@
 // often as they can. The report is the same.
 #![tactic(auto)]
 
-use book_line::number::{Number, digits};
+use book_line::number::digits;
 use period_text::period::PERIOD_ROOM;
 use std::env::Env;
 
@@ -19,10 +19,7 @@ fn part(rt: &HostRuntime) -> u32 {
     let Ok(n) = rt.arg(1, &mut word) else {
         return ONE;
     };
-    let Number::Is(k) = digits(&word[..n]) else {
-        return ONE;
-    };
-    k
+    digits(&word[..n]).unwrap_or(ONE)
 }
 
 fn main(rt: HostRuntime) {

@@ -1,12 +1,20 @@
 -- The loop of `go_on`: what holds before each turn, and what the call gives back.
-use mathlib.Core.Path.{◌≡◌, refl, sym, ap, ◌∙◌}
+use mathlib.Core.Path.{◌≡◌, refl, sym, ap}
 use mathlib.Core.Bool.{Bool, true, false, cond}
 use mathlib.Core.List.{List}
 use Prim.Native.Nat.{ℕ, zero, suc, ◌+◌, ◌≤◌, ◌<◌}
 use native.Mathlib.Omega.{arith}
 use lib.Dec.{eqb}
 use lib.ListN.{length, take}
-use borrow.Author.Tests.{ne_eqb}
+use borrow.Author.Tests.{ne_eqb, eqb-true}
+use Rattle.std.specs.Prelude.{Option, Some, None, Result, Ok, Err, ◌&&◌}
+use Rattle.test_lemmas.proofs.ByCases.{by_test, clash}
+use Rattle.refusals.specs.Numbers.{number, reason_of}
+use Rattle.refusals.specs.declared.Refusal.{Refusal}
+use Rattle.refusals.specs.declared.Refusal.TheVariants.{OutOfRange, WrongSlice, NoSuchUnit, NotForUnit, Barred, OutsideF7, BodyLength}
+use Rattle.refusals.specs.declared.Refusal.TheVariants.{FrameHeld, AllPeriodsRun, NoFrame, NoFirstLine, WrongLine, WrongPeriod, NoEnd}
+use Rattle.bus_record.specs.Record.{record_in_range}
+use Rattle.bus_call_specs.specs.Ready.{eight_in_range, lent_fits, run_reason, run_reply}
 use Rattle.bus_record.specs.NetworkSide.{refused_run}
 use Rattle.bus_record.specs.declared.side.RunAnswer.{RunAnswer}
 use Rattle.bus_call_specs.specs.Kept.{Kept}
@@ -19,9 +27,9 @@ use Rattle.period_text.specs.PeriodText.{period_room}
 use Rattle.report.specs.Told.{Ready}
 use Rattle.report.specs.Ahead.{BookState, ReadyState, TEXT, ROOM, OVER, Stopped}
 use Rattle.report.proofs.Order.{stays_ready}
-use Rattle.book_go_on.specs.Progress.{fresh_progress, book_state_of, reason}
+use Rattle.book_go_on.specs.Progress.{fresh_progress, book_state_of, reason, refusal}
 use Rattle.book_go_on.specs.Steps.{Moves, to_do, Steps}
-use Rattle.book_go_on.specs.GoOn.{GoesOn, FreshBookState, NeverRefused}
+use Rattle.book_go_on.specs.GoOn.{reply_of, GoesOn, FreshBookState, NeverRefused}
 use Rattle.book_go_on.specs.declared.progress.Progress.{Progress}
 use Rattle.book_go_on.specs.declared.progress.GoneOn.{GoneOn}
 use Rattle.book_go_on.proofs.Moving.{moves_none, moves_then}
@@ -30,6 +38,71 @@ use Rattle.book_go_on.proofs.Moving.{moves_none, moves_then}
 pub accepted_ready : (s : BookState) → reason s ≡ 0 → ReadyState s
 unfolding reason
 accepted_ready s e = e
+
+-- ---- The reasons 1 and 2.
+reason_few : (s : BookState) → reason s ≤ 2
+unfolding reason run_reply run_reason
+reason_few s =
+    by_test (eight_in_range s.kept.terminals && record_in_range s.kept.bus)
+    (λ r. by_test (lent_fits (length s.kept.images) (length s.kept.octets) s.kept.letters (length s.kept.notes))
+    (λ l. rw (r, l) (omega arith))
+    (λ l. rw (r, l) (omega arith)))
+    (λ r. rw r (omega arith))
+
+pub none_refused : (s : BookState) → reason s ≡ 0 → None ≡ refusal s
+none_refused s e = rw e
+
+pub first_refused : (s : BookState) → reason s ≡ 1 → Some OutOfRange ≡ refusal s
+first_refused s e = rw e
+
+pub second_refused : (s : BookState) → (reason s ≡ 0 → ⊥) → (reason s ≡ 1 → ⊥) → Some WrongSlice ≡ refusal s
+second_refused s n m = let e : reason s ≡ 2 = few (reason s) (reason_few s) n m in rw e
+  where
+    few : (r : ℕ) → r ≤ 2 → (r ≡ 0 → ⊥) → (r ≡ 1 → ⊥) → r ≡ 2
+    few r l n m = omega arith
+
+pub accepted_none : (s : BookState) → None ≡ refusal s → reason s ≡ 0
+accepted_none s e =
+    by_test (eqb (reason s) 0) (eqb-true (reason s) 0)
+    (λ f. let z : ◌≡◌ {A = Option Refusal} None (Some (reason_of (reason s))) = rw f at e in let o : ◌≡◌ {A = ℕ} 0 1 = cc in absurd (omega arith))
+
+number_back : (n : ℕ) → n ≤ 2 → eqb n 0 ≡ false → number (reason_of n) ≡ n
+number_back zero h e = clash true refl e
+number_back (suc zero) h e = refl
+number_back (suc (suc zero)) h e = refl
+number_back (suc (suc (suc n))) h e = absurd (omega arith)
+
+refused_number : (s : BookState) (e : Refusal) → Some e ≡ refusal s → number e ≡ reason s
+refused_number s e is =
+    by_test (eqb (reason s) 0)
+    (λ t. let z : ◌≡◌ {A = Option Refusal} (Some e) None = rw t at is in let o : ◌≡◌ {A = ℕ} 0 1 = cc in absurd (omega arith))
+    (λ f. let z : ◌≡◌ {A = Option Refusal} (Some e) (Some (reason_of (reason s))) = rw f at is in
+    let same : e ≡ reason_of (reason s) = cc in rw same (number_back (reason s) (reason_few s) f))
+
+err_ok : {X : Type 0} {e : Refusal} {w : GoneOn} → ◌≡◌ {A = Result GoneOn Refusal} (Err e) (Ok w) → X
+err_ok q = let o : ◌≡◌ {A = ℕ} 0 1 = cc in absurd (omega arith)
+
+-- no reason has the number 0
+numbered : (e : Refusal) → number e ≡ 0 → ⊥
+numbered OutOfRange h = omega arith
+numbered WrongSlice h = omega arith
+numbered NoSuchUnit h = omega arith
+numbered NotForUnit h = omega arith
+numbered Barred h = omega arith
+numbered OutsideF7 h = omega arith
+numbered BodyLength h = omega arith
+numbered FrameHeld h = omega arith
+numbered AllPeriodsRun h = omega arith
+numbered NoFrame h = omega arith
+numbered NoFirstLine h = omega arith
+numbered WrongLine h = omega arith
+numbered WrongPeriod h = omega arith
+numbered NoEnd h = omega arith
+
+-- a call that replies 0 has gone on
+pub gone_on_call : (r : Result GoneOn Refusal) → reply_of r ≡ 0 → (w : GoneOn) × (r ≡ Ok w)
+gone_on_call (Ok w) h = (w, refl)
+gone_on_call (Err e) h = absurd (numbered e h)
 
 pub never_refused : NeverRefused
 unfolding reason
@@ -45,9 +118,9 @@ module _ (p : Progress) (images octets letters : List ℕ) where
   k = found p.bus p.terminals images octets letters
 
   -- octets that the check has left are accepted again
-  pub still_accepted : (octets₁ : List ℕ) → octets₁ ≡ octets → (reply : ℕ) → reply ≡ reason (book_state_of p images octets letters) → reply ≡ 0
+  pub still_accepted : (octets₁ : List ℕ) → octets₁ ≡ octets → reason (book_state_of p images octets letters) ≡ 0
       → reason (book_state_of p images octets₁ letters) ≡ 0
-  still_accepted octets₁ o reply e z = rw o (sym e ∙ z)
+  still_accepted octets₁ o z = rw o z
 
   pub checked_run : (r : RunAnswer) → r ≡ run_answer 0 k → (octets' : List ℕ) → octets' ≡ (kept_after 0 k).octets
       → (r.reply ≡ reason (book_state_of p images octets letters)) × (octets' ≡ octets)
@@ -149,19 +222,18 @@ module _ (p : Progress) (images octets letters text room : List ℕ) (whole : Bo
   abbrev here : BookState
   here = book_state_of p images octets letters
 
-  pub refused_call : (reply : ℕ) → reply ≡ reason here → (reply ≡ 0 → ⊥) → (octets' : List ℕ) → octets' ≡ octets
-      → GoesOn p images octets letters text room whole
-      (record { progress = p; taken = 0; wrote = 0; why = 0; reply = reply }) images octets' letters room
-  refused_call reply e n octets' o =
-      record { replies = e; refused = λ h. (refl, refl, o, refl, refl); stops = λ h. absurd (n h) }
+  pub refused_call : (e : Refusal) → Some e ≡ refusal here → (octets' : List ℕ) → octets' ≡ octets
+      → GoesOn p images octets letters text room whole (Err e) images octets' letters room
+  refused_call e is octets' o =
+      record { replies = refused_number here e is; refused = λ _ _. (refl, o, refl, refl); stops = λ w q. err_ok q }
 
   -- the octets are the same after the check
-  module _ (octets₁ : List ℕ) (o : octets₁ ≡ octets) (reply : ℕ) (e : reply ≡ reason here) (z : reply ≡ 0) where
+  module _ (octets₁ : List ℕ) (o : octets₁ ≡ octets) (z : reason here ≡ 0) where
     abbrev checked : BookState
     checked = book_state_of p images octets₁ letters
 
-    pub stopped_call : (w : GoneOn) (images' octets' letters' room' : List ℕ) → w.reply ≡ 0
+    pub stopped_call : (w : GoneOn) (images' octets' letters' room' : List ℕ)
         → Stopped checked text room whole (book_state_of w.progress images' octets' letters') w.taken w.wrote w.why room'
-        → GoesOn p images octets letters text room whole w images' octets' letters' room'
-    stopped_call w images' octets' letters' room' r s =
-        record { replies = r ∙ (sym z ∙ e); refused = λ h. absurd (h r); stops = λ h. rw o at s }
+        → GoesOn p images octets letters text room whole (Ok w) images' octets' letters' room'
+    stopped_call w images' octets' letters' room' s =
+        record { replies = sym z; refused = λ e q. err_ok (sym q); stops = λ w' q. let same : w ≡ w' = cc in rw (sym same, sym o) s }

@@ -1,5 +1,5 @@
 -- What `line` gives back at each of its returns: as its contract says it.
-use mathlib.Core.Path.{◌≡◌, refl}
+use mathlib.Core.Path.{◌≡◌}
 use mathlib.Core.Bool.{true, false}
 use mathlib.Core.List.{List}
 use Prim.Native.Nat.{ℕ, ◌+◌, ◌≤◌, ◌<◌}
@@ -41,8 +41,8 @@ module _ (w : GoneOn) (images octets letters value room : List ℕ) (period unit
   -- what a return has to say
   abbrev Returns : List ℕ → List ℕ → List ℕ → GoneOn → Type 0
   Returns images' letters' room' x =
-      ((ends : Ends) → StepsBy (Entry period unit number ends size) value (book_state_of w.progress images octets letters) room w.wrote
-      (book_state_of x.progress images' octets₁ letters') x.taken room' x.wrote x.why) × (x.reply ≡ 0)
+      (ends : Ends) → StepsBy (Entry period unit number ends size) value (book_state_of w.progress images octets letters) room w.wrote
+      (book_state_of x.progress images' octets₁ letters') x.taken room' x.wrote x.why
 
   way : UnderWay (book_state_of w.progress images octets letters)
   way = record { begun_is = b; over_is = o }
@@ -50,14 +50,12 @@ module _ (w : GoneOn) (images octets letters value room : List ℕ) (period unit
   pub full_line : leb (u.wrote + period_room) (length room₁) ≡ false → (x : GoneOn) → x ≡ reached w u w.progress.stage 0 ROOM
       → Returns images letters room₁ x
   full_line h x e =
-      rw e (
-        λ ends text at whole q. steps_at 0
-            (stops_room
-            (line_ran text whole (book_state_of w.progress images octets letters) at room w.wrote period unit number ends size way q.says
-            (found u.bus u.terminals images octets₁ letters) u.wrote room₁ r) h o)
-            (omega arith),
-        refl,
-      )
+      rw e
+      (λ ends text at whole q. steps_at 0
+      (stops_room
+      (line_ran text whole (book_state_of w.progress images octets letters) at room w.wrote period unit number ends size way q.says
+      (found u.bus u.terminals images octets₁ letters) u.wrote room₁ r) h o)
+      (omega arith))
 
   -- there is room, so that the line's period has been reached
   module _ (more : u.bus.periods.0 < period → length room < u.wrote + period_room) (h : leb (u.wrote + period_room) (length room₁) ≡ true) where
@@ -72,11 +70,9 @@ module _ (w : GoneOn) (images octets letters value room : List ℕ) (period unit
 
     pub end_line : is_end unit number ≡ true → (x : GoneOn) → x ≡ reached w u after_end size 0 → Returns images letters room₁ x
     end_line t x e =
-        rw e (
-          λ ends text at whole q. line_ends text whole (book_state_of w.progress images octets letters) at room w.wrote period unit number ends size way
-              q.says (found u.bus u.terminals images octets₁ letters) u.wrote room₁ r there t,
-          refl,
-        )
+        rw e
+        (λ ends text at whole q. line_ends text whole (book_state_of w.progress images octets letters) at room w.wrote period unit number ends size way
+        q.says (found u.bus u.terminals images octets₁ letters) u.wrote room₁ r there t)
 
     pub given_line : is_end unit number ≡ false
         → (g : BusAndRoom) (images' letters' room₂ : List ℕ)
@@ -84,9 +80,7 @@ module _ (w : GoneOn) (images octets letters value room : List ℕ) (period unit
         (found g.bus g.terminals images' kept letters') g.wrote room₂)
         → (x : GoneOn) → x ≡ reached w g at_lines size 0 → Returns images' letters' room₂ x
     given_line t g images' letters' room₂ gives x e =
-        rw e (
-          λ ends text at whole q. line_gives text whole (book_state_of w.progress images octets letters) at room w.wrote period unit number ends size way
-              q.says (found u.bus u.terminals images octets₁ letters) u.wrote room₁ r there t
-              (found g.bus g.terminals images' octets₁ letters') g.wrote room₂ (rw q.value_is (gives octets₁)),
-          refl,
-        )
+        rw e
+        (λ ends text at whole q. line_gives text whole (book_state_of w.progress images octets letters) at room w.wrote period unit number ends size way
+        q.says (found u.bus u.terminals images octets₁ letters) u.wrote room₁ r there t
+        (found g.bus g.terminals images' octets₁ letters') g.wrote room₂ (rw q.value_is (gives octets₁)))

@@ -300,10 +300,10 @@ module _ (w : GoneOn) (images octets letters room : List ℕ) where
   -- what a return has to say
   abbrev Returns : Step → List ℕ → List ℕ → List ℕ → List ℕ → List ℕ → GoneOn → Type 0
   Returns said value images' octets' letters' room' x =
-      StepsBy said value here room w.wrote (book_state_of x.progress images' octets' letters') x.taken room' x.wrote x.why × (x.reply ≡ 0)
+      StepsBy said value here room w.wrote (book_state_of x.progress images' octets' letters') x.taken room' x.wrote x.why
 
   pub turns : (said : Step) (value : List ℕ) (stage : ℕ) (begun over : Bool) (taken wrote why : ℕ) (room' : List ℕ)
       → ((text : List ℕ) (at : ℕ) (whole : Bool) → step_at text at here.stage (ahead.run here) whole ≡ said
       → Steps text whole here at room w.wrote (record { kept = here.kept; stage = stage; begun = begun; over = over }) (at + taken) room' wrote why)
       → (x : GoneOn) → x ≡ turned w stage begun over taken wrote why → Returns said value images octets letters room' x
-  turns said value stage begun over taken wrote why room' s x e = rw e (λ text at whole r. s text at whole r.says, refl)
+  turns said value stage begun over taken wrote why room' s x e = rw e (λ text at whole r. s text at whole r.says)

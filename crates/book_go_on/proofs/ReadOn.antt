@@ -1,5 +1,5 @@
 -- The turns of `read_on`: what the reader reads goes to a step, and the reader goes on by what the step has taken.
-use mathlib.Core.Path.{◌≡◌, refl, sym, ap, ◌∙◌}
+use mathlib.Core.Path.{◌≡◌, sym, ap, ◌∙◌}
 use mathlib.Core.Bool.{Bool, false}
 use mathlib.Core.List.{List}
 use Prim.Native.Nat.{ℕ, ◌+◌, ◌-◌, ◌≤◌, ◌<◌, min}
@@ -72,5 +72,5 @@ module _ (p : Progress) (images octets letters text room : List ℕ) (whole : Bo
         fewer go = rw moved (going_less g stepped go)
 
     pub goes_no_further : eqb w.why 0 ≡ false → (n : ℕ) → n ≡ at → (x : GoneOn) → x ≡ ended w n
-        → Stopped start text room whole (book_state_of x.progress images₁ octets₁ letters₁) x.taken x.wrote x.why room₁ × (x.reply ≡ 0)
-    goes_no_further off n e x is = rw (is, e) (going_stops g (eqb-false w.why 0 off), refl)
+        → Stopped start text room whole (book_state_of x.progress images₁ octets₁ letters₁) x.taken x.wrote x.why room₁
+    goes_no_further off n e x is = rw (is, e) (going_stops g (eqb-false w.why 0 off))

@@ -1,8 +1,10 @@
 -- How the code goes: how far a book has come, as the code holds it: with what is lent it is crate
 -- `report`'s `BookState` (specs/Ahead.antt there).
--- Interface: `fresh_progress`, `book_state_of`, `reason`, `untaken`, `ended`, `turned`, `reached`,
+-- Interface: `fresh_progress`, `book_state_of`, `reason`, `refusal`, `untaken`, `ended`, `turned`, `reached`,
 -- `Goes`. Assumes nothing.
-use Rattle.std.specs.Prelude.{Bool, false, List, ℕ, ◌≤◌, length, replicate}
+use Rattle.std.specs.Prelude.{Option, Some, None, cond, eqb, Bool, false, List, ℕ, ◌≤◌, length, replicate}
+use Rattle.refusals.specs.Numbers.{reason_of}
+use Rattle.refusals.specs.declared.Refusal.{Refusal}
 use Rattle.terminal.specs.Terminal as terminal
 use Rattle.bus_rules.specs.Bus.{terminals}
 use Rattle.bus_record.specs.Record.{fresh_record}
@@ -28,12 +30,16 @@ book_state_of p images octets letters =
 unfoldable pub reason : BookState → ℕ
 reason s = run_reply 0 s.kept
 
+-- The same as a reason, if one holds.
+abbrev pub refusal : BookState → Option Refusal
+refusal s = cond (eqb (reason s) 0) None (Some (reason_of (reason s)))
+
 -- Before the first step; and after the last one, with `taken` octets of the text taken.
 abbrev pub untaken : Progress → GoneOn
-untaken p = record { progress = p; taken = 0; wrote = 0; why = 0; reply = 0 }
+untaken p = record { progress = p; taken = 0; wrote = 0; why = 0 }
 
 abbrev pub ended : GoneOn → ℕ → GoneOn
-ended w taken = record { progress = w.progress; taken = taken; wrote = w.wrote; why = w.why; reply = 0 }
+ended w taken = record { progress = w.progress; taken = taken; wrote = w.wrote; why = w.why }
 
 -- The same bus, at another stage of the book and of its report.
 abbrev pub turned : GoneOn → ℕ → Bool → Bool → ℕ → ℕ → ℕ → GoneOn
@@ -43,7 +49,6 @@ turned w stage begun over taken wrote why =
       taken = taken;
       wrote = wrote;
       why = why;
-      reply = 0;
     }
 
 -- Another bus and other octets written, at a stage.
@@ -54,7 +59,6 @@ reached w u stage taken why =
       taken = taken;
       wrote = u.wrote;
       why = why;
-      reply = 0;
     }
 
 -- What a step is for: the record and what is lent are in order, and the room reaches as far as is

@@ -13,7 +13,6 @@ pub(crate) fn untaken(progress: Progress) -> GoneOn
         taken: 0,
         wrote: 0,
         why: 0,
-        reply: 0,
     }
 }
 
@@ -49,12 +48,5 @@ pub(crate) fn goes_on(w: GoneOn) -> bool
 pub(crate) fn ended(w: GoneOn, taken: usize) -> GoneOn
     ensures { result ≡ spec.ended w taken }
 {
-    let progress = w.progress;
-    GoneOn {
-        progress,
-        taken,
-        wrote: w.wrote,
-        why: w.why,
-        reply: 0,
-    }
+    GoneOn { taken, ..w }
 }

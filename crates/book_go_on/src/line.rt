@@ -18,20 +18,17 @@ use book_reader::step::{AFTER_END, AT_LINES};
 fn reached(w: GoneOn, u: BusAndRoom, stage: u8, taken: usize, why: u8) -> GoneOn
     ensures { result ≡ spec.reached w u stage taken why }
 {
-    let bus = u.bus;
     let terminals = u.terminals;
     GoneOn {
         progress: Progress {
-            bus,
+            bus: u.bus,
             terminals,
             stage,
-            begun: w.progress.begun,
-            over: w.progress.over,
+            ..w.progress
         },
         taken,
         wrote: u.wrote,
         why,
-        reply: 0,
     }
 }
 
@@ -56,11 +53,10 @@ pub(crate) fn line(
     requires periods_le_period { w.progress.bus.periods.0 ≤ period }
     requires period_le_most_periods { period ≤ most_periods }
     requires value_len_bound { length (value_octets event value.now) ≤ value_room }
-    ensures steps_by { (ends : Ends) → StepsBy (Entry period unit event ends size) value.now
+    ensures { (ends : Ends) → StepsBy (Entry period unit event ends size) value.now
         (spec.book_state_of w.progress images.old octets.old letters.old) room.old w.wrote
         (spec.book_state_of result.progress images.new octets.new letters.new) result.taken room.new
         result.wrote result.why }
-    ensures reply_value { result.reply ≡ 0 }
 {
     let u = run_to(w, images, octets, letters, room, period);
     if !has_room(room.len(), u.wrote) {

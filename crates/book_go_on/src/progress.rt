@@ -19,15 +19,14 @@ pub struct Progress {
 }
 
 // What a call gives back: how far the book has come, the octets taken of the text and written into
-// the room, why it stopped (0: it goes on), and 0 or the number of the refusal. Between the steps
-// of a call it is kept so, too; there `taken` is what the last step has taken.
+// the room, and why it stopped (0: it goes on). Between the steps of a call it is kept so, too;
+// there `taken` is what the last step has taken.
 #[derive(Clone, Copy)]
 pub struct GoneOn {
     pub progress: Progress,
     pub taken: usize,
     pub wrote: usize,
     pub why: u8,
-    pub reply: u8,
 }
 
 // Why a call has stopped: it needs text, it needs room, or the book is over.

@@ -7,7 +7,7 @@ ghost use Rattle.book_go_on.specs.Progress as spec;
 use super::fields::{ended, goes_on, periods_of, stage_of, taken_of, untaken};
 use super::progress::{GoneOn, Progress};
 use super::step::step;
-use book_reader::lent;
+use book_reader::lent::Reader;
 
 // Reads on until a step needs text or room, or the book is over. How much of the text is taken is
 // how far the reader has come.
@@ -21,21 +21,18 @@ pub(crate) fn read_on(
     whole: bool,
 ) -> GoneOn
     requires { spec.reason (spec.book_state_of progress images.old octets.old letters.old) ≡ 0 }
-    ensures stopped { Stopped (spec.book_state_of progress images.old octets.old letters.old)
+    ensures { Stopped (spec.book_state_of progress images.old octets.old letters.old)
         text.now room.old whole
         (spec.book_state_of result.progress images.new octets.new letters.new)
         result.taken result.wrote result.why room.new }
-    ensures reply_value { result.reply ≡ 0 }
 {
     let mut w = untaken(progress);
-    let mut reader = lent::new(text);
-    let mut going = goes_on(w);
-    while going {
-        let said = lent::read(reader, stage_of(w), periods_of(w), whole);
-        let value = lent::value(reader, said);
+    let mut reader = Reader::new(text);
+    'lines: while goes_on(w) {
+        let said = reader.read(stage_of(w), periods_of(w), whole);
+        let value = reader.value(said);
         w = step(w, images, octets, letters, said, value, room);
-        reader = lent::next(reader, taken_of(w));
-        going = goes_on(w);
+        reader = reader.next(taken_of(w));
     }
-    ended(w, lent::at(reader))
+    ended(w, reader.at())
 }

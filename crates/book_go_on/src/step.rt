@@ -22,21 +22,16 @@ fn turned(
 ) -> GoneOn
     ensures { result ≡ spec.turned w stage begun over taken wrote why }
 {
-    let p = w.progress;
-    let bus = p.bus;
-    let terminals = p.terminals;
     GoneOn {
         progress: Progress {
-            bus,
-            terminals,
             stage,
             begun,
             over,
+            ..w.progress
         },
         taken,
         wrote,
         why,
-        reply: 0,
     }
 }
 
@@ -44,15 +39,15 @@ fn turned(
 fn stays(w: GoneOn, stage: u8, taken: usize, why: u8) -> GoneOn
     ensures { result ≡ spec.turned w stage w.progress.begun w.progress.over taken w.wrote why }
 {
-    turned(
-        w,
-        stage,
-        w.progress.begun,
-        w.progress.over,
+    GoneOn {
+        progress: Progress {
+            stage,
+            ..w.progress
+        },
         taken,
-        w.wrote,
         why,
-    )
+        ..w
+    }
 }
 
 // Carries out what the reader has read; the value is that of the line.
@@ -70,11 +65,10 @@ fn carry_out(
     requires period_room_in_bounds { w.wrote + period_room ≤ length room.old }
     requires begun_value { w.progress.begun ≡ true }
     requires over_value { w.progress.over ≡ false }
-    ensures steps_by { StepsBy said value.now
+    ensures { StepsBy said value.now
         (spec.book_state_of w.progress images.old octets.old letters.old) room.old w.wrote
         (spec.book_state_of result.progress images.new octets.new letters.new) result.taken room.new
         result.wrote result.why }
-    ensures reply_value { result.reply ≡ 0 }
 {
     let stage = w.progress.stage;
     match said {
@@ -111,11 +105,10 @@ pub(crate) fn step(
 ) -> GoneOn
     requires goes { spec.Goes w images.old octets.old letters.old room.old }
     requires read { IsRead (spec.book_state_of w.progress images.old octets.old letters.old) said value.now }
-    ensures steps_by { StepsBy said value.now
+    ensures { StepsBy said value.now
         (spec.book_state_of w.progress images.old octets.old letters.old) room.old w.wrote
         (spec.book_state_of result.progress images.new octets.new letters.new) result.taken room.new
         result.wrote result.why }
-    ensures reply_value { result.reply ≡ 0 }
 {
     if w.progress.over {
         return stays(w, w.progress.stage, 0, OVER);

@@ -4,6 +4,9 @@ use mathlib.Core.List.{List, [], ◌∷◌, ◌++◌, map}
 use Prim.Native.Nat.{ℕ}
 use Prim.Native.String.{String}
 use lib.ListN.{replicate}
+use Rattle.std.specs.Prelude.{Result, Ok, Err}
+use Rattle.refusals.specs.declared.Refusal.{Refusal}
+use Rattle.refusals.specs.declared.Refusal.TheVariants.{WrongLine}
 use Rattle.symbols.specs.Symbols.{same_symbols}
 use Rattle.notes_and_cells.specs.Names.{ascii}
 use Rattle.text.specs.Text.{split, onto, upto, all, onward}
@@ -13,10 +16,9 @@ use Rattle.book_line.specs.EventNames.{event_names, event_named}
 use Rattle.book_line.specs.ValueForms.{form_of}
 use Rattle.book_line.specs.Line.{is_number, is_absent, is_body_text, is_hit_text, value_fits, formed}
 use Rattle.notes_and_cells.specs.Events.{ON, AR, DR, D1, D2, HIT, END}
-use Rattle.book_line.specs.Judging.{judged}
+use Rattle.book_line.specs.Judging.{entry, judged}
 use Rattle.book_line.specs.Value.{hex_digit, pairs, body_of, letter_code, value_octets}
-use Rattle.book_line.specs.declared.line.Judged.{Judged}
-use Rattle.book_line.specs.declared.line.Judged.TheVariants.{Entry, Refused}
+use Rattle.book_line.specs.declared.line.Entry.{Entry}
 
 -- where four fields end
 abbrev ends : ℕ → ℕ → ℕ → ℕ → Ends
@@ -25,54 +27,54 @@ ends first second third fourth = record { first = first; second = second; third 
 -- a line, and what it says
 pub record Example : Type 0 where
   pub line : List ℕ
-  pub says : Judged
+  pub says : Result Entry Refusal
 
-abbrev says : String → Judged → Example
+abbrev says : String → Result Entry Refusal → Example
 says line judged = record { line = ascii line; says = judged }
 
 -- a line that begins so, with that many digits 0 behind it
-abbrev says_long : String → ℕ → Judged → Example
+abbrev says_long : String → ℕ → Result Entry Refusal → Example
 says_long line zeros judged = record { line = ascii line ++ replicate zeros 48; says = judged }
 
 abbrev examples : List Example
 examples =
     -- document 01's example
-    says "0 1 on -" (Entry 0 1 ON (ends 1 3 6 8))
-    ∷ says "1 1 ar -" (Entry 1 1 AR (ends 1 3 6 8))
-    ∷ says "9 1 d1 00" (Entry 9 1 D1 (ends 1 3 6 9))
-    ∷ says "20 0 end -" (Entry 20 0 END (ends 2 4 8 10))
+    says "0 1 on -" (Ok (entry 0 1 ON (ends 1 3 6 8)))
+    ∷ says "1 1 ar -" (Ok (entry 1 1 AR (ends 1 3 6 8)))
+    ∷ says "9 1 d1 00" (Ok (entry 9 1 D1 (ends 1 3 6 9)))
+    ∷ says "20 0 end -" (Ok (entry 20 0 END (ends 2 4 8 10)))
     -- seven digits, leading zeros, an empty body, a unit that is none, an event that is not one for the unit
-    ∷ says "9999999 0000008 d2 -" (Entry 9999999 8 D2 (ends 7 15 18 20))
-    ∷ says "3 9 dr -" (Entry 3 9 DR (ends 1 3 6 8))
-    ∷ says "5 0 hit kpmnkpmnkpmnkpmnkpmnkpmnkpmnkpmnkpmnkpmnkpmnkpmn" (Entry 5 0 HIT (ends 1 3 7 56))
+    ∷ says "9999999 0000008 d2 -" (Ok (entry 9999999 8 D2 (ends 7 15 18 20)))
+    ∷ says "3 9 dr -" (Ok (entry 3 9 DR (ends 1 3 6 8)))
+    ∷ says "5 0 hit kpmnkpmnkpmnkpmnkpmnkpmnkpmnkpmnkpmnkpmnkpmnkpmn" (Ok (entry 5 0 HIT (ends 1 3 7 56)))
     -- 600 characters with the LF; one more is too long
-    ∷ says_long "0 1 d1 " 592 (Entry 0 1 D1 (ends 1 3 6 599))
-    ∷ says_long "00 1 d1 " 592 (Refused 12)
+    ∷ says_long "0 1 d1 " 592 (Ok (entry 0 1 D1 (ends 1 3 6 599)))
+    ∷ says_long "00 1 d1 " 592 (Err WrongLine)
     -- not four fields
-    ∷ says "" (Refused 12)
-    ∷ says "0 1 on" (Refused 12)
-    ∷ says "0 1 on - " (Refused 12)
-    ∷ says "0 1  on -" (Refused 12)
+    ∷ says "" (Err WrongLine)
+    ∷ says "0 1 on" (Err WrongLine)
+    ∷ says "0 1 on - " (Err WrongLine)
+    ∷ says "0 1  on -" (Err WrongLine)
     -- a period or a unit of the wrong form
-    ∷ says "00000001 1 on -" (Refused 12)
-    ∷ says "+1 1 on -" (Refused 12)
-    ∷ says " 1 on -" (Refused 12)
-    ∷ says "0 1a on -" (Refused 12)
+    ∷ says "00000001 1 on -" (Err WrongLine)
+    ∷ says "+1 1 on -" (Err WrongLine)
+    ∷ says " 1 on -" (Err WrongLine)
+    ∷ says "0 1a on -" (Err WrongLine)
     -- an event name that is none
-    ∷ says "0 1 onn -" (Refused 12)
-    ∷ says "0 1 ON -" (Refused 12)
-    ∷ says "0 0  -" (Refused 12)
+    ∷ says "0 1 onn -" (Err WrongLine)
+    ∷ says "0 1 ON -" (Err WrongLine)
+    ∷ says "0 0  -" (Err WrongLine)
     -- hexadecimal digits: an odd number of them, upper case, none
-    ∷ says "0 1 d1 000" (Refused 12)
-    ∷ says "0 1 d1 0A" (Refused 12)
-    ∷ says "0 1 d1 " (Refused 12)
+    ∷ says "0 1 d1 000" (Err WrongLine)
+    ∷ says "0 1 d1 0A" (Err WrongLine)
+    ∷ says "0 1 d1 " (Err WrongLine)
     -- letters of a hit: 47 of them, another letter, none
-    ∷ says "5 0 hit kpmnkpmnkpmnkpmnkpmnkpmnkpmnkpmnkpmnkpmnkpmnkpm" (Refused 12)
-    ∷ says "5 0 hit kpmnkpmnkpmnkpmnkpmnkpmnkpmnkpmnkpmnkpmnkpmnkpmx" (Refused 12)
-    ∷ says "5 0 hit -" (Refused 12)
+    ∷ says "5 0 hit kpmnkpmnkpmnkpmnkpmnkpmnkpmnkpmnkpmnkpmnkpmnkpm" (Err WrongLine)
+    ∷ says "5 0 hit kpmnkpmnkpmnkpmnkpmnkpmnkpmnkpmnkpmnkpmnkpmnkpmx" (Err WrongLine)
+    ∷ says "5 0 hit -" (Err WrongLine)
     -- a value where none belongs
-    ∷ says "0 1 on 00" (Refused 12)
-    ∷ says "0 1 on --" (Refused 12)
+    ∷ says "0 1 on 00" (Err WrongLine)
+    ∷ says "0 1 on --" (Err WrongLine)
     ∷ []
 
 pub judgements : map (λ (x : Example). judged x.line) examples ≡ map (λ (x : Example). x.says) examples

@@ -1,5 +1,5 @@
 -- Each way out of the judging of a line, over plain values; and what a line of right form is.
-use mathlib.Core.Path.{◌≡◌}
+use mathlib.Core.Path.{◌≡◌, sym}
 use mathlib.Core.Bool.{Bool, true, false, not, ◌&&◌}
 use mathlib.Core.List.{List}
 use Prim.Native.Nat.{ℕ, ◌≤◌, ◌<◌}
@@ -7,41 +7,59 @@ use native.Mathlib.Omega.{arith}
 use lib.Dec.{eqb, ltb}
 use lib.ListN.{length}
 use borrow.Author.Tests.{eqb-true, eqb-false, ne_eqb, ltb-true, lt-ltb, le-ltb, not-true}
+use Rattle.std.specs.Prelude.{Option, Some, None, Result, Ok, Err}
+use Rattle.refusals.specs.declared.Refusal.{Refusal}
+use Rattle.refusals.specs.declared.Refusal.TheVariants.{WrongLine}
 use Rattle.test_lemmas.proofs.ByCases.{by_test, and_left, and_right, and_right_false}
 use Rattle.text.specs.Text.{fields, field, number}
 use Rattle.text.specs.Fields.{ends_of}
 use Rattle.text.specs.declared.field.Ends.{Ends}
-use Rattle.book_line.specs.EventNames.{event_named}
+use Rattle.book_line.specs.EventNames.{event_named, event_if_named}
 use Rattle.book_line.specs.Line.{longest_line, is_number, period_of, unit_of, event_of, value_fits, value_of, formed}
-use Rattle.book_line.specs.Judging.{number_of, judged, judged_fields}
-use Rattle.book_line.specs.declared.number.Number.{Number}
-use Rattle.book_line.specs.declared.line.Judged.{Judged}
+use Rattle.book_line.specs.Judging.{number_of, entry, judged, judged_fields}
+use Rattle.book_line.specs.declared.line.Entry.{Entry}
 
 -- ---- What the reading of a number says of its field.
-number_wrong : (f : List ℕ) (k : ℕ) → Number.Refused k ≡ number_of f → is_number f ≡ false
+number_wrong : (f : List ℕ) (r : Refusal) → Err r ≡ number_of f → is_number f ≡ false
 unfolding number_of
-number_wrong f k e =
+number_wrong f r e =
     by_test (is_number f)
-    (λ y. let z : Number.Refused k ≡ Number.Is (number f) = rw y at e in let o : ◌≡◌ {A = ℕ} 0 1 = cc in absurd (omega arith))
+    (λ y. let z : ◌≡◌ {A = Result ℕ Refusal} (Err r) (Ok (number f)) = rw y at e in let o : ◌≡◌ {A = ℕ} 0 1 = cc in absurd (omega arith))
     (λ n. n)
+
+number_twelve : (f : List ℕ) (r : Refusal) → Err r ≡ number_of f → r ≡ WrongLine
+unfolding number_of
+number_twelve f r e = let z : ◌≡◌ {A = Result ℕ Refusal} (Err r) (Err WrongLine) = rw (number_wrong f r e) at e in cc
 
 record Said (f : List ℕ) (n : ℕ) : Type 0 where
   pub formed : is_number f ≡ true
   pub value : number f ≡ n
 
-number_said : (f : List ℕ) (n : ℕ) → Number.Is n ≡ number_of f → Said f n
+number_said : (f : List ℕ) (n : ℕ) → Ok n ≡ number_of f → Said f n
 unfolding number_of
 number_said f n e =
     by_test (is_number f)
-    (λ y. let z : Number.Is n ≡ Number.Is (number f) = rw y at e in record { formed = y; value = cc })
-    (λ w. let z : Number.Is n ≡ Number.Refused 12 = rw w at e in let o : ◌≡◌ {A = ℕ} 0 1 = cc in absurd (omega arith))
+    (λ y. let z : ◌≡◌ {A = Result ℕ Refusal} (Ok n) (Ok (number f)) = rw y at e in record { formed = y; value = cc })
+    (λ w. let z : ◌≡◌ {A = Result ℕ Refusal} (Ok n) (Err WrongLine) = rw w at e in let o : ◌≡◌ {A = ℕ} 0 1 = cc in absurd (omega arith))
+
+-- ---- What the look-up of an event's name says of it.
+record Named (f : List ℕ) (event : ℕ) : Type 0 where
+  some : eqb event 0 ≡ false
+  value : event ≡ event_named f
+
+name_said : (f : List ℕ) (event : ℕ) → Some event ≡ event_if_named f → Named f event
+name_said f event e =
+    by_test (eqb (event_named f) 0)
+    (λ z. let w : ◌≡◌ {A = Option ℕ} (Some event) None = rw z at e in let o : ◌≡◌ {A = ℕ} 0 1 = cc in absurd (omega arith))
+    (λ z. let w : ◌≡◌ {A = Option ℕ} (Some event) (Some (event_named f)) = rw z at e in
+    let v : event ≡ event_named f = cc in record { some = rw v z; value = v })
 
 -- ---- The ways out.
-pub too_long : (line : List ℕ) → longest_line ≤ length line → Judged.Refused 12 ≡ judged line
+pub too_long : (line : List ℕ) → longest_line ≤ length line → Err WrongLine ≡ judged line
 unfolding judged formed
 too_long line h = rw (le-ltb (length line) longest_line h)
 
-pub not_four : (line : List ℕ) → (length (fields line) ≡ 4 → ⊥) → Judged.Refused 12 ≡ judged line
+pub not_four : (line : List ℕ) → (length (fields line) ≡ 4 → ⊥) → Err WrongLine ≡ judged line
 unfolding judged formed
 not_four line h =
     rw (and_right_false (ltb (length line) longest_line) (eqb (length (fields line)) 4) (ne_eqb (length (fields line)) 4 h))
@@ -56,27 +74,35 @@ module _ (f0 f1 f2 v : List ℕ) (ends : Ends) where
   abbrev said : Bool
   said = not (eqb (event_named f2) 0) && value_fits (event_named f2) v
 
-  pub wrong_period : (k : ℕ) → Number.Refused k ≡ number_of f0 → Judged.Refused 12 ≡ judged_fields f0 f1 f2 v ends
+  pub wrong_period : (r : Refusal) → Err r ≡ number_of f0 → Err r ≡ judged_fields f0 f1 f2 v ends
   unfolding judged_fields
-  wrong_period k h = rw (number_wrong f0 k h)
+  wrong_period r h = rw (number_twelve f0 r h, number_wrong f0 r h)
 
-  pub wrong_unit : (k : ℕ) → Number.Refused k ≡ number_of f1 → Judged.Refused 12 ≡ judged_fields f0 f1 f2 v ends
+  pub wrong_unit : (r : Refusal) → Err r ≡ number_of f1 → Err r ≡ judged_fields f0 f1 f2 v ends
   unfolding judged_fields
-  wrong_unit k h = rw (and_right_false (is_number f0) (is_number f1) (number_wrong f1 k h))
+  wrong_unit r h = rw (number_twelve f1 r h, and_right_false (is_number f0) (is_number f1) (number_wrong f1 r h))
 
-  pub wrong_told : (event : ℕ) (fits : Bool) → event ≡ event_named f2 → fits ≡ value_fits event v → (not (eqb event 0) && fits) ≡ false
-      → Judged.Refused 12 ≡ judged_fields f0 f1 f2 v ends
+  pub wrong_name : (r : Refusal) → event_if_named f2 ≡ None → ◌≡◌ {A = Result ℕ Refusal} (Err r) (Err WrongLine) → Err r ≡ judged_fields f0 f1 f2 v ends
   unfolding judged_fields
-  wrong_told event fits e w h = rw (and_right_false (is_number f0 && is_number f1) said (rw (w, e) at h))
+  wrong_name r e same =
+      by_test (eqb (event_named f2) 0)
+      (λ z. let w : said ≡ false = rw z in let k : r ≡ WrongLine = cc in rw (k, and_right_false (is_number f0 && is_number f1) said w))
+      (λ z. let w : ◌≡◌ {A = Option ℕ} (Some (event_named f2)) None = rw z at e in let o : ◌≡◌ {A = ℕ} 0 1 = cc in absurd (omega arith))
 
-  pub right : (p u event : ℕ) (fits : Bool) → Number.Is p ≡ number_of f0 → Number.Is u ≡ number_of f1
-      → event ≡ event_named f2 → fits ≡ value_fits event v → (not (eqb event 0) && fits) ≡ true
-      → Judged.Entry p u event ends ≡ judged_fields f0 f1 f2 v ends
+  pub wrong_value : (event : ℕ) → Some event ≡ event_if_named f2 → false ≡ value_fits event v → Err WrongLine ≡ judged_fields f0 f1 f2 v ends
   unfolding judged_fields
-  right p u event fits period unit e w h =
+  wrong_value event e w =
+      let n = name_said f2 event e in
+      let x : said ≡ false = rw (sym n.value, n.some, sym w) in rw (and_right_false (is_number f0 && is_number f1) said x)
+
+  pub right : (p u event : ℕ) → Ok p ≡ number_of f0 → Ok u ≡ number_of f1
+      → Some event ≡ event_if_named f2 → true ≡ value_fits event v → Ok (entry p u event ends) ≡ judged_fields f0 f1 f2 v ends
+  unfolding judged_fields
+  right p u event period unit e w =
       let x = number_said f0 p period in
       let y = number_said f1 u unit in
-      rw (e, x.formed, y.formed, rw (w, e) at h, x.value, y.value)
+      let n = name_said f2 event e in
+      rw (sym n.value, x.formed, y.formed, n.some, sym w, x.value, y.value)
 
 -- ---- A line of right form.
 module _ (line : List ℕ) where
@@ -117,10 +143,10 @@ formed_parts line e =
     }
 
 -- a line that is refused is refused with 12
-pub judged_twelve : (line : List ℕ) (k : ℕ) → Judged.Refused k ≡ judged line → k ≡ 12
+pub judged_twelve : (line : List ℕ) (r : Refusal) → Err r ≡ judged line → r ≡ WrongLine
 unfolding judged
-judged_twelve line k e =
+judged_twelve line r e =
     by_test (formed line)
-    (λ f. let z : Judged.Refused k ≡ Judged.Entry (period_of line) (unit_of line) (event_of line) (ends_of line) = rw f at e in
+    (λ f. let z : ◌≡◌ {A = Result Entry Refusal} (Err r) (Ok (entry (period_of line) (unit_of line) (event_of line) (ends_of line))) = rw f at e in
     let o : ◌≡◌ {A = ℕ} 0 1 = cc in absurd (omega arith))
-    (λ f. let z : Judged.Refused k ≡ Judged.Refused 12 = rw f at e in cc)
+    (λ f. let z : ◌≡◌ {A = Result Entry Refusal} (Err r) (Err WrongLine) = rw f at e in cc)

@@ -1,5 +1,5 @@
 -- Decimal numbers of at most seven digits: they fit, and how the loop over their digits comes on.
-use mathlib.Core.Path.{◌≡◌, refl}
+use mathlib.Core.Path.{◌≡◌}
 use mathlib.Core.Bool.{Bool, true, false, ◌&&◌}
 use mathlib.Core.List.{List}
 use Prim.Native.Nat.{ℕ, ◌+◌, ◌-◌, ◌*◌, ◌≤◌, ◌<◌, ◌^◌}
@@ -10,23 +10,21 @@ use lib.Dec.{leb}
 use lib.ListN.{length, get_or, drop, drop_of_length-le}
 use lib.Seq.{drop-cons}
 use borrow.Author.Tests.{leb-true}
+use Rattle.std.specs.Prelude.{Ok, Err}
+use Rattle.refusals.specs.declared.Refusal.TheVariants.{WrongLine}
 use Rattle.test_lemmas.proofs.ByCases.{and_right_false}
 use Rattle.test_lemmas.proofs.Operators.{and_both}
-use Rattle.symbols.proofs.Scan.{Rest, rest_start}
+use Rattle.symbols.proofs.Scan.{Rest}
 use Rattle.text.specs.Text.{all, is_digit, onward, number}
 use Rattle.text.proofs.Pieces.{all_go}
 use Rattle.book_line.specs.Line.{most_digits, is_number}
 use Rattle.book_line.specs.Judging.{number_of}
-use Rattle.book_line.specs.declared.number.Number.{Number}
 
 -- what the digits before i wrote, with those from i on, is the whole number
 pub record Reading (f : List ℕ) (n i : ℕ) : Type 0 where
   pub digits : Rest (all is_digit) f i
   pub small : n < 10 ^ i
   pub reads : onward n (drop i f) ≡ number f
-
-pub reading_start : {f : List ℕ} → Reading f 0 0
-reading_start = record { digits = rest_start; small = omega arith; reads = refl }
 
 pub digit_range : (c : ℕ) → is_digit c ≡ true → (48 ≤ c) × (c ≤ 57)
 digit_range c e = let b = and_both (leb 48 c) (leb c 57) e in (leb-true 48 c b.0, leb-true c 57 b.1)
@@ -57,14 +55,14 @@ module _ (f : List ℕ) where
   pub few : sized ≡ true → length f ≤ most_digits
   few e = leb-true (length f) most_digits (and_both (leb 1 (length f)) (leb (length f) most_digits) e).1
 
-  pub number_unsized : sized ≡ false → Number.Refused 12 ≡ number_of f
+  pub number_unsized : sized ≡ false → Err WrongLine ≡ number_of f
   unfolding number_of is_number
   number_unsized e = rw e
 
-  pub number_wrong : all is_digit f ≡ false → Number.Refused 12 ≡ number_of f
+  pub number_wrong : all is_digit f ≡ false → Err WrongLine ≡ number_of f
   unfolding number_of is_number
   number_wrong e = rw (and_right_false sized (all is_digit f) e)
 
-  pub number_is : {n : ℕ} → sized ≡ true → all is_digit f ≡ true → number f ≡ n → Number.Is n ≡ number_of f
+  pub number_is : {n : ℕ} → sized ≡ true → all is_digit f ≡ true → number f ≡ n → Ok n ≡ number_of f
   unfolding number_of is_number
   number_is s e v = rw (s, e, v)

@@ -1,44 +1,44 @@
 // The events of a book by number and by name.
-ghost use Rattle.std.specs.Prelude.{◌≡◌};
+ghost use Rattle.std.specs.Prelude.{◌≡◌, map};
 ghost use Rattle.book_line.specs.EventNames as spec;
 ghost use Rattle.book_line.specs.Line as line;
 
 use notes_and_cells::events::{AR, D1, D2, DR, END, HIT, OFF, ON};
-use text::same::same;
 
-// How many events have a name.
-const EVENTS: usize = 8;
+// Each event's number, and its name.
+const EVENTS: [(u8, &[u8]); 8] = [
+    (ON, b"on"),
+    (OFF, b"off"),
+    (AR, b"ar"),
+    (DR, b"dr"),
+    (D1, b"d1"),
+    (D2, b"d2"),
+    (HIT, b"hit"),
+    (END, b"end"),
+];
 
-// The names, one behind the other.
-const NAMES: [u8; PLACES[EVENTS] as usize] = *b"onoffardrd1d2hitend";
-
-// Where each name begins; the last one's end.
-const PLACES: [u8; EVENTS + 1] = [0, 2, 5, 7, 9, 11, 13, 16, 19];
-
-// The number beside each name.
-const NUMBERS: [u8; EVENTS] = [ON, OFF, AR, DR, D1, D2, HIT, END];
-
-// Gives the number of the event that a name names, or 0. The tables are held in locals, so that the
-// compiler writes the turns of the loop out and compares with each name as it stands.
-pub fn event_named(name: &[u8]) -> u8
-    ensures { result ≡ spec.event_named name.now }
+// Gives the number that stands beside a name in a list of events, if the name stands in it.
+fn number_beside(name: &[u8], events: &[(u8, &[u8])]) -> Option<u8>
+    ensures { result ≡ spec.if_beside name.now (map (λ event. (event.0, event.1.now)) events.now) }
 {
-    let names = NAMES;
-    let places = PLACES;
-    let numbers = NUMBERS;
-    let mut k: usize = 0;
-    while k < EVENTS {
-        let start = places[k] as usize;
-        let end = places[k + 1] as usize;
-        if same(&names[start..end], name) {
-            return numbers[k];
+    for (event, its_name) in events {
+        if *its_name == name {
+            return Some(*event);
         }
-        k += 1;
     }
-    0
+    None
+}
+
+// Gives the number of the event that a name names, if it names one.
+#[tactic(auto, using(crate::proofs::EventTable::event_beside), unfolding(crate::specs::EventNames::event_names))]
+pub fn event_named(name: &[u8]) -> Option<u8>
+    ensures { result ≡ spec.event_if_named name.now }
+{
+    number_beside(name, &EVENTS)
 }
 
 // Tests whether an event is an `end` that is accepted.
+#[tactic(auto, unfolding(crate::specs::Line::is_end))]
 pub fn is_end(unit: u32, event: u8) -> bool
     ensures { result ≡ line.is_end unit event }
 {

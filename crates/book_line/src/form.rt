@@ -6,7 +6,6 @@ ghost use Rattle.book_line.specs.Line as spec;
 use notes_and_cells::events::{D1, D2, HIT};
 use symbols::LINE_LENGTH;
 use text::octets::{all_hex, all_letters};
-use text::same::same;
 
 // What an event's value is: none, so that `-` stands for it; a body in hexadecimal; the letters of
 // a hit.
@@ -18,13 +17,15 @@ pub enum ValueForm {
 }
 
 // Tests whether a value is absent.
+#[tactic(auto, using(symbols::proofs::Comparing::pointwise_same), unfolding(crate::specs::Line::is_absent))]
 pub fn is_absent(v: &[u8]) -> bool
     ensures { result ≡ spec.is_absent v.now }
 {
-    same(v, b"-")
+    v == b"-".as_slice()
 }
 
 // Tests whether a value is a body in hexadecimal.
+#[tactic(auto, unfolding(crate::specs::Line::is_body_text))]
 pub fn is_body(v: &[u8]) -> bool
     ensures { result ≡ spec.is_body_text v.now }
 {
@@ -32,38 +33,27 @@ pub fn is_body(v: &[u8]) -> bool
 }
 
 // Tests whether a value is the letters of a hit, one for each symbol of a line.
+#[tactic(auto, unfolding(crate::specs::Line::is_hit_text))]
 pub fn is_hit(v: &[u8]) -> bool
     ensures { result ≡ spec.is_hit_text v.now }
 {
     (v.len() == LINE_LENGTH) & all_letters(v)
 }
 
-// How many events have a value.
-const VALUED: usize = 3;
-
-// Their numbers.
-const NUMBERS: [u8; VALUED] = [D1, D2, HIT];
-
-// The form of the value of each.
-const FORMS: [ValueForm; VALUED] = [ValueForm::Body, ValueForm::Body, ValueForm::Letters];
-
 // Gives the form of an event's value.
+#[tactic(auto, unfolding(crate::specs::ValueForms::form_of))]
 pub(crate) fn form_of(event: u8) -> ValueForm
     ensures { result ≡ form_of event }
 {
-    let numbers = NUMBERS;
-    let forms = FORMS;
-    let mut k: usize = 0;
-    while k < VALUED {
-        if numbers[k] == event {
-            return forms[k];
-        }
-        k += 1;
+    match event {
+        D1 | D2 => ValueForm::Body,
+        HIT => ValueForm::Letters,
+        _ => ValueForm::Absent,
     }
-    ValueForm::Absent
 }
 
 // Tests whether a value is of the form that the event wants.
+#[tactic(auto, unfolding(crate::specs::Line::value_fits))]
 pub fn value_fits(event: u8, v: &[u8]) -> bool
     ensures { result ≡ spec.value_fits event v.now }
 {

@@ -4,7 +4,8 @@ ghost use Rattle.book_line.specs.Judging as spec;
 
 use crate::event::event_named;
 use crate::form::value_fits;
-use crate::number::{Number, digits};
+use crate::number::digits;
+use refusals::Refusal;
 use text::field::{Ends, field, split};
 
 // The most characters of a line, its LF included.
@@ -19,52 +20,50 @@ const EVENT: usize = 2;
 
 const VALUE: usize = 3;
 
-// What the judging of a line answers.
+// What a line of right form says, and where its fields end: the value is the last of them.
 #[derive(Clone, Copy)]
-pub enum Judged {
-    // A line of right form, and where its fields end: the value is the last of them.
-    Entry {
-        period: u32,
-        unit: u32,
-        event: u8,
-        ends: Ends,
-    },
-    // A line of the wrong form: 12.
-    Refused(u8),
+pub struct Entry {
+    pub period: u32,
+    pub unit: u32,
+    pub event: u8,
+    pub ends: Ends,
 }
 
 // Judges four fields with these ends.
-fn judge_fields(period: &[u8], unit: &[u8], name: &[u8], value: &[u8], ends: Ends) -> Judged
+fn judge_fields(
+    period: &[u8],
+    unit: &[u8],
+    name: &[u8],
+    value: &[u8],
+    ends: Ends,
+) -> Result<Entry, Refusal>
     ensures { result ≡ spec.judged_fields period.now unit.now name.now value.now ends }
 {
-    let Number::Is(period) = digits(period) else {
-        return Judged::Refused(12);
-    };
-    let Number::Is(unit) = digits(unit) else {
-        return Judged::Refused(12);
-    };
-    let event = event_named(name);
-    if !((event != 0) & value_fits(event, value)) {
-        return Judged::Refused(12);
+    let period = digits(period)?;
+    let unit = digits(unit)?;
+    let event = event_named(name).ok_or(Refusal::WrongLine)?;
+    if !value_fits(event, value) {
+        return Err(Refusal::WrongLine);
     }
-    Judged::Entry {
+    Ok(Entry {
         period,
         unit,
         event,
         ends,
-    }
+    })
 }
 
-// Judges a line, its LF left off, by the four fields into which it is split.
-pub fn judge(line: &[u8]) -> Judged
+// Judges a line, its LF left off, by the four fields into which it is split. A line of the wrong
+// form is turned down.
+pub fn judge(line: &[u8]) -> Result<Entry, Refusal>
     ensures { result ≡ spec.judged line.now }
 {
     if line.len() >= LONGEST_LINE {
-        return Judged::Refused(12);
+        return Err(Refusal::WrongLine);
     }
     let ends = split(line);
     if ends.fourth != line.len() {
-        return Judged::Refused(12);
+        return Err(Refusal::WrongLine);
     }
     judge_fields(
         field(line, ends, PERIOD),

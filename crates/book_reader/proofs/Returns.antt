@@ -9,28 +9,30 @@ use lib.ListN.{length, take, drop, length-take, length-drop, drop_of_length-le}
 use lib.Seq.{take_all}
 use borrow.Author.Tests.{eq-eqb, ne_eqb, lt-ltb, le-ltb, ltb-true, ltb-false}
 use Rattle.test_lemmas.proofs.ByCases.{by_test}
+use Rattle.std.specs.Prelude.{Result, Ok, Err}
+use Rattle.refusals.specs.declared.Refusal.{Refusal}
+use Rattle.refusals.specs.Numbers.{number}
 use Rattle.text.specs.Text.{LF, upto}
-use Rattle.text.specs.declared.field.Ends.{Ends}
 use Rattle.book_line.specs.Line.{longest_line, in_order}
 use Rattle.book_line.specs.Judging.{judged}
-use Rattle.book_line.proofs.Judging.{judged_twelve}
-use Rattle.book_line.specs.declared.line.Judged.{Judged}
+use Rattle.book_line.specs.declared.line.Entry.{Entry}
 use Rattle.book_reader.specs.Step.{before_first_line, at_lines, ruled, window, line_step, unended, head_step, tail_step, step_of, step_at}
 use Rattle.book_reader.specs.declared.step.Step.{Step}
 
 -- ---- a line that is judged
 module _ (last end : ℕ) where
-  pub ruled_wrong : (k : ℕ) (line : List ℕ) → Judged.Refused k ≡ judged line → Step.Fault 12 ≡ ruled last end (judged line)
+  pub ruled_wrong : (reason : Refusal) (j : Result Entry Refusal) → Err reason ≡ j → Step.Fault (number reason) ≡ ruled last end j
   unfolding ruled
-  ruled_wrong k line q = ap Step.Fault (sym (judged_twelve line k q)) ∙ ap (ruled last end) q
+  ruled_wrong reason j q = ap (ruled last end) q
 
-  pub ruled_late : (p u e : ℕ) (v : Ends) (j : Judged) → Judged.Entry p u e v ≡ j → in_order last p ≡ false → Step.Fault 13 ≡ ruled last end j
+  pub ruled_late : (e : Entry) (j : Result Entry Refusal) → Ok e ≡ j → in_order last e.period ≡ false → Step.Fault 13 ≡ ruled last end j
   unfolding ruled
-  ruled_late p u e v j q f = let z : Step.Fault 13 ≡ ruled last end (Judged.Entry p u e v) = rw f in z ∙ ap (ruled last end) q
+  ruled_late e j q f = let z : Step.Fault 13 ≡ ruled last end (Ok e) = rw f in z ∙ ap (ruled last end) q
 
-  pub ruled_entry : (p u e : ℕ) (v : Ends) (j : Judged) → Judged.Entry p u e v ≡ j → in_order last p ≡ true → Step.Entry p u e v end ≡ ruled last end j
+  pub ruled_entry : (e : Entry) (j : Result Entry Refusal) → Ok e ≡ j → in_order last e.period ≡ true
+      → Step.Entry e.period e.unit e.event e.ends end ≡ ruled last end j
   unfolding ruled
-  ruled_entry p u e v j q f = let z : Step.Entry p u e v end ≡ ruled last end (Judged.Entry p u e v) = rw f in z ∙ ap (ruled last end) q
+  ruled_entry e j q f = let z : Step.Entry e.period e.unit e.event e.ends end ≡ ruled last end (Ok e) = rw f in z ∙ ap (ruled last end) q
 
 -- ---- the search for a line's LF
 -- no more than are there

@@ -3,12 +3,14 @@
 -- says that the text reaches to the book's end.
 -- Interface: `before_first_line`, `head_step`, `ruled`, `unended`, `line_step`, `tail_step`, `step_at`,
 -- `taken_by`, `value_from`, `value_to`, `value_at`, `moved_on`. Assumes nothing.
-use Rattle.std.specs.Prelude.{Bool, cond, List, ℕ, ◌+◌, ◌-◌, min, eqb, ltb, length, take, drop}
+use Rattle.std.specs.Prelude.{Result, Ok, Err, Bool, cond, List, ℕ, ◌+◌, ◌-◌, min, eqb, ltb, length, take, drop}
+use Rattle.refusals.specs.Numbers.{number}
+use Rattle.refusals.specs.declared.Refusal.{Refusal}
 use Rattle.text.specs.Text.{LF, upto, same}
 use Rattle.text.specs.Fields.{field_from, field_to}
 use Rattle.book_line.specs.Line.{longest_line, in_order}
 use Rattle.book_line.specs.Judging.{judged}
-use Rattle.book_line.specs.declared.line.Judged.{Judged}
+use Rattle.book_line.specs.declared.line.Entry.{Entry}
 use Rattle.book_reader.specs.Book.{first_line}
 use Rattle.book_reader.specs.declared.step.Step.{Step}
 
@@ -30,9 +32,9 @@ head_step t whole =
     (cond (same (take (length first_line) t) first_line) Step.Begun (Step.Fault 11))
 
 -- A line of `octets` octets, its LF included (12, then 13).
-unfoldable pub ruled : ℕ → ℕ → Judged → Step
-ruled last octets (Judged.Refused k) = Step.Fault k
-ruled last octets (Judged.Entry p u e ends) = cond (in_order last p) (Step.Entry p u e ends octets) (Step.Fault 13)
+unfoldable pub ruled : ℕ → ℕ → Result Entry Refusal → Step
+ruled last octets (Err reason) = Step.Fault (number reason)
+ruled last octets (Ok e) = cond (in_order last e.period) (Step.Entry e.period e.unit e.event e.ends octets) (Step.Fault 13)
 
 -- n octets without LF: too long a line (12); or the book ends here, after a LF (14) or without one
 -- (12); or the line is cut.

@@ -13,42 +13,44 @@ pub struct Reader<'a> {
     pub at: usize,
 }
 
-// Makes a reader of the text that has read nothing.
-pub fn new<'a>(text: &'a [u8]) -> Reader<'a>
-    ensures text_value { result.text ≡ text.entry }
-    ensures at_value { result.at ≡ 0 }
-{
-    Reader { text, at: 0 }
-}
+impl<'a> Reader<'a> {
+    // Makes a reader of the text that has read nothing.
+    pub fn new(text: &'a [u8]) -> Self
+        ensures text_value { result.text ≡ text.entry }
+        ensures at_value { result.at ≡ 0 }
+    {
+        Reader { text, at: 0 }
+    }
 
-// Reads what stands where the reader is; `whole` says that its text reaches to the book's end.
-pub fn read<'a>(r: Reader<'a>, stage: u8, last: u32, whole: bool) -> Step
-    ensures { result ≡ step_at r.entry.text.now r.entry.at stage last whole }
-{
-    step_at(r.text, r.at, stage, last, whole)
-}
+    // Reads what stands where the reader is; `whole` says that its text reaches to the book's end.
+    pub fn read(self, stage: u8, last: u32, whole: bool) -> Step
+        ensures { result ≡ step_at self.entry.text.now self.entry.at stage last whole }
+    {
+        step_at(self.text, self.at, stage, last, whole)
+    }
 
-// Gives the value of the line that it has read there, as the part of the lent text that it is;
-// empty where it has read no line.
-pub fn value<'a>(r: Reader<'a>, said: Step) -> &'a [u8]
-    ensures { IsPart r.entry.text (r.entry.at + value_from said) (r.entry.at + value_to said) result }
-{
-    value_at(r.text, r.at, said)
-}
+    // Gives the value of the line that it has read there, as the part of the lent text that it is;
+    // empty where it has read no line.
+    pub fn value(self, said: Step) -> &'a [u8]
+        ensures { IsPart self.entry.text (self.entry.at + value_from said) (self.entry.at + value_to said) result }
+    {
+        value_at(self.text, self.at, said)
+    }
 
-// Moves the reader on by `octets` octets, at most to the text's end.
-pub fn next<'a>(r: Reader<'a>, octets: usize) -> Reader<'a>
-    ensures text_value { result.text ≡ r.entry.text }
-    ensures at_value { result.at ≡ moved_on r.entry.at octets (length r.entry.text.now) }
-{
-    let text = r.text;
-    let at = moved_on(r.at, octets, text.len());
-    Reader { text, at }
-}
+    // Moves the reader on by `octets` octets, at most to the text's end.
+    pub fn next(self, octets: usize) -> Self
+        ensures text_value { result.text ≡ self.entry.text }
+        ensures at_value { result.at ≡ moved_on self.entry.at octets (length self.entry.text.now) }
+    {
+        let text = self.text;
+        let at = moved_on(self.at, octets, text.len());
+        Reader { text, at }
+    }
 
-// Gives how far it has read.
-pub fn at<'a>(r: Reader<'a>) -> usize
-    ensures { result ≡ r.entry.at }
-{
-    r.at
+    // Gives how far it has read.
+    pub fn at(self) -> usize
+        ensures { result ≡ self.entry.at }
+    {
+        self.at
+    }
 }

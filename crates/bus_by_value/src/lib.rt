@@ -12,7 +12,6 @@ use bus_event::event::Told;
 use bus_record::record::BusRecord;
 use bus_record::side::RunAnswer;
 use exchange::tally::Tally;
-use notes_and_cells::cell::NO_NOTES;
 use period_hearing::hears::UnitNotes;
 use terminal::Terminal;
 
@@ -37,11 +36,6 @@ pub struct HeldRun {
     pub terminals: [Terminal; 8],
     pub notes: [UnitNotes; 8],
 }
-
-const NONE: UnitNotes = UnitNotes {
-    hearing: NO_NOTES,
-    timers: NO_NOTES,
-};
 
 // Runs one D opportunity.
 pub fn opportunity(before: [Terminal; 8], images: &[u8], tally: Tally) -> HeldTally
@@ -97,7 +91,7 @@ pub fn run(
         ≡ (kept_after most (found bus before images.now octets.old letters.now)).octets }
 {
     let mut terminals = before;
-    let mut notes = [NONE; 8];
+    let mut notes = [UnitNotes::NONE; 8];
     let answer = bus_calls::run::run(
         bus,
         &mut terminals,

@@ -21,7 +21,7 @@ use Rattle.network.proofs.Laws as network-laws
 use Rattle.terminal.specs.Terminal as terminal
 use Rattle.terminal.specs.Calls as terminalCalls
 use Rattle.terminal.specs.declared.Terminal.{Terminal}
-use Rattle.terminal.specs.declared.TerminalStep.{TerminalStep}
+use Rattle.terminal.specs.Steps.{TerminalStep}
 use Rattle.terminal.proofs.Laws as terminal-laws
 use Rattle.terminal.proofs.Laws.{is_terminal_note, timer_told}
 use Rattle.bus_rules.specs.Bus.{Note, notes_of}
@@ -32,7 +32,9 @@ use Rattle.bus_rules.specs.Exchange.{Sender, exchanged, whole_down}
 use Rattle.bus_rules.specs.Period.{terminal_hears}
 use Rattle.bus_rules.proofs.Telling.{network_hears_plain, network_timers_plain, terminal_hears_plain}
 use Rattle.d_reader.specs.declared.ReaderAnswer.{ReaderAnswer}
-use Rattle.d_reader.specs.declared.ReaderAnswer.TheVariants.{Nothing, Heard, Torn, Refused}
+use Rattle.d_reader.specs.declared.ReaderAnswer.TheVariants.{Nothing, Heard, Torn}
+use Rattle.refusals.specs.declared.Refusal.{Refusal}
+use Rattle.std.specs.Prelude.{Result, Ok, Err}
 use Rattle.hdlc.specs.Bits.{bit_of}
 use Rattle.period_hearing.specs.Shown.{heard_notes, timed_notes, terminal_notes}
 use Rattle.period_hearing.specs.declared.hears.UnitNotes.{UnitNotes}
@@ -105,13 +107,13 @@ coded_timers now i [] h = refl
 coded_timers now i (n ∷ ns) h =
     coded_append (notes_of now (suc i) (noted n.timers)) (timers_told now (suc i) ns) (coded_of now (suc i) _ h.1) (coded_timers now (suc i) ns h.2)
 
-said_code : (answers : List ReaderAnswer) → eqb (note_of answers) 0 ≡ false → is_code (note_of answers) ≡ true
+said_code : (answers : List (Result ReaderAnswer Refusal)) → eqb (note_of answers) 0 ≡ false → is_code (note_of answers) ≡ true
 unfolding note_of
 said_code [] h = clash true refl h
-said_code (Heard n ∷ more) h = refl
-said_code (Torn ∷ more) h = refl
-said_code (Nothing ∷ more) h = said_code more h
-said_code (Refused k ∷ more) h = said_code more h
+said_code (Ok (Heard n) ∷ more) h = refl
+said_code (Ok Torn ∷ more) h = refl
+said_code (Ok Nothing ∷ more) h = said_code more h
+said_code (Err k ∷ more) h = said_code more h
 
 -- ---- A period.
 module _ (k : Kept) where

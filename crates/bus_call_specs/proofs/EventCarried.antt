@@ -14,7 +14,7 @@ use Rattle.hdlc.specs.Image.{image}
 use Rattle.terminal.specs.Terminal as terminal
 use Rattle.terminal.specs.Calls as terminalCalls
 use Rattle.terminal.specs.declared.Terminal.{Terminal}
-use Rattle.terminal.specs.declared.TerminalStep.{TerminalStep}
+use Rattle.terminal.specs.Steps.{TerminalStep}
 use Rattle.terminal.proofs.Laws.{handed_over_called, hands_over_notes}
 use Rattle.bus_rules.specs.Bus.{Bus, terminals, notes_of}
 use Rattle.bus_rules.specs.Event.{station_of, class_of, call_reasons, state_reasons, reasons, first_holding, refusal, network_does, terminal_does, event_done, event_notes}

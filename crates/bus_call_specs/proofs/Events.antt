@@ -12,7 +12,7 @@ use Rattle.test_lemmas.proofs.Operators.{and_both}
 use Rattle.notes_and_cells.specs.Notes.{packed_notes}
 use Rattle.terminal.specs.Terminal.{fresh}
 use Rattle.terminal.specs.declared.Terminal.{Terminal}
-use Rattle.terminal.specs.declared.TerminalStep.{TerminalStep}
+use Rattle.terminal.specs.Steps.{TerminalStep}
 use Rattle.bus_rules.specs.Bus.{terminals}
 use Rattle.bus_rules.specs.Event.{call_reasons}
 use Rattle.bus_rules.proofs.Refusals.{none_holds}

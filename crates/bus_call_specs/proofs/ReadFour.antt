@@ -14,32 +14,34 @@ use Rattle.d_reader.specs.Counters.{read_bit, read_octets}
 use Rattle.d_reader.specs.Calls.{reader_after, octets_after, answers_after, speaks, speaking}
 use Rattle.d_reader.specs.declared.Reader.{Reader}
 use Rattle.d_reader.specs.declared.ReaderAnswer.{ReaderAnswer}
-use Rattle.d_reader.specs.declared.ReaderAnswer.TheVariants.{Nothing, Heard, Torn, Refused}
+use Rattle.d_reader.specs.declared.ReaderAnswer.TheVariants.{Nothing, Heard, Torn}
+use Rattle.refusals.specs.declared.Refusal.{Refusal}
+use Rattle.std.specs.Prelude.{Result, Ok, Err}
 use Rattle.d_reader.proofs.AnswerLaws.{one_speaks}
-use Rattle.bus_record.specs.Reading.{quiet_reading, said_with, spoken_to, octets_to, spoken_to_four, octets_to_four, read_in, octets_in}
+use Rattle.bus_record.specs.Reading.{quiet_reading, said_note, said_body, said_with, spoken_to, octets_to, spoken_to_four, octets_to_four, read_in, octets_in}
 use Rattle.bus_record.specs.declared.reading.Spoken.{Spoken}
 use Rattle.bus_record.proofs.Through.{through, octets_through, through_reader, through_octets, answers_after_lem}
 use Rattle.bus_call_specs.specs.Period.{note_of, body_of}
 
 -- the answers to the bits after the first
-abbrev later : Bool → List Bool → List ℕ → Reader → List ReaderAnswer
+abbrev later : Bool → List Bool → List ℕ → Reader → List (Result ReaderAnswer Refusal)
 later b bs buf r = answers_after bs (read_bit b buf r).reader (read_octets b r buf)
 
 -- ---- nothing more is said
-silent_says : (x : ReaderAnswer) (r : Reader) (s : Spoken) → speaks x ≡ 0 → ((said_with x r s).note ≡ s.note) × ((said_with x r s).body ≡ s.body)
+silent_says : (x : Result ReaderAnswer Refusal) (r : Reader) (s : Spoken) → speaks x ≡ 0 → (said_note (said_with x r s).said ≡ said_note s.said) × (said_body (said_with x r s).said ≡ said_body s.said)
 unfolding said_with speaks
-silent_says Nothing r s h = (refl, refl)
-silent_says (Heard n) r s h = absurd (omega arith)
-silent_says Torn r s h = absurd (omega arith)
-silent_says (Refused k) r s h = (refl, refl)
+silent_says (Ok Nothing) r s h = (refl, refl)
+silent_says (Ok (Heard n)) r s h = absurd (omega arith)
+silent_says (Ok Torn) r s h = absurd (omega arith)
+silent_says (Err k) r s h = (refl, refl)
 
 spoken_silent : (b : Bool) (buf : List ℕ) (s : Spoken) → speaks (read_bit b buf s.reader).answer ≡ 0 →
-    ((spoken_to b buf s).note ≡ s.note) × ((spoken_to b buf s).body ≡ s.body)
+    (said_note (spoken_to b buf s).said ≡ said_note s.said) × (said_body (spoken_to b buf s).said ≡ said_body s.said)
 unfolding spoken_to
 spoken_silent b buf s h = silent_says (read_bit b buf s.reader).answer (read_bit b buf s.reader).reader s h
 
 silent : (bs : List Bool) (buf : List ℕ) (s : Spoken) → speaking (answers_after bs s.reader buf) ≡ 0 →
-    ((through bs buf s).note ≡ s.note) × ((through bs buf s).body ≡ s.body)
+    (said_note (through bs buf s).said ≡ said_note s.said) × (said_body (through bs buf s).said ≡ said_body s.said)
 unfolding through answers_after speaking
 silent [] buf s h = (refl, refl)
 silent (b ∷ bs) buf s h =
@@ -49,21 +51,21 @@ silent (b ∷ bs) buf s h =
     (more.0 ∙ one.0, more.1 ∙ one.1)
 
 -- ---- one answer at most says something
-abbrev Says : List ReaderAnswer → Spoken → Type 0
-Says xs s = (s.note ≡ note_of xs) × (s.body ≡ body_of xs)
+abbrev Says : List (Result ReaderAnswer Refusal) → Spoken → Type 0
+Says xs s = (said_note s.said ≡ note_of xs) × (said_body s.said ≡ body_of xs)
 
 -- after the first answer x and the others xs, with s before and t at the end
-first_or_later : (x : ReaderAnswer) (xs : List ReaderAnswer) (r : Reader) (s t : Spoken) → s.note ≡ 0 → s.body ≡ 0 → speaks x + speaking xs ≤ 1 →
-    (speaking xs ≡ 0 → (t.note ≡ (said_with x r s).note) × (t.body ≡ (said_with x r s).body)) →
-    ((said_with x r s).note ≡ 0 → (said_with x r s).body ≡ 0 → speaking xs ≤ 1 → Says xs t) →
+first_or_later : (x : Result ReaderAnswer Refusal) (xs : List (Result ReaderAnswer Refusal)) (r : Reader) (s t : Spoken) → said_note s.said ≡ 0 → said_body s.said ≡ 0 → speaks x + speaking xs ≤ 1 →
+    (speaking xs ≡ 0 → (said_note t.said ≡ said_note (said_with x r s).said) × (said_body t.said ≡ said_body (said_with x r s).said)) →
+    (said_note (said_with x r s).said ≡ 0 → said_body (said_with x r s).said ≡ 0 → speaking xs ≤ 1 → Says xs t) →
     Says (x ∷ xs) t
 unfolding said_with speaks note_of body_of
-first_or_later Nothing xs r s t n b h first rest = rest n b (omega arith)
-first_or_later (Heard k) xs r s t n b h first rest = first (omega arith)
-first_or_later Torn xs r s t n b h first rest = first (omega arith)
-first_or_later (Refused k) xs r s t n b h first rest = rest n b (omega arith)
+first_or_later (Ok Nothing) xs r s t n b h first rest = rest n b (omega arith)
+first_or_later (Ok (Heard k)) xs r s t n b h first rest = first (omega arith)
+first_or_later (Ok Torn) xs r s t n b h first rest = first (omega arith)
+first_or_later (Err k) xs r s t n b h first rest = rest n b (omega arith)
 
-once : (bs : List Bool) (buf : List ℕ) (s : Spoken) → s.note ≡ 0 → s.body ≡ 0 → speaking (answers_after bs s.reader buf) ≤ 1 →
+once : (bs : List Bool) (buf : List ℕ) (s : Spoken) → said_note s.said ≡ 0 → said_body s.said ≡ 0 → speaking (answers_after bs s.reader buf) ≤ 1 →
     Says (answers_after bs s.reader buf) (through bs buf s)
 unfolding through answers_after speaking note_of body_of spoken_to
 once [] buf s n b h = (n, b)
@@ -90,14 +92,15 @@ module _ (state : ℕ) (d1 d2 d3 d4 : Bool) (buf : List ℕ) (r : Reader) where
   unfolding read_in spoken_to_four filled_with_ones through
   as_all = by_test (eqb state G3) (λ t. rw t) (λ t. rw t)
 
-  pub read_in_lem : read_in state (filled_with_ones ds) buf r ≡ record {
-    reader = reader_after bits r buf;
-    body = body_of (answers_after bits r buf);
-    note = note_of (answers_after bits r buf);
-  }
+  abbrev here : Spoken
+  here = read_in state (filled_with_ones ds) buf r
+
+  pub read_in_lem : (here.reader ≡ reader_after bits r buf)
+      × (said_note here.said ≡ note_of (answers_after bits r buf))
+      × (said_body here.said ≡ body_of (answers_after bits r buf))
   read_in_lem =
       let says = once bits buf (quiet_reading r) refl refl (one_speaks bits r buf few) in
-      as_all ∙ rw (through_reader bits buf (quiet_reading r), says.0, says.1)
+      rw as_all (through_reader bits buf (quiet_reading r), says.0, says.1)
 
   pub octets_in_lem : octets_in state (filled_with_ones ds) r buf ≡ octets_after bits r buf
   unfolding octets_in octets_to_four filled_with_ones octets_through

@@ -17,7 +17,9 @@ use Rattle.d_reader.specs.StandsFor.{StandsFor, ReaderReply, reader_says, reader
 use Rattle.d_reader.specs.Calls.{reader_after, speaks, speaking}
 use Rattle.d_reader.specs.declared.Reader.{Reader}
 use Rattle.d_reader.specs.declared.ReaderAnswer.{ReaderAnswer}
-use Rattle.d_reader.specs.declared.ReaderAnswer.TheVariants.{Nothing, Heard, Torn, Refused}
+use Rattle.d_reader.specs.declared.ReaderAnswer.TheVariants.{Nothing, Heard, Torn}
+use Rattle.refusals.specs.declared.Refusal.{Refusal}
+use Rattle.std.specs.Prelude.{Result, Ok, Err}
 use Rattle.d_reader.proofs.ReadingKept.{stands_fresh}
 use Rattle.d_reader.proofs.RangesKept.{read_in_range}
 use Rattle.bus_rules.specs.Bus.{Bus}
@@ -60,40 +62,40 @@ module _ (b : Bus) where
 
 -- ---- the note
 module _ (now : ℕ) (octets : List ℕ) where
-  abbrev meant : List ReaderAnswer → List ReaderReply
-  meant xs = map (λ (x : ReaderAnswer). reader_meaning x octets) xs
+  abbrev meant : List (Result ReaderAnswer Refusal) → List ReaderReply
+  meant xs = map (λ (x : Result ReaderAnswer Refusal). reader_meaning x octets) xs
 
-  abbrev Means : List ReaderAnswer → List Said → Type 0
+  abbrev Means : List (Result ReaderAnswer Refusal) → List Said → Type 0
   Means xs ss = meant xs ≡ map reader_says ss
 
   -- nothing said
-  quiet_notes : (xs : List ReaderAnswer) (ss : List Said) → Means xs ss → speaking xs ≡ 0 → said_notes now ss ≡ []
+  quiet_notes : (xs : List (Result ReaderAnswer Refusal)) (ss : List Said) → Means xs ss → speaking xs ≡ 0 → said_notes now ss ≡ []
   unfolding said_notes speaking speaks reader_meaning
   quiet_notes [] [] e z = refl
   quiet_notes [] (s ∷ ss) e z = let n : ◌≡◌ {A = ℕ} 0 1 = cc in absurd (omega arith)
   quiet_notes (x ∷ xs) [] e z = let n : ◌≡◌ {A = ℕ} 0 1 = cc in absurd (omega arith)
-  quiet_notes (Nothing ∷ xs) (nothing ∷ ss) e z = quiet_notes xs ss (cc) (omega arith)
-  quiet_notes (Nothing ∷ xs) (torn ∷ ss) e z = let n : ◌≡◌ {A = ℕ} 0 1 = cc in absurd (omega arith)
-  quiet_notes (Nothing ∷ xs) (heard body ∷ ss) e z = let n : ◌≡◌ {A = ℕ} 0 1 = cc in absurd (omega arith)
-  quiet_notes (Heard n ∷ xs) (s ∷ ss) e z = absurd (omega arith)
-  quiet_notes (Torn ∷ xs) (s ∷ ss) e z = absurd (omega arith)
-  quiet_notes (Refused k ∷ xs) (s ∷ ss) e z = let n : ◌≡◌ {A = ℕ} 0 1 = cc in absurd (omega arith)
+  quiet_notes (Ok Nothing ∷ xs) (nothing ∷ ss) e z = quiet_notes xs ss (cc) (omega arith)
+  quiet_notes (Ok Nothing ∷ xs) (torn ∷ ss) e z = let n : ◌≡◌ {A = ℕ} 0 1 = cc in absurd (omega arith)
+  quiet_notes (Ok Nothing ∷ xs) (heard body ∷ ss) e z = let n : ◌≡◌ {A = ℕ} 0 1 = cc in absurd (omega arith)
+  quiet_notes (Ok (Heard n) ∷ xs) (s ∷ ss) e z = absurd (omega arith)
+  quiet_notes (Ok Torn ∷ xs) (s ∷ ss) e z = absurd (omega arith)
+  quiet_notes (Err k ∷ xs) (s ∷ ss) e z = let n : ◌≡◌ {A = ℕ} 0 1 = cc in absurd (omega arith)
 
-  pub note_said : (r : RunAnswer) (xs : List ReaderAnswer) (ss : List Said) → r.said ≡ note_of xs → r.body ≡ body_of xs → Means xs ss → speaking xs ≤ 1 →
+  pub note_said : (r : RunAnswer) (xs : List (Result ReaderAnswer Refusal)) (ss : List Said) → r.said ≡ note_of xs → r.body ≡ body_of xs → Means xs ss → speaking xs ≤ 1 →
       reader_told now r octets ≡ said_notes now ss
   unfolding reader_told said_notes speaking speaks reader_meaning note_of body_of
   note_said r [] [] p q e l = rw p
   note_said r [] (s ∷ ss) p q e l = let n : ◌≡◌ {A = ℕ} 0 1 = cc in absurd (omega arith)
   note_said r (x ∷ xs) [] p q e l = let n : ◌≡◌ {A = ℕ} 0 1 = cc in absurd (omega arith)
-  note_said r (Nothing ∷ xs) (nothing ∷ ss) p q e l = note_said r xs ss p q (cc) (omega arith)
-  note_said r (Nothing ∷ xs) (torn ∷ ss) p q e l = let n : ◌≡◌ {A = ℕ} 0 1 = cc in absurd (omega arith)
-  note_said r (Nothing ∷ xs) (heard body ∷ ss) p q e l = let n : ◌≡◌ {A = ℕ} 0 1 = cc in absurd (omega arith)
-  note_said r (Heard n ∷ xs) (heard body ∷ ss) p q e l =
+  note_said r (Ok Nothing ∷ xs) (nothing ∷ ss) p q e l = note_said r xs ss p q (cc) (omega arith)
+  note_said r (Ok Nothing ∷ xs) (torn ∷ ss) p q e l = let n : ◌≡◌ {A = ℕ} 0 1 = cc in absurd (omega arith)
+  note_said r (Ok Nothing ∷ xs) (heard body ∷ ss) p q e l = let n : ◌≡◌ {A = ℕ} 0 1 = cc in absurd (omega arith)
+  note_said r (Ok (Heard n) ∷ xs) (heard body ∷ ss) p q e l =
       let same : take n octets ≡ body = cc in
       rw (p, q, quiet_notes xs ss (cc) (omega arith), same)
-  note_said r (Heard n ∷ xs) (nothing ∷ ss) p q e l = let n : ◌≡◌ {A = ℕ} 0 1 = cc in absurd (omega arith)
-  note_said r (Heard n ∷ xs) (torn ∷ ss) p q e l = let n : ◌≡◌ {A = ℕ} 0 1 = cc in absurd (omega arith)
-  note_said r (Torn ∷ xs) (torn ∷ ss) p q e l = rw (p, quiet_notes xs ss (cc) (omega arith))
-  note_said r (Torn ∷ xs) (nothing ∷ ss) p q e l = let n : ◌≡◌ {A = ℕ} 0 1 = cc in absurd (omega arith)
-  note_said r (Torn ∷ xs) (heard body ∷ ss) p q e l = let n : ◌≡◌ {A = ℕ} 0 1 = cc in absurd (omega arith)
-  note_said r (Refused k ∷ xs) (s ∷ ss) p q e l = let n : ◌≡◌ {A = ℕ} 0 1 = cc in absurd (omega arith)
+  note_said r (Ok (Heard n) ∷ xs) (nothing ∷ ss) p q e l = let n : ◌≡◌ {A = ℕ} 0 1 = cc in absurd (omega arith)
+  note_said r (Ok (Heard n) ∷ xs) (torn ∷ ss) p q e l = let n : ◌≡◌ {A = ℕ} 0 1 = cc in absurd (omega arith)
+  note_said r (Ok Torn ∷ xs) (torn ∷ ss) p q e l = rw (p, quiet_notes xs ss (cc) (omega arith))
+  note_said r (Ok Torn ∷ xs) (nothing ∷ ss) p q e l = let n : ◌≡◌ {A = ℕ} 0 1 = cc in absurd (omega arith)
+  note_said r (Ok Torn ∷ xs) (heard body ∷ ss) p q e l = let n : ◌≡◌ {A = ℕ} 0 1 = cc in absurd (omega arith)
+  note_said r (Err k ∷ xs) (s ∷ ss) p q e l = let n : ◌≡◌ {A = ℕ} 0 1 = cc in absurd (omega arith)

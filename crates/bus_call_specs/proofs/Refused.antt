@@ -1,5 +1,5 @@
 -- A call that is turned down hands back its number alone and leaves everything as it was.
-use mathlib.Core.Path.{◌≡◌, refl, ◌∙◌}
+use mathlib.Core.Path.{◌≡◌, refl, sym, ap, ◌∙◌}
 use mathlib.Core.Bool.{Bool, true, false, cond, ◌&&◌}
 use mathlib.Core.List.{List, [], ◌∷◌}
 use Prim.Native.Nat.{ℕ, zero, suc, ◌-◌, ◌<◌}
@@ -12,6 +12,9 @@ use Rattle.test_lemmas.proofs.ByCases.{by_test, neither}
 use Rattle.notes_and_cells.specs.Notes.{packed_notes}
 use Rattle.notes_and_cells.specs.declared.cell.Cell.{Cell}
 use Rattle.notes_and_cells.specs.declared.cell.Cell.TheVariants.{To, Stay, Impossible, Absent}
+use Rattle.std.specs.Prelude.{Result, Ok, Err}
+use Rattle.refusals.specs.Numbers as reasons
+use Rattle.refusals.specs.declared.Refusal.{Refusal}
 use Rattle.hdlc.specs.Bits.{body_bits}
 use Rattle.hdlc.specs.Image.{image, longest_body, longest_image, shortest_image}
 use Rattle.hdlc.proofs.ImageLaws.{length_image, length_stuff_least, length_stuff_most, length_body_bits}
@@ -25,11 +28,12 @@ use Rattle.timing.specs.declared.counts.Periods.{Periods}
 use Rattle.network.specs.Network as network
 use Rattle.network.specs.Calls as networkCalls
 use Rattle.network.specs.declared.Network.{Network}
-use Rattle.network.specs.declared.NetworkStep.{NetworkStep}
+use Rattle.network.specs.Steps.{NetworkStep}
 use Rattle.terminal.specs.Terminal as terminal
 use Rattle.terminal.specs.Calls as terminalCalls
 use Rattle.terminal.specs.declared.Terminal.{Terminal}
-use Rattle.terminal.specs.declared.TerminalStep.{TerminalStep}
+use Rattle.terminal.specs.Steps.{TerminalStep, step_of, as_result}
+use Rattle.terminal.specs.declared.TerminalStep as code
 use Rattle.bus_rules.specs.Event.{among, class_of, call_reasons, first_holding}
 use Rattle.notes_and_cells.specs.Events.{ON, OFF, AR, D1, D2, HIT}
 use Rattle.bus_rules.specs.Calls.{Call, bus_refusals}
@@ -107,10 +111,37 @@ module _ (number : ℕ) (r : BusRecord) where
         rw (no_hit, (network_asked_lem number r).keeps refused, (network_asked_lem number r).silent refused, reader_stays r.network.state r.reader)
 
 -- ---- A step of a terminal.
-record TerminalAnswer (t : Terminal) (s : TerminalStep) : Type 0 where
+pub record TerminalAnswer (t : Terminal) (s : TerminalStep) : Type 0 where
   keeps : (s.reply ≡ 0 → ⊥) → s.terminal ≡ t
   silent : (s.reply ≡ 0 → ⊥) → s.notes ≡ packed_notes []
   listed : Listed s.reply
+
+-- A listed number is a reason's, or 0.
+abbrev is_reason : ℕ → Bool
+is_reason n = cond (eqb n 0) true (eqb (reasons.number (reasons.reason_of n)) n)
+
+pub listed_reason : (n : ℕ) → Listed n → eqb n 0 ≡ false → n ≡ reasons.number (reasons.reason_of n)
+listed_reason n l z =
+    let e : is_reason n ≡ true = each_among is_reason n (0 ∷ bus_refusals) refl l in
+    sym (eqb-true (reasons.number (reasons.reason_of n)) n (rw z at e))
+
+pub reason_listed : (ready : Bool) (bus : BusRecord) (images : ℕ) (letters : List ℕ) (unit number : ℕ) (value : List ℕ) →
+    Listed (first_reason ready bus images letters unit number value)
+unfolding first_reason call_reasons
+reason_listed ready bus images letters unit number value = listed_first _ refl
+
+-- What the code's answer says of a step that is refused.
+pub refused_step : (t : Terminal) (s : TerminalStep) → TerminalAnswer t s → (r : Refusal) → as_result s ≡ Err r → terminal.unchanged (reasons.number r) t ≡ s
+unfolding as_result
+refused_step t s a r h =
+    by_test (eqb s.reply 0)
+    (λ z. let e : ◌≡◌ {A = Result code.TerminalStep Refusal} (Ok (step_of s)) (Err r) = rw z at h in
+    let no : ◌≡◌ {A = ℕ} 0 1 = cc in absurd (omega arith))
+    (λ z. let e : ◌≡◌ {A = Result code.TerminalStep Refusal} (Err (reasons.reason_of s.reply)) (Err r) = rw z at h in
+    let q : reasons.reason_of s.reply ≡ r = cc in
+    let some = eqb-false s.reply 0 z in
+    let n : s.reply ≡ reasons.number r = listed_reason s.reply a.listed z ∙ ap reasons.number q in
+    rw (← a.keeps some, ← a.silent some, ← n) refl)
 
 terminal_down : (k : ℕ) → Listed k → (t : Terminal) → TerminalAnswer t (terminal.unchanged k t)
 terminal_down k l t = record { keeps = λ h. refl; silent = λ h. refl; listed = l }
@@ -189,7 +220,7 @@ module _ (number : ℕ) (images : List ℕ) (i : ℕ) (value : List ℕ) (now : 
       by_test (eqb number AR) (λ w. rw (u, v, w) (when_ready terminal.requests now t (requests now.0 t)))
       (λ w. rw (u, v, w, d.0, d.1) (terminal_down 0 refl t))))
 
-  terminal_answers : TerminalAnswer t (terminal_told number images i value now t)
+  pub terminal_answers : TerminalAnswer t (terminal_told number images i value now t)
   terminal_answers =
       by_test (eqb (class_of number) 0)
       (λ c. no_frame_given (no_frame number c))

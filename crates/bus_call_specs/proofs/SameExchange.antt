@@ -20,7 +20,7 @@ use Rattle.hdlc.specs.Reading.{cleared}
 use Rattle.network.specs.Network as network
 use Rattle.terminal.specs.Terminal as terminal
 use Rattle.terminal.specs.declared.Terminal.{Terminal}
-use Rattle.terminal.specs.declared.TerminalStep.{TerminalStep}
+use Rattle.terminal.specs.Steps.{TerminalStep}
 use Rattle.terminal.proofs.Laws.{AccessByState, hears_access, timer_access}
 use Rattle.bus_rules.specs.Bus.{Station, Hit, Bus, station_at, with_counts, with_network, with_heard_d, with_hit, with_cycle}
 use Rattle.bus_rules.specs.Exchange.{Sender, Opportunity, in_f7, access_step_of, station_after_e, d_of, done_of, hears_e, sent_of, line_up, e_comes, senders_after, d_comes, onward, as_sender, begins, opportunities_of, exchanged, stations_of, whole_down, fa_down, fa_sent, sent_from, whole_up}

@@ -44,7 +44,8 @@ use Rattle.period_hearing.specs.Shown.{all_in_range, terminals_of, terminal_note
 use Rattle.period_hearing.proofs.Shown.{stations_shown, notes_shown}
 use Rattle.bus_record.specs.Echo.{hit_in, first_tally, sent_es, heard_down, step_tally, step_exchanged, step_line}
 use Rattle.bus_record.specs.NetworkSide as side
-use Rattle.bus_record.specs.Reading.{read_in}
+use Rattle.bus_record.specs.Reading.{said_note, said_body, read_in}
+use Rattle.bus_record.specs.declared.reading.Spoken.{Spoken}
 use Rattle.bus_event.specs.Event.{are_letters}
 use Rattle.bus_record.specs.declared.record.BusRecord.{BusRecord}
 use Rattle.bus_call_specs.specs.Kept.{Kept}
@@ -198,11 +199,12 @@ module _ (k : Kept) (o : InOrder k) (l : k.bus.periods.0 < most_periods) where
   unfolding step_octets side.octets_after kept_run period.octets_run period.d_read opportunities_of bus_in
   octets_are = rw (tally_is, shown.ds) (octets_in_lem k.bus.network.state _ _ _ _ k.octets k.bus.reader)
 
-  spoken_is : read_in k.bus.network.state tally.ds k.octets k.bus.reader ≡ record {
-    reader = reader.reader_after (period.d_read b) k.bus.reader k.octets;
-    body = period.body_of (period.answers_in k);
-    note = period.note_of (period.answers_in k);
-  }
+  abbrev spoken : Spoken
+  spoken = read_in k.bus.network.state tally.ds k.octets k.bus.reader
+
+  spoken_is : (spoken.reader ≡ reader.reader_after (period.d_read b) k.bus.reader k.octets)
+      × (said_note spoken.said ≡ period.note_of (period.answers_in k))
+      × (said_body spoken.said ≡ period.body_of (period.answers_in k))
   unfolding period.d_read period.answers_in opportunities_of bus_in
   spoken_is = rw shown.ds (read_in_lem k.bus.network.state _ _ _ _ k.octets k.bus.reader)
 
@@ -247,7 +249,9 @@ module _ (k : Kept) (o : InOrder k) (l : k.bus.periods.0 < most_periods) where
   answer_is =
       rw (
         tally_is,
-        spoken_is,
+        spoken_is.0,
+        spoken_is.1,
+        spoken_is.2,
         side_is,
         told_is,
         shown.echo,

@@ -5,7 +5,7 @@ use Rattle.std.specs.Prelude.{cond, List, [], ℕ, ◌-◌, eqb, length, get_or,
 use Rattle.notes_and_cells.specs.Notes.{packed_notes}
 use Rattle.terminal.specs.Terminal.{fresh}
 use Rattle.terminal.specs.declared.Terminal.{Terminal}
-use Rattle.terminal.specs.declared.TerminalStep.{TerminalStep}
+use Rattle.terminal.specs.Steps.{TerminalStep}
 use Rattle.bus_event.specs.Event.{told, first_reason, network_told, terminal_told, event_settled}
 use Rattle.bus_event.specs.Event as parts
 use Rattle.bus_record.specs.declared.record.BusRecord.{BusRecord}

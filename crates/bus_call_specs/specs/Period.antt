@@ -1,7 +1,7 @@
 -- Calls: a period as document 01 has it (crate `bus_rules`, specs/Period.antt), on the record and
 -- what is lent with it.
 -- Interface: `period_answer`, `kept_run`. Assumes nothing.
-use Rattle.std.specs.Prelude.{Bool, false, cond, not, ◌||◌, List, [], ◌∷◌, map, ℕ, ◌+◌, eqb}
+use Rattle.std.specs.Prelude.{Bool, false, cond, not, ◌||◌, List, [], ◌∷◌, map, ℕ, ◌+◌, eqb, Result, Ok, Err}
 use Rattle.notes_and_cells.specs.Notes.{HEARD, TORN}
 use Rattle.table_6_3.specs.Table63.{G3}
 use Rattle.timing.specs.Calls.{at_period}
@@ -11,7 +11,8 @@ use Rattle.d_reader.specs.Counters.{fresh_reader}
 use Rattle.d_reader.specs.Calls as reader
 use Rattle.d_reader.specs.declared.Reader.{Reader}
 use Rattle.d_reader.specs.declared.ReaderAnswer.{ReaderAnswer}
-use Rattle.d_reader.specs.declared.ReaderAnswer.TheVariants.{Nothing, Heard, Torn, Refused}
+use Rattle.d_reader.specs.declared.ReaderAnswer.TheVariants.{Nothing, Heard, Torn}
+use Rattle.refusals.specs.declared.Refusal.{Refusal}
 use Rattle.bus_rules.specs.Bus.{Station, Bus}
 use Rattle.bus_rules.specs.Exchange.{Sender, opportunities_of, d_comes, exchanged, whole_down, whole_up}
 use Rattle.bus_rules.specs.Period.{network_hears, heard_by, period_run}
@@ -44,22 +45,22 @@ unfoldable pub octets_run : Kept → List ℕ
 octets_run k = reader.octets_after (d_read (bus_in k)) k.bus.reader k.octets
 
 -- its note in the period, of at most one: the code, 0 for none ..
-unfoldable pub note_of : List ReaderAnswer → ℕ
+unfoldable pub note_of : List (Result ReaderAnswer Refusal) → ℕ
 note_of [] = 0
-note_of (Heard n ∷ more) = HEARD
-note_of (Torn ∷ more) = TORN
-note_of (Nothing ∷ more) = note_of more
-note_of (Refused k ∷ more) = note_of more
+note_of (Ok (Heard n) ∷ more) = HEARD
+note_of (Ok Torn ∷ more) = TORN
+note_of (Ok Nothing ∷ more) = note_of more
+note_of (Err k ∷ more) = note_of more
 
 -- .. and the octets of the heard body
-unfoldable pub body_of : List ReaderAnswer → ℕ
+unfoldable pub body_of : List (Result ReaderAnswer Refusal) → ℕ
 body_of [] = 0
-body_of (Heard n ∷ more) = n
-body_of (Torn ∷ more) = 0
-body_of (Nothing ∷ more) = body_of more
-body_of (Refused k ∷ more) = body_of more
+body_of (Ok (Heard n) ∷ more) = n
+body_of (Ok Torn ∷ more) = 0
+body_of (Ok Nothing ∷ more) = body_of more
+body_of (Err k ∷ more) = body_of more
 
-unfoldable pub answers_in : Kept → List ReaderAnswer
+unfoldable pub answers_in : Kept → List (Result ReaderAnswer Refusal)
 answers_in k = reader.answers_after (d_read (bus_in k)) k.bus.reader k.octets
 
 -- ---- Notes.

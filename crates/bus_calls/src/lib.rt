@@ -2,7 +2,6 @@
 #![tactic(auto)]
 
 pub mod event;
-mod fields;
 mod network_end;
 pub mod ready;
 pub mod run;

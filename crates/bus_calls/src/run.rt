@@ -2,14 +2,25 @@
 ghost use Rattle.std.specs.Prelude.{◌≡◌};
 ghost use Rattle.bus_call_specs.specs.Kept.{kept};
 ghost use Rattle.bus_call_specs.specs.Run.{run_answer, kept_after};
+ghost use Rattle.bus_calls.specs.Replies.{reply_number};
 
-use super::fields::{bus_of, over_of, ran_of};
 use super::ready::{goes_on, in_range, run_reason};
 use super::turn::advance;
 use bus_record::record::BusRecord;
 use bus_record::side::{RunAnswer, refused_run};
 use period_hearing::hears::UnitNotes;
+use refusals::Refusal;
 use terminal::Terminal;
+
+// Gives the number of the reason for which a run is turned down, 0 where it is not.
+fn reply_to(checked: Result<(), Refusal>) -> u8
+    ensures { result ≡ reply_number checked }
+{
+    match checked {
+        Ok(()) => 0,
+        Err(refusal) => refusal.number(),
+    }
+}
 
 // Runs periods until `most` of them are run or one hands back notes: as many single calls of
 // `period`. The images are of the frames that are held, and the octets keep what is read of a body:
@@ -36,7 +47,7 @@ pub fn run(
         ).notes }
 {
     let ready = in_range(terminals);
-    let reason = run_reason(
+    let checked = run_reason(
         ready,
         bus,
         images.len(),
@@ -45,22 +56,12 @@ pub fn run(
         notes.len(),
         most,
     );
-    let mut last = refused_run(bus, reason);
+    let mut last = refused_run(bus, reply_to(checked));
     let mut left = most;
-    let mut going = goes_on(last, left);
-    while going {
-        let t = advance(
-            bus_of(last),
-            terminals,
-            images,
-            octets,
-            letters,
-            notes,
-            left,
-        );
-        last = ran_of(t);
-        left -= 1 + over_of(t);
-        going = goes_on(last, left);
+    while goes_on(last, left) {
+        let turn = advance(last.bus, terminals, images, octets, letters, notes, left);
+        last = turn.answer;
+        left -= 1 + turn.over;
     }
     last
 }

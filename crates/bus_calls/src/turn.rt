@@ -1,17 +1,16 @@
 // A turn of a run's loop: as many periods at once as a lemma allows. Where one terminal sends alone
 // these are the periods in which it does; else those in which the bus is still, if any, and one
 // more.
-ghost use Rattle.std.specs.Prelude.{◌≡◌, ◌-◌, eqb, length};
+ghost use Rattle.std.specs.Prelude.{◌≡◌, length};
 ghost use Rattle.bus_call_specs.specs.Kept.{kept};
 ghost use Rattle.idle_periods.specs.Turn.{Turns};
 
-use super::fields::{lone_after, lone_found, periods_of};
 use super::step::step;
 use bus_record::record::BusRecord;
 use bus_record::side::RunAnswer;
 use idle_periods::leap::leapt;
 use idle_periods::reach::reach;
-use lone_sender::alone::{Alone, run_alone};
+use lone_sender::alone::run_alone;
 use lone_sender::follow::follow;
 use lone_sender::search::{find, in_vain};
 use period_hearing::hears::UnitNotes;
@@ -23,33 +22,6 @@ use terminal::Terminal;
 pub struct Turn {
     pub answer: RunAnswer,
     pub over: u32,
-}
-
-// Makes a turn of these two.
-fn turned(answer: RunAnswer, over: u32) -> Turn
-    ensures answer_value { result.answer ≡ answer }
-    ensures over_value { result.over ≡ over }
-{
-    Turn { answer, over }
-}
-
-// Tests whether no period was run alone.
-fn none_run(alone: Alone) -> bool
-    ensures { result ≡ eqb alone.over 0 }
-{
-    alone.over == 0
-}
-
-// Gives a run alone as a turn: the answer of its last period, and how many were run before that
-// one.
-fn turn_alone(alone: Alone) -> Turn
-    ensures answer_value { result.answer ≡ alone.answer }
-    ensures over_value { result.over ≡ alone.over - 1 }
-{
-    if alone.over == 0 {
-        return turned(alone.answer, 0);
-    }
-    turned(alone.answer, alone.over - 1)
 }
 
 // Steps over the periods in which the bus is still, with `left` periods left to run, and runs one
@@ -72,7 +44,7 @@ fn leap_on(
 {
     let over = reach(bus, terminals, left);
     let answer = step(leapt(bus, over), terminals, images, octets, letters, notes);
-    turned(answer, over)
+    Turn { answer, over }
 }
 
 // Runs one turn, with `left` periods left to run: where one terminal sends alone, the periods in
@@ -96,16 +68,19 @@ pub(crate) fn advance(
     if in_vain(bus) {
         return leap_on(bus, terminals, images, octets, letters, notes, left);
     }
-    let found = find(terminals, periods_of(bus), left);
+    let found = find(terminals, bus.periods, left);
     let most = found.alone_for();
     if most == 0 {
         return leap_on(bus, terminals, images, octets, letters, notes, left);
     }
-    let alone = run_alone(bus, images, octets, lone_found(found), most);
-    if none_run(alone) {
+    let alone = run_alone(bus, images, octets, found.lone, most);
+    if alone.over == 0 {
         return leap_on(bus, terminals, images, octets, letters, notes, left);
     }
-    follow(terminals, lone_after(alone));
+    follow(terminals, alone.lone);
     silence(notes);
-    turn_alone(alone)
+    Turn {
+        answer: alone.answer,
+        over: alone.over - 1,
+    }
 }

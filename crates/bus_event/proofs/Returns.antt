@@ -10,12 +10,13 @@ use borrow.Author.Tests.{eq-eqb, ne_eqb, le-ltb, le-leb, eqb-true, eqb-false, lt
 use Rattle.test_lemmas.proofs.ByCases.{by_test, and_left, and_right, neither}
 use Rattle.hdlc.specs.Image.{image, longest_body}
 use Rattle.packing.specs.Packing.{image_room, is_body_length, imaged, imaged_octets}
-use Rattle.packing.specs.declared.image.Imaged.{Imaged}
-use Rattle.packing.specs.declared.image.Imaged.TheVariants.{Bits, Refused}
+use Rattle.std.specs.Prelude.{Result, Ok, Err}
+use Rattle.refusals.specs.Numbers.{unless_refused, reason_of}
+use Rattle.refusals.specs.declared.Refusal.{Refusal}
 use Rattle.dchannel.specs.declared.access.Class.{Class}
 use Rattle.table_6_2.specs.Table62.{F7}
-use Rattle.terminal.specs.Terminal as terminal
 use Rattle.terminal.specs.Calls as terminalCalls
+use Rattle.terminal.specs.Steps.{as_result}
 use Rattle.terminal.specs.declared.Terminal.{Terminal}
 use Rattle.bus_rules.specs.Bus.{terminals}
 use Rattle.bus_rules.specs.Event.{first_holding}
@@ -38,13 +39,34 @@ module _ (n : ℕ) (t : Bool) (rs : List (ℕ × Bool)) where
   unfolding first_holding
   goes_on k h e = rw h e
 
+-- The answer of a function that refuses, over the number that it stands for.
+pub refuse : {k n : ℕ} → k ≡ n → ◌≡◌ {A = Result Unit Refusal} (unless_refused k tt) (unless_refused n tt)
+refuse e = rw e
+
+-- What such an answer says of the number: a reason, or none.
+module _ (k : ℕ) (r : Result Unit Refusal) (e : r ≡ unless_refused k tt) where
+  pub turned_down : (refusal : Refusal) → r ≡ Err refusal → (eqb k 0 ≡ false) × (reason_of k ≡ refusal)
+  turned_down refusal d =
+      by_test (eqb k 0)
+      (λ z. let f : ◌≡◌ {A = Result Unit Refusal} (Ok tt) (Err refusal) = rw z at (sym e ∙ d) in
+      let no : ◌≡◌ {A = ℕ} 0 1 = cc in absurd (omega arith))
+      (λ z. let f : ◌≡◌ {A = Result Unit Refusal} (Err (reason_of k)) (Err refusal) = rw z at (sym e ∙ d) in
+      (z, cc))
+
+  pub passed : (x : Unit) → r ≡ Ok x → eqb k 0 ≡ true
+  passed x d =
+      by_test (eqb k 0)
+      (λ z. z)
+      (λ z. let f : ◌≡◌ {A = Result Unit Refusal} (Err (reason_of k)) (Ok x) = rw z at (sym e ∙ d) in
+      let no : ◌≡◌ {A = ℕ} 0 1 = cc in absurd (omega arith))
+
 pub at_end : 0 ≡ first_holding []
 unfolding first_holding
 at_end = refl
 
 -- ---- The image in the room of terminal i.
 module _ (i : ℕ) (value images : List ℕ) (l : i < terminals) (e : length images ≡ images_room) (some : 1 ≤ length value) (few : length value ≤ longest_body) where
-  bits_there : imaged value (take image_room (drop (i * image_room) images)) ≡ Bits (length (image value))
+  bits_there : imaged value (take image_room (drop (i * image_room) images)) ≡ Ok (length (image value))
   unfolding imaged is_body_length
   bits_there =
       simp (
@@ -53,17 +75,14 @@ module _ (i : ℕ) (value images : List ℕ) (l : i < terminals) (e : length ima
         le-leb (length value) longest_body few,
       )
 
-  module _ (k : ℕ) (room : k ≡ image_room) (r : Imaged) (is : r ≡ imaged value (take k (drop (i * image_room) images))) where
-    bits_are : r ≡ Bits (length (image value))
+  module _ (k : ℕ) (room : k ≡ image_room) (r : Result ℕ Refusal) (is : r ≡ imaged value (take k (drop (i * image_room) images))) where
+    pub bits_are : r ≡ Ok (length (image value))
     bits_are = is ∙ rw room bits_there
 
-    pub put_bits_lem : (n : ℕ) → r ≡ Bits n → (last : List ℕ) → last ≡ imaged_octets value (take k (drop (i * image_room) images))
-        → (n ≡ length (image value)) × (take (i * image_room) images ++ (last ++ drop k (drop (i * image_room) images)) ≡ image_put i value images)
+    pub octets_are : (last : List ℕ) → last ≡ imaged_octets value (take k (drop (i * image_room) images))
+        → take (i * image_room) images ++ (last ++ drop k (drop (i * image_room) images)) ≡ image_put i value images
     unfolding image_put
-    put_bits_lem n q last o = (let both : Bits n ≡ Bits (length (image value)) = sym q ∙ bits_are in cc, rw (o, room))
-
-    pub never_refused : (n : ℕ) → r ≡ Refused n → ⊥
-    never_refused n q = let both : Refused n ≡ Bits (length (image value)) = sym q ∙ bits_are in let z : ◌≡◌ {A = ℕ} 0 1 = cc in omega arith
+    octets_are last o = rw (o, room)
 
 -- ---- The reasons for which terminal i is not given a frame.
 module _ (images i octets : ℕ) (t : Terminal) (fit : Bool) (is : fit ≡ terminalCalls.terminal_in_range t) where
@@ -120,12 +139,18 @@ module _ (images : List ℕ) (i : ℕ) (value : List ℕ) (t : Terminal) where
       above : (n : ℕ) → (n ≡ 0 → ⊥) → 1 ≤ n
       above n d = by_test (ltb 0 n) (λ t. ltb-true 0 n t) (λ t. absurd (d (omega (arith, ltb-false 0 n t))))
 
-  module _ (class : Class) (reason : ℕ) (e : reason ≡ frame_reason (length images) i (length value) t) where
-    pub not_given : (reason ≡ 0 → ⊥) → (terminal.unchanged reason t ≡ frame_given class images i value t) × (images ≡ images_with t i value images)
-    unfolding frame_given images_with
-    not_given d = let z : eqb reason 0 ≡ false = ne_eqb reason 0 d in (rw (← e, z), rw (← e, z))
+  abbrev why_not : ℕ
+  why_not = frame_reason (length images) i (length value) t
 
-    pub given : reason ≡ 0
+  module _ (class : Class) (r : Result Unit Refusal) (e : r ≡ unless_refused why_not tt) where
+    pub not_given : (refusal : Refusal) → r ≡ Err refusal → (Err refusal ≡ as_result (frame_given class images i value t)) × (images ≡ images_with t i value images)
+    unfolding frame_given images_with as_result
+    not_given refusal d = let q = turned_down why_not r e refusal d in (rw (q.0, q.0, q.1), rw q.0)
+
+    pub accepted : (x : Unit) → r ≡ Ok x → eqb why_not 0 ≡ true
+    accepted x d = passed why_not r e x d
+
+    pub given : eqb why_not 0 ≡ true
         → (terminalCalls.hand_over_call class (length (image value)) t ≡ frame_given class images i value t) × (image_put i value images ≡ images_with t i value images)
     unfolding frame_given images_with
-    given d = let z : eqb reason 0 ≡ true = eq-eqb reason 0 d in (rw (← e, z), rw (← e, z))
+    given z = (rw z, rw z)

@@ -16,11 +16,11 @@ use Rattle.table_6_2.specs.Table62.{F7}
 use Rattle.table_6_3.specs.Table63 as Table63
 use Rattle.timing.specs.declared.counts.Periods.{Periods}
 use Rattle.network.specs.Calls as networkCalls
-use Rattle.network.specs.declared.NetworkStep.{NetworkStep}
+use Rattle.network.specs.Steps.{NetworkStep}
 use Rattle.terminal.specs.Terminal as terminal
 use Rattle.terminal.specs.Calls as terminalCalls
 use Rattle.terminal.specs.declared.Terminal.{Terminal}
-use Rattle.terminal.specs.declared.TerminalStep.{TerminalStep}
+use Rattle.terminal.specs.Steps.{TerminalStep}
 use Rattle.bus_rules.specs.Bus.{terminals}
 use Rattle.bus_rules.specs.Event.{call_reasons, first_holding}
 use Rattle.notes_and_cells.specs.Events.{ON, OFF, AR, D1, D2, HIT}

@@ -5,7 +5,8 @@ ghost use Rattle.packing.specs.Packing.{image_room};
 ghost use Rattle.hdlc.specs.Image.{image, longest_body};
 ghost use Rattle.bus_rules.specs.Bus.{terminals};
 ghost use Rattle.bus_rules.specs.Event.{event_for, call_reasons, first_holding};
-ghost use Rattle.terminal.specs.Terminal.{unchanged};
+ghost use Rattle.terminal.specs.Steps.{as_result};
+ghost use Rattle.refusals.specs.Numbers.{unless_refused};
 ghost use Rattle.bus_event.specs.Event as spec;
 
 use bus_record::record::BusRecord;
@@ -16,7 +17,8 @@ use hdlc::LONGEST_BODY;
 use notes_and_cells::cell::NO_NOTES;
 use notes_and_cells::events::{AR, D1, D2, DR, HIT, OFF, ON};
 use notes_and_cells::notes::Notes;
-use packing::image::{IMAGE_ROOM, Imaged, image};
+use packing::image::{IMAGE_ROOM, image};
+use refusals::Refusal;
 use symbols::{LINE_LENGTH, fits};
 use table_6_2::F7;
 use terminal::{Terminal, TerminalStep};
@@ -53,24 +55,24 @@ fn event_for(unit: u32, event: u8) -> bool
     (event == ON) | (event == OFF) | (event == AR) | (event == D1) | (event == D2)
 }
 
-// Gives the first reason that the call itself decides, or 0.
-fn call_reason(unit: u32, event: u8, value: &[u8]) -> u8
-    ensures { result ≡ first_holding (call_reasons unit event value.now) }
+// Refuses an event for the first reason that the call itself decides.
+fn call_reason(unit: u32, event: u8, value: &[u8]) -> Result<(), Refusal>
+    ensures { result ≡ unless_refused (first_holding (call_reasons unit event value.now)) tt }
 {
     if (event == HIT) & !fits(value, LINE_LENGTH, NONE_LETTER) {
-        return 2;
+        return Err(Refusal::WrongSlice);
     }
     if LAST_UNIT < unit {
-        return 3;
+        return Err(Refusal::NoSuchUnit);
     }
     if !event_for(unit, event) {
-        return 4;
+        return Err(Refusal::NotForUnit);
     }
-    0
+    Ok(())
 }
 
-// Gives the first reason that is known before a unit is asked, or 0: `ready` is whether the slice of
-// terminals is in order, `images` the number of octets lent for images.
+// Refuses an event for the first reason that is known before a unit is asked: `ready` is whether the
+// slice of terminals is in order, `images` the number of octets lent for images.
 pub fn first_reason(
     ready: bool,
     bus: BusRecord,
@@ -79,14 +81,14 @@ pub fn first_reason(
     unit: u32,
     event: u8,
     value: &[u8],
-) -> u8
-    ensures { result ≡ spec.first_reason ready bus images letters.now unit event value.now }
+) -> Result<(), Refusal>
+    ensures { result ≡ unless_refused (spec.first_reason ready bus images letters.now unit event value.now) tt }
 {
     if !(ready & bus.in_range()) {
-        return 1;
+        return Err(Refusal::OutOfRange);
     }
     if !((images == IMAGES_ROOM) & fits(letters, LINE_LENGTH, NONE_LETTER)) {
-        return 2;
+        return Err(Refusal::WrongSlice);
     }
     call_reason(unit, event, value)
 }
@@ -102,40 +104,29 @@ fn put_image(images: &mut [u8], i: usize, value: &[u8]) -> u16
 {
     let from = i * IMAGE_ROOM;
     let to = from + IMAGE_ROOM;
-    match image(value, &mut images[from..to]) {
-        Imaged::Bits(n) => n,
-        Imaged::Refused(_) => 0,
-    }
+    image(value, &mut images[from..to]).unwrap_or(0)
 }
 
-// Gives the first reason for which terminal i is not given a frame of `octets` octets, or 0.
-fn frame_reason(terminal: Terminal, images: usize, i: usize, octets: usize) -> u8
-    ensures { result ≡ spec.frame_reason images i octets terminal }
+// Refuses a frame of `octets` octets for the first reason for which terminal i is not given it.
+fn frame_reason(terminal: Terminal, images: usize, i: usize, octets: usize) -> Result<(), Refusal>
+    ensures { result ≡ unless_refused (spec.frame_reason images i octets terminal) tt }
 {
     if !terminal.in_range() {
-        return 1;
+        return Err(Refusal::OutOfRange);
     }
     if !((images == IMAGES_ROOM) & (i < TERMINALS)) {
-        return 2;
+        return Err(Refusal::WrongSlice);
     }
     if terminal.state != F7 {
-        return 6;
+        return Err(Refusal::OutsideF7);
     }
     if !((octets != 0) & (octets <= LONGEST_BODY)) {
-        return 7;
+        return Err(Refusal::BodyLength);
     }
-    if terminal.access.held == 0 { 0 } else { 8 }
-}
-
-// Gives the terminal as it is, with a reply.
-fn unchanged(terminal: Terminal, reply: u8) -> TerminalStep
-    ensures { result ≡ unchanged reply terminal }
-{
-    TerminalStep {
-        terminal,
-        notes: NO_NOTES,
-        reply,
+    if terminal.access.held != 0 {
+        return Err(Refusal::FrameHeld);
     }
+    Ok(())
 }
 
 // Gives terminal i a frame (`d1`, `d2`): nothing is written before all reasons have been looked at.
@@ -145,20 +136,18 @@ fn give_frame(
     i: usize,
     class: Class,
     value: &[u8],
-) -> TerminalStep
-    ensures value { result ≡ spec.frame_given class images.old i value.now terminal }
+) -> Result<TerminalStep, Refusal>
+    ensures value { result ≡ as_result (spec.frame_given class images.old i value.now terminal) }
     ensures images_after { images.new ≡ spec.images_with terminal i value.now images.old }
 {
-    let reason = frame_reason(terminal, images.len(), i, value.len());
-    if reason != 0 {
-        return unchanged(terminal, reason);
-    }
+    frame_reason(terminal, images.len(), i, value.len())?;
     let length = put_image(images, i, value);
     terminal.hand_over(class, length)
 }
 
 // Gives terminal i an event. No other number moves it: whether it is an event of a terminal has been
 // looked at before.
+#[tactic(auto, unfolding(crate::specs::Event::terminal_told, crate::specs::Event::images_after, terminal::specs::Steps::as_result))]
 pub fn terminal_event(
     terminal: Terminal,
     images: &mut [u8],
@@ -166,8 +155,8 @@ pub fn terminal_event(
     event: u8,
     value: &[u8],
     period: Periods,
-) -> TerminalStep
-    ensures value { result ≡ spec.terminal_told event images.old i value.now period terminal }
+) -> Result<TerminalStep, Refusal>
+    ensures value { result ≡ as_result (spec.terminal_told event images.old i value.now period terminal) }
     ensures images_after { images.new ≡ spec.images_after event terminal i value.now images.old }
 {
     match event {
@@ -176,15 +165,27 @@ pub fn terminal_event(
         AR => terminal.request(period),
         D1 => give_frame(terminal, images, i, Class::One, value),
         D2 => give_frame(terminal, images, i, Class::Two, value),
-        _ => unchanged(terminal, 0),
+        _ => Ok(TerminalStep {
+            terminal,
+            notes: NO_NOTES,
+        }),
     }
 }
 
-// Gives what the call gives where terminal `unit` has answered an event with this step: the record,
-// the notes and the reply. Every event of a terminal ends here, with all that is known of it; no
-// event of document 01 changes the record, or asks for more than the step.
-pub fn event_settled(bus: BusRecord, unit: u32, event: u8, value: &[u8], step: TerminalStep) -> Told
-    ensures { result ≡ spec.event_settled bus unit event value.now step }
+// Gives what the call gives where terminal `unit` has answered an event with this step and reply:
+// the record, the notes and the reply. Every event of a terminal ends here, with all that is known
+// of it; no event of document 01 changes the record, or asks for more than the step.
+#[tactic(auto, unfolding(crate::specs::Event::event_settled))]
+pub fn event_settled(
+    bus: BusRecord,
+    unit: u32,
+    event: u8,
+    value: &[u8],
+    step: TerminalStep,
+    reply: u8,
+) -> Told
+    ensures { result ≡ spec.event_settled bus unit event value.now
+        (record { terminal = step.terminal; notes = step.notes; reply = reply }) }
 {
-    replied(bus, step.notes, step.reply)
+    replied(bus, step.notes, reply)
 }

@@ -1,16 +1,21 @@
 -- The terminals as octets, one terminal after the other, as the loop of `put_terminals` puts them.
+use mathlib.Core.Bool.{Bool, true, false}
 use mathlib.Core.List.{List, [], ◌∷◌, ◌++◌, append_assoc, append-nil}
 use mathlib.Core.Path.{◌≡◌, refl, sym}
-use Prim.Native.Nat.{ℕ, ◌+◌, ◌≤◌, ◌<◌, min}
+use Prim.Native.Nat.{ℕ, ◌+◌, ◌<◌, min}
 use native.Mathlib.Numerals.{add-one}
-use native.Mathlib.Omega.{arith}
 use lib.ListN.{length, get_or, take}
-use lib.Seq.{take-suc, take_all}
+use lib.Seq.{take-suc}
 use Rattle.terminal.specs.declared.Terminal.{Terminal}
-use Rattle.bus_rules.specs.Bus.{terminals}
 use Rattle.note_text.specs.Room.{Put}
 use Rattle.note_text.proofs.RoomLaws.{put_put, put_start}
-use Rattle.bus_octets.specs.Layout.{terminal_octets, terminals_octets}
+use mir.Val.{bool_byte}
+use Rattle.bus_octets.specs.Layout.{flag, terminal_octets, terminals_octets}
+
+-- what the code makes of a yes or a no
+pub flag_is : (b : Bool) → bool_byte b ≡ flag b
+flag_is true = refl
+flag_is false = refl
 
 pub terminals_append : (a b : List Terminal) → terminals_octets (a ++ b) ≡ terminals_octets a ++ terminals_octets b
 unfolding terminals_octets
@@ -23,23 +28,14 @@ unfolding terminals_octets
 terminals_next ts i d h =
     rw (add-one i, take-suc ts i d h, terminals_append (take i ts) (get_or ts i d ∷ []), append-nil (terminal_octets (get_or ts i d)))
 
--- Where the loop stands: the first i terminals are put.
-pub record Laying (room₀ : List ℕ) (wrote : ℕ) (ts : List Terminal) (room : List ℕ) (at i : ℕ) : Type 0 where
-  pub long : length ts ≡ terminals
-  pub within : i ≤ terminals
-  pub put_are : Put room₀ wrote (terminals_octets (take i ts)) at room
-
-pub laying_starts : (room : List ℕ) (wrote : ℕ) (ts : List Terminal) (at : ℕ) → length ts ≡ terminals → at ≡ min wrote (length room)
-    → Laying room wrote ts room at 0
+-- ---- The loop of `put_terminals`: none, a terminal more.
+pub put_none_of : (room : List ℕ) (wrote : ℕ) {at : ℕ} → at ≡ min wrote (length room) → Put room wrote (terminals_octets []) at room
 unfolding terminals_octets
-laying_starts room wrote ts at long h = record { long = long; within = omega arith; put_are = put_start room wrote h }
+put_none_of room wrote h = put_start room wrote h
 
-module _ {room₀ : List ℕ} {wrote : ℕ} {ts : List Terminal} {room : List ℕ} {at i : ℕ} (l : Laying room₀ wrote ts room at i) where
-  pub laying_next : (d : Terminal) {room' : List ℕ} {at' : ℕ} → i < terminals
-      → Put room at (terminal_octets (get_or ts i d)) at' room' → Laying room₀ wrote ts room' at' (i + 1)
-  laying_next d h q =
-      let long = l.long in
-      record { long = long; within = omega arith; put_are = rw (terminals_next ts i d (omega arith)) (put_put l.put_are q) }
-
-  pub laying_ends : terminals ≤ i → Put room₀ wrote (terminals_octets ts) at room
-  laying_ends h = let long = l.long in rw (take_all i ts (omega arith)) at l.put_are
+pub put_next : {room : List ℕ} {wrote r₁ : ℕ} {room₁ : List ℕ} {r₂ : ℕ} {room₂ : List ℕ} (ts : List Terminal) (i : ℕ) (d : Terminal)
+    → i < length ts
+    → Put room wrote (terminals_octets (take i ts)) r₁ room₁
+    → Put room₁ r₁ (terminal_octets (get_or ts i d)) r₂ room₂
+    → Put room wrote (terminals_octets (take (i + 1) ts)) r₂ room₂
+put_next ts i d h p q = rw (terminals_next ts i d h) (put_put p q)

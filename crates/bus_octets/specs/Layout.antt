@@ -7,15 +7,16 @@
 --   618 the rooms of the eight images, 322 octets each, terminal 1 first
 -- 3,194 octets in all. Reserved octets are 0; octets of which one is not are no bus.
 -- Interface: `flag`, `record_length`, `terminal_length`, `terminals_at`, `bus_length`, `counts_fields`,
--- `network_fields`, `reader_fields`, `record_fields`, `record_octets`, `terminal_fields`,
--- `terminal_octets`, `terminals_octets`, `bus_octets`, `flag_at`, `network_in`, `reader_in`, `record_in`,
--- `access_at`, `terminal_at`, `terminals_in`, `letters_read`, `octets_of`, `shown`, `head_octets`,
+-- `network_fields`, `reader_fields`, `record_fields`, `record_octets`, `access_fields`, `terminal_fields`,
+-- `terminal_octets`, `terminals_octets`, `bus_octets`, `flag_at`, `alignment_at`, `network_in`, `reader_in`,
+-- `record_in`, `access_at`, `terminal_at`, `terminals_in`, `part_read`, `letters_read`, `octets_of`, `shown`, `head_octets`,
 -- `is_head`, `is_bus`. Assumes nothing.
 use Rattle.std.specs.Prelude.{Bool, true, false, cond, ◌&&◌, List, [], ◌∷◌, ◌++◌, ℕ, zero, suc, ◌+◌, ◌-◌, ◌*◌, eqb, length, get_or, take, drop, replicate}
 use Rattle.notes_and_cells.specs.Names.{ascii}
 use Rattle.hdlc.specs.Image.{longest_body}
 use Rattle.symbols.specs.Symbols.{line_length, same_symbols}
 use Rattle.timing.specs.Calls.{at_period}
+use Rattle.alignment.specs.declared.Alignment.{Alignment}
 use Rattle.dchannel.specs.declared.access.Access.{Access}
 use Rattle.cycle.specs.Cycle as cycle
 use Rattle.d_reader.specs.declared.Reader.{Reader}
@@ -90,6 +91,10 @@ record_fields r =
 unfoldable pub record_octets : BusRecord → List ℕ
 record_octets r = filled_up record_length (record_fields r)
 
+-- how a terminal stands with D
+abbrev pub access_fields : Access → List ℕ
+access_fields a = half a.length ++ half a.sent ++ (a.count ∷ a.held ∷ flag a.low1 ∷ flag a.low2 ∷ flag a.last ∷ [])
+
 -- A terminal: T3, the bits of the held frame and how many of them have left, C, the class held, the
 -- two levels, the bit that left last, the state, its alignment.
 abbrev pub terminal_fields : Terminal → List ℕ
@@ -116,6 +121,10 @@ bus_octets k = record_octets k.bus ++ (terminals_octets k.terminals ++ (k.letter
 
 abbrev pub flag_at : List ℕ → ℕ → Bool
 flag_at s at = eqb (get_or s at 0) 1
+
+-- whether a unit is aligned, and how long its run is
+abbrev pub alignment_at : List ℕ → ℕ → Alignment
+alignment_at s at = record { aligned = flag_at s at; run = get_or s (at + 1) 0 }
 
 abbrev pub network_in : List ℕ → Network
 network_in s =
@@ -179,6 +188,10 @@ octets_in s = take longest_body (drop octets_at s)
 
 abbrev pub images_in : List ℕ → List ℕ
 images_in s = drop images_at s
+
+-- n octets, those from index `at` on; nothing but 0 where the octets are not as many as those of a bus
+unfoldable pub part_read : ℕ → ℕ → List ℕ → List ℕ
+part_read n at s = cond (eqb (length s) bus_length) (take n (drop at s)) (replicate n 0)
 
 -- the same of any octets: nothing but 0 where they are not as many as those of a bus
 unfoldable pub letters_read : List ℕ → List ℕ

@@ -3,76 +3,67 @@
 ghost use Rattle.std.specs.Prelude.{[], ◌∷◌, ◌++◌, ◌≡◌, replicate};
 ghost use Rattle.note_text.specs.Room.{Put, laid};
 ghost use Rattle.bus_octets.specs.Layout.{record_length, terminal_length, counts_fields, network_fields, reader_fields};
-ghost use Rattle.bus_octets.specs.Layout.{flag, record_fields, terminal_fields};
+ghost use Rattle.bus_octets.specs.Layout.{access_fields, flag, record_fields, terminal_fields};
 ghost use Rattle.bus_octets.specs.Layout.{record_octets, terminal_octets, terminals_octets, head_octets};
 
 use super::layout::{RECORD_LENGTH, TERMINAL_LENGTH, VERSION};
+use alignment::Alignment;
 use bus_record::record::BusRecord;
 use d_reader::Reader;
+use dchannel::access::Access;
 use network::Network;
+use note_text::low::{put_half, put_word};
 use note_text::room::put;
 use terminal::Terminal;
-use text::length::least;
 
-// Gives what the record begins with: the letters, the version and the counts.
-fn counts_octets(periods: u32, opportunities: u32) -> [u8; 13]
-    ensures { result ≡ counts_fields periods opportunities }
+// Puts what the record begins with: the letters, the version and the counts.
+fn put_counts(room: &mut [u8], wrote: usize, periods: u32, opportunities: u32) -> usize
+    ensures { Put room.old wrote (counts_fields periods opportunities) result room.new }
 {
-    [
-        b'S',
-        b'B',
-        b'U',
-        b'S',
-        VERSION,
-        (periods % 256) as u8,
-        (periods / 256 % 256) as u8,
-        (periods / 65536 % 256) as u8,
-        (periods / 16777216 % 256) as u8,
-        (opportunities % 256) as u8,
-        (opportunities / 256 % 256) as u8,
-        (opportunities / 65536 % 256) as u8,
-        (opportunities / 16777216 % 256) as u8,
-    ]
+    let a = put(room, wrote, &[b'S', b'B', b'U', b'S', VERSION]);
+    let b = put_word(room, a, periods);
+    put_word(room, b, opportunities)
 }
 
-// Gives the network end's octets.
-fn network_octets(network: Network) -> [u8; 11]
-    ensures { result ≡ network_fields network }
+// Puts whether a unit is aligned, and how long its run is.
+fn put_alignment(room: &mut [u8], wrote: usize, alignment: Alignment) -> usize
+    ensures { Put room.old wrote (flag alignment.aligned ∷ alignment.run ∷ []) result room.new }
 {
-    [
-        (network.t1 % 256) as u8,
-        (network.t1 / 256 % 256) as u8,
-        (network.t1 / 65536 % 256) as u8,
-        (network.t1 / 16777216 % 256) as u8,
-        (network.t2 % 256) as u8,
-        (network.t2 / 256 % 256) as u8,
-        (network.t2 / 65536 % 256) as u8,
-        (network.t2 / 16777216 % 256) as u8,
-        network.state,
-        network.alignment.aligned as u8,
-        network.alignment.run,
-    ]
+    put(room, wrote, &[alignment.aligned as u8, alignment.run])
 }
 
-// Gives those of its reader.
-fn reader_octets(reader: Reader) -> [u8; 6]
-    ensures { result ≡ reader_fields reader }
+// Puts the network end: of its timers the low-order four octets, its state, its alignment.
+fn put_network(room: &mut [u8], wrote: usize, network: Network) -> usize
+    ensures { Put room.old wrote (network_fields network) result room.new }
 {
-    [
-        (reader.bits % 256) as u8,
-        (reader.bits / 256 % 256) as u8,
-        reader.ones,
-        reader.octet,
-        reader.opened as u8,
-        reader.zero as u8,
-    ]
+    let a = put(room, wrote, &network.t1.to_le_bytes()[..4]);
+    let b = put(room, a, &network.t2.to_le_bytes()[..4]);
+    let c = put(room, b, &[network.state]);
+    put_alignment(room, c, network.alignment)
 }
 
-// Gives the last D heard, and whether a hit is pending.
-fn flags_octets(echo: bool, hit: bool) -> [u8; 2]
-    ensures { result ≡ flag echo ∷ flag hit ∷ [] }
+// Puts its reader.
+fn put_reader(room: &mut [u8], wrote: usize, reader: Reader) -> usize
+    ensures { Put room.old wrote (reader_fields reader) result room.new }
 {
-    [echo as u8, hit as u8]
+    let a = put_half(room, wrote, reader.bits);
+    put(
+        room,
+        a,
+        &[
+            reader.ones,
+            reader.octet,
+            reader.opened as u8,
+            reader.zero as u8,
+        ],
+    )
+}
+
+// Puts the last D heard, and whether a hit is pending.
+fn put_flags(room: &mut [u8], wrote: usize, echo: bool, hit: bool) -> usize
+    ensures { Put room.old wrote (flag echo ∷ flag hit ∷ []) result room.new }
+{
+    put(room, wrote, &[echo as u8, hit as u8])
 }
 
 // Gives the record's octets: its parts, over as many 0s as it has octets.
@@ -80,14 +71,10 @@ fn record_octets(bus: BusRecord) -> [u8; RECORD_LENGTH]
     ensures { result ≡ laid (replicate record_length 0) 0 (record_fields bus) }
 {
     let mut octets = [0u8; RECORD_LENGTH];
-    let counts = put(
-        &mut octets,
-        0,
-        &counts_octets(bus.periods.0, bus.opportunities.0),
-    );
-    let network = put(&mut octets, counts, &network_octets(bus.network));
-    let reader = put(&mut octets, network, &reader_octets(bus.reader));
-    put(&mut octets, reader, &flags_octets(bus.echo, bus.hit));
+    let counts = put_counts(&mut octets, 0, bus.periods.0, bus.opportunities.0);
+    let network = put_network(&mut octets, counts, bus.network);
+    let reader = put_reader(&mut octets, network, bus.reader);
+    put_flags(&mut octets, reader, bus.echo, bus.hit);
     octets
 }
 
@@ -99,34 +86,34 @@ fn put_record(room: &mut [u8], wrote: usize, bus: BusRecord) -> usize
     put(room, wrote, &octets)
 }
 
-// Gives a terminal's octets: its fields, over as many 0s as it has octets.
-fn terminal_octets(terminal: Terminal) -> [u8; TERMINAL_LENGTH]
-    ensures { result ≡ laid (replicate terminal_length 0) 0 (terminal_fields terminal) }
+// Puts how a terminal stands with D.
+fn put_access(room: &mut [u8], wrote: usize, access: Access) -> usize
+    ensures { Put room.old wrote (access_fields access) result room.new }
 {
-    let access = terminal.access;
-    let mut octets = [0u8; TERMINAL_LENGTH];
+    let a = put_half(room, wrote, access.length);
+    let b = put_half(room, a, access.sent);
     put(
-        &mut octets,
-        0,
+        room,
+        b,
         &[
-            (terminal.t3 % 256) as u8,
-            (terminal.t3 / 256 % 256) as u8,
-            (terminal.t3 / 65536 % 256) as u8,
-            (terminal.t3 / 16777216 % 256) as u8,
-            (access.length % 256) as u8,
-            (access.length / 256 % 256) as u8,
-            (access.sent % 256) as u8,
-            (access.sent / 256 % 256) as u8,
             access.count,
             access.held,
             access.low1 as u8,
             access.low2 as u8,
             access.last as u8,
-            terminal.state,
-            terminal.alignment.aligned as u8,
-            terminal.alignment.run,
         ],
-    );
+    )
+}
+
+// Gives a terminal's octets: its fields, over as many 0s as it has octets.
+fn terminal_octets(terminal: Terminal) -> [u8; TERMINAL_LENGTH]
+    ensures { result ≡ laid (replicate terminal_length 0) 0 (terminal_fields terminal) }
+{
+    let mut octets = [0u8; TERMINAL_LENGTH];
+    let a = put(&mut octets, 0, &terminal.t3.to_le_bytes()[..4]);
+    let b = put_access(&mut octets, a, terminal.access);
+    let c = put(&mut octets, b, &[terminal.state]);
+    put_alignment(&mut octets, c, terminal.alignment);
     octets
 }
 
@@ -142,12 +129,9 @@ fn put_terminal(room: &mut [u8], wrote: usize, terminal: Terminal) -> usize
 fn put_terminals(room: &mut [u8], wrote: usize, terminals: [Terminal; 8]) -> usize
     ensures { Put room.old wrote (terminals_octets terminals) result room.new }
 {
-    let mut at = least(wrote, room.len());
-    let mut i: usize = 0;
-    while i < 8 {
-        let t = terminals[i];
-        at = put_terminal(room, at, t);
-        i += 1;
+    let mut at = wrote.min(room.len());
+    for t in &terminals {
+        at = put_terminal(room, at, *t);
     }
     at
 }

@@ -6,7 +6,7 @@ ghost use Rattle.bus_octets.specs.Numbers.{half_at, word_at};
 pub fn octet_at(s: &[u8], at: usize) -> u8
     ensures { result ≡ get_or s.now at 0 }
 {
-    if at < s.len() { s[at] } else { 0 }
+    s.get(at).copied().unwrap_or(0)
 }
 
 // Tests whether the octet at index `at` is 1.
@@ -21,7 +21,7 @@ pub fn half_at(s: &[u8], at: u32) -> u16
     ensures { result ≡ half_at s.now at }
 {
     let i = at as usize;
-    octet_at(s, i) as u16 + 256 * octet_at(s, i + 1) as u16
+    u16::from_le_bytes([octet_at(s, i), octet_at(s, i + 1)])
 }
 
 // Gives the number of four octets.
@@ -29,7 +29,10 @@ pub fn word_at(s: &[u8], at: u32) -> u32
     ensures { result ≡ word_at s.now at }
 {
     let i = at as usize;
-    let low = octet_at(s, i) as u32 + 256 * octet_at(s, i + 1) as u32;
-    let high = octet_at(s, i + 2) as u32 + 256 * octet_at(s, i + 3) as u32;
-    low + 65536 * high
+    u32::from_le_bytes([
+        octet_at(s, i),
+        octet_at(s, i + 1),
+        octet_at(s, i + 2),
+        octet_at(s, i + 3),
+    ])
 }

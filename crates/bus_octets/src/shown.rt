@@ -1,9 +1,9 @@
 // What the octets of a bus stand for.
-ghost use Rattle.std.specs.Prelude.{◌≡◌, ◌+◌, ◌*◌};
-ghost use Rattle.bus_octets.specs.Layout.{terminals_at, terminal_length, network_in, reader_in, record_in, access_at, terminal_at};
-ghost use Rattle.bus_octets.specs.Layout.{terminals_in, letters_read, octets_of};
+ghost use Rattle.std.specs.Prelude.{◌≡◌, ◌≤◌, ◌+◌, ◌*◌};
+ghost use Rattle.bus_octets.specs.Layout.{alignment_at, terminals_at, terminal_length, network_in, reader_in, record_in, access_at, terminal_at};
+ghost use Rattle.bus_octets.specs.Layout.{bus_length, terminals_in, part_read, letters_read, octets_of};
 
-use super::layout::{BUS_LENGTH, IMAGES_AT, LETTERS_AT, OCTETS_AT, TERMINAL_LENGTH, TERMINALS_AT};
+use super::layout::{BUS_LENGTH, LETTERS_AT, OCTETS_AT, TERMINAL_LENGTH, TERMINALS_AT};
 use super::numbers::{flag_at, half_at, octet_at, word_at};
 use alignment::Alignment;
 use bus_record::record::BusRecord;
@@ -12,10 +12,20 @@ use d_reader::Reader;
 use dchannel::access::Access;
 use hdlc::LONGEST_BODY;
 use network::Network;
-use note_text::room::put;
 use symbols::LINE_LENGTH;
 use terminal::Terminal;
 use timing::counts::{Opportunities, Periods};
+
+// Reads whether a unit is aligned, and how long its run is.
+fn alignment_at(s: &[u8], at: u16) -> Alignment
+    ensures { result ≡ alignment_at s.now at }
+{
+    let i = at as usize;
+    Alignment {
+        aligned: flag_at(s, i),
+        run: octet_at(s, i + 1),
+    }
+}
 
 // Reads the network end.
 fn network_in(s: &[u8]) -> Network
@@ -25,10 +35,7 @@ fn network_in(s: &[u8]) -> Network
         t1: word_at(s, 13) as u64,
         t2: word_at(s, 17) as u64,
         state: octet_at(s, 21),
-        alignment: Alignment {
-            aligned: flag_at(s, 22),
-            run: octet_at(s, 23),
-        },
+        alignment: alignment_at(s, 22),
     }
 }
 
@@ -86,14 +93,12 @@ fn terminal_at(s: &[u8], i: u8) -> Terminal
         t3: word_at(s, at as u32) as u64,
         access: access_at(s, at as u16),
         state: octet_at(s, at + 13),
-        alignment: Alignment {
-            aligned: flag_at(s, at + 14),
-            run: octet_at(s, at + 15),
-        },
+        alignment: alignment_at(s, at as u16 + 14),
     }
 }
 
 // Reads the eight terminals.
+// Kept: tried as `array::from_fn`: `result ≡ terminals_in s` stayed open in three tries.
 pub fn terminals_in(s: &[u8]) -> [Terminal; 8]
     ensures { result ≡ terminals_in s.now }
 {
@@ -109,16 +114,25 @@ pub fn terminals_in(s: &[u8]) -> [Terminal; 8]
     ]
 }
 
+// Reads the N octets from index `at` on; gives nothing but 0 where the octets are not as many as those
+// of a bus.
+fn part<const N: usize>(s: &[u8], at: usize) -> [u8; N]
+    requires { at + N ≤ bus_length }
+    ensures { result ≡ part_read N at s.now }
+{
+    let mut octets = [0u8; N];
+    if s.len() == BUS_LENGTH {
+        octets.copy_from_slice(&s[at..at + N]);
+    }
+    octets
+}
+
 // Reads the letters of the hit; gives nothing but 0 where the octets are not as many as those of a
 // bus.
 pub fn letters_in(s: &[u8]) -> [u8; LINE_LENGTH]
     ensures { result ≡ letters_read s.now }
 {
-    let mut letters = [0u8; LINE_LENGTH];
-    if s.len() == BUS_LENGTH {
-        put(&mut letters, 0, &s[LETTERS_AT..OCTETS_AT]);
-    }
-    letters
+    part(s, LETTERS_AT)
 }
 
 // Reads the reader's octets; gives nothing but 0 where the octets are not as many as those of a
@@ -126,9 +140,5 @@ pub fn letters_in(s: &[u8]) -> [u8; LINE_LENGTH]
 pub fn octets_in(s: &[u8]) -> [u8; LONGEST_BODY]
     ensures { result ≡ octets_of s.now }
 {
-    let mut octets = [0u8; LONGEST_BODY];
-    if s.len() == BUS_LENGTH {
-        put(&mut octets, 0, &s[OCTETS_AT..IMAGES_AT]);
-    }
-    octets
+    part(s, OCTETS_AT)
 }

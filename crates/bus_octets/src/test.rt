@@ -1,29 +1,15 @@
 // Whether octets are a bus.
 ghost use Rattle.std.specs.Prelude.{◌≡◌};
-ghost use Rattle.bus_call_specs.specs.Ready.{eight_in_range};
 ghost use Rattle.bus_octets.specs.Layout.{is_bus, is_head};
 
 use super::laid::put_head;
 use super::layout::{BUS_LENGTH, LETTERS_AT, OCTETS_AT};
 use super::shown::{record_in, terminals_in};
+use bus_calls::ready::in_range;
 use bus_record::record::BusRecord;
 use combining::hit::NONE_LETTER;
-use symbols::{LINE_LENGTH, fits, same_symbols};
+use symbols::{LINE_LENGTH, fits};
 use terminal::Terminal;
-
-// Tests whether all terminals are in their range.
-fn all_in_range(terminals: [Terminal; 8]) -> bool
-    ensures { result ≡ eight_in_range terminals }
-{
-    let mut ok = true;
-    let mut i: usize = 0;
-    while i < 8 {
-        let t = terminals[i];
-        ok = ok & t.in_range();
-        i += 1;
-    }
-    ok
-}
 
 // Tests whether a record and terminals are written as the octets given.
 fn is_head(bus: BusRecord, terminals: [Terminal; 8], octets: &[u8]) -> bool
@@ -31,7 +17,7 @@ fn is_head(bus: BusRecord, terminals: [Terminal; 8], octets: &[u8]) -> bool
 {
     let mut back = [0u8; LETTERS_AT];
     put_head(&mut back, bus, terminals);
-    same_symbols(&back, octets)
+    back[..] == octets[..]
 }
 
 // Tests whether octets are a bus: as many as one has, written as the records that they stand for
@@ -46,6 +32,6 @@ pub fn is_bus(s: &[u8]) -> bool
     let terminals = terminals_in(s);
     is_head(bus, terminals, &s[..LETTERS_AT])
         & bus.in_range()
-        & all_in_range(terminals)
+        & in_range(&terminals)
         & fits(&s[LETTERS_AT..OCTETS_AT], LINE_LENGTH, NONE_LETTER)
 }

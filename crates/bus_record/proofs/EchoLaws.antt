@@ -21,7 +21,7 @@ use Rattle.table_6_3.specs.Table63.{info_sent}
 use Rattle.heard_line.specs.Calls.{sensed_down}
 use Rattle.heard_line.specs.declared.heard.Downward.{Downward}
 use Rattle.heard_line.specs.declared.heard.Upward.{Upward}
-use Rattle.heard_line.specs.declared.sensing.SensedDown.{SensedDown}
+use Rattle.std.specs.Prelude.{Ok}
 use Rattle.bus_rules.specs.Quick.{shown_by, shown_from}
 use Rattle.bus_rules.specs.Exchange.{sent_down}
 use Rattle.bus_record.specs.Echo.{built_down, sent_es, heard_down}
@@ -53,19 +53,13 @@ struck_line letters l h =
 pub heard_under : (bus : BusRecord) (ds : Four) (letters start built after : List ℕ) → bus.hit ≡ true → length start ≡ line_length
     → built ≡ built_down bus.network.state (sent_es bus ds) start
     → after ≡ leaves (hit_fits letters built) (hit letters built) built
-    → sensed_down after ≡ SensedDown.Line (heard_down bus ds letters)
+    → sensed_down after ≡ Ok (heard_down bus ds letters)
 unfolding sensed_down heard_down built_down
 heard_under bus ds letters start built after struck long b a =
     let l : List ℕ = sent_down unset bus.network.state (sent_es bus ds) in
     let is : built ≡ l = left_written l start long b in
     let e : after ≡ leaves (hit_fits letters l) (hit letters l) l = rw is at a in
     rw e (simp (struck_line letters l (line_for bus.network.state (sent_es bus ds)), struck))
-
-pub line_is : {x : SensedDown} {shown heard : Downward} → x ≡ SensedDown.Line heard → x ≡ SensedDown.Line shown → shown ≡ heard
-line_is e f = cc
-
-pub never_refused : {x : SensedDown} {shown heard : Downward} {k : ℕ} → x ≡ SensedDown.Line heard → x ≡ SensedDown.Refused k → shown ≡ heard
-never_refused e f = absurd (let z : ◌≡◌ {A = ℕ} 0 1 = cc in omega arith)
 
 -- what a state's line shows, by its INFO
 pub shown_by_state : (state : ℕ)

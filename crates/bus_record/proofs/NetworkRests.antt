@@ -20,7 +20,7 @@ use Rattle.network.specs.Network.{unchanged, acts, happens, and_then, aligned, t
 use Rattle.network.specs.Calls.{checked, ready}
 use Rattle.network.specs.Network as network
 use Rattle.network.specs.declared.Network.{Network}
-use Rattle.network.specs.declared.NetworkStep.{NetworkStep}
+use Rattle.network.specs.Steps.{NetworkStep}
 use Rattle.bus_record.specs.NetworkSide.{leaves_g3, hearing_step, timer_step, network_listens, rests_in_g3, rests_elsewhere, no_notes, network_rests}
 use Rattle.bus_record.specs.declared.side.NetworkHeard.{NetworkHeard}
 
@@ -89,7 +89,7 @@ checked_nothing : (step : ℕ → Network → NetworkStep) (p : Periods) (n : Ne
 unfolding checked
 checked_nothing step p n h = by_test (ready p n) (λ u. (rw (u, h), rw (u, h))) (λ u. (rw u, rw u))
 
-leaves_none : (s : ℕ) → leaves_g3 s s ≡ false
+pub leaves_none : (s : ℕ) → leaves_g3 s s ≡ false
 leaves_none s = by_test (eqb s G3) (λ t. rw t) (λ t. rw t)
 
 -- ---- Both.

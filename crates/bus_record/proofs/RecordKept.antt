@@ -21,7 +21,9 @@ use Rattle.d_reader.specs.Counters.{read_bit}
 use Rattle.d_reader.specs.ReaderRange.{reader_in_range}
 use Rattle.d_reader.specs.declared.Reader.{Reader}
 use Rattle.d_reader.specs.declared.ReaderAnswer.{ReaderAnswer}
-use Rattle.d_reader.specs.declared.ReaderAnswer.TheVariants.{Nothing, Heard, Torn, Refused}
+use Rattle.d_reader.specs.declared.ReaderAnswer.TheVariants.{Nothing, Heard, Torn}
+use Rattle.refusals.specs.declared.Refusal.{Refusal}
+use Rattle.std.specs.Prelude.{Result, Ok, Err}
 use Rattle.d_reader.proofs.RangesKept as reader
 use Rattle.d_reader.proofs.RangesKept.{read_in_range}
 use Rattle.bus_rules.specs.Quick.{shown_from}
@@ -63,12 +65,12 @@ unfolding record_in_range
 fits_record bus f = simp (f.network_fits, f.periods_fit, f.opportunities_fit, f.reader_fits, f.cycle_rests)
 
 -- ---- The reader.
-said_reader : (x : ReaderAnswer) (r : Reader) (s : Spoken) → (said_with x r s).reader ≡ r
+said_reader : (x : Result ReaderAnswer Refusal) (r : Reader) (s : Spoken) → (said_with x r s).reader ≡ r
 unfolding said_with
-said_reader Nothing r s = refl
-said_reader (Heard n) r s = refl
-said_reader Torn r s = refl
-said_reader (Refused k) r s = refl
+said_reader (Ok Nothing) r s = refl
+said_reader (Ok (Heard n)) r s = refl
+said_reader (Ok Torn) r s = refl
+said_reader (Err k) r s = refl
 
 pub spoken_reader : (b : Bool) (buf : List ℕ) (s : Spoken) → (spoken_to b buf s).reader ≡ (read_bit b buf s.reader).reader
 unfolding spoken_to

@@ -1,5 +1,5 @@
 -- What a bit more leaves of what the reader has said, by its answer; and four 1s, where it waits (`four_ones`).
-use mathlib.Core.Bool.{Bool, true, false, not, ◌&&◌}
+use mathlib.Core.Bool.{Bool, true, false, not, beq, ◌&&◌}
 use mathlib.Core.List.{List}
 use mathlib.Core.Path.{◌≡◌, refl}
 use Prim.Native.Nat.{ℕ}
@@ -8,42 +8,15 @@ use lib.ListN.{length}
 use borrow.Author.Tests.{eqb-true, not-true}
 use Rattle.test_lemmas.proofs.ByCases.{by_test}
 use Rattle.test_lemmas.proofs.Operators.{and_both}
+use Rattle.std.proofs.Common.{arith}
+use Rattle.std.proofs.lemmas.Grind.{common_steps}
 use Rattle.hdlc.specs.Image.{longest_body}
-use Rattle.notes_and_cells.specs.Notes.{HEARD, TORN}
 use Rattle.frame.specs.Four.{all_four}
 use Rattle.frame.specs.declared.fields.Four.{Four}
 use Rattle.d_reader.specs.Counters.{fresh_reader, after_bit, answer_to, fills, store_whole, read_bit, read_octets}
 use Rattle.d_reader.specs.declared.Reader.{Reader}
-use Rattle.d_reader.specs.declared.Read.{Read}
-use Rattle.d_reader.specs.declared.ReaderAnswer.{ReaderAnswer}
-use Rattle.d_reader.specs.declared.ReaderAnswer.TheVariants.{Nothing, Heard, Torn, Refused}
 use Rattle.bus_record.specs.Reading.{quiet_reading, said_with, spoken_to, octets_to, spoken_to_four, octets_to_four, reader_waits}
 use Rattle.bus_record.specs.declared.reading.Spoken.{Spoken}
-
-module _ (b : Bool) (buf : List ℕ) (s : Spoken) (x : Read) (e : x ≡ read_bit b buf s.reader) where
-  answered : spoken_to b buf s ≡ said_with x.answer x.reader s
-  unfolding spoken_to
-  answered = rw e
-
-  pub heard_said : (n : ℕ) → x.answer ≡ Heard n → ◌≡◌ {A = Spoken} (record { reader = x.reader; body = n; note = HEARD }) (spoken_to b buf s)
-  unfolding said_with
-  heard_said n a = rw (answered, a)
-
-  pub torn_said : x.answer ≡ Torn → ◌≡◌ {A = Spoken} (record { reader = x.reader; body = 0; note = TORN }) (spoken_to b buf s)
-  unfolding said_with
-  torn_said a = rw (answered, a)
-
-  silent : (a : ReaderAnswer) → ((n : ℕ) → a ≡ Heard n → ⊥) → (a ≡ Torn → ⊥)
-      → ◌≡◌ {A = Spoken} (record { reader = x.reader; body = s.body; note = s.note }) (said_with a x.reader s)
-  unfolding said_with
-  silent Nothing h t = refl
-  silent (Heard n) h t = absurd (h n refl)
-  silent Torn h t = absurd (t refl)
-  silent (Refused n) h t = refl
-
-  pub none_said : ((n : ℕ) → x.answer ≡ Heard n → ⊥) → (x.answer ≡ Torn → ⊥)
-      → ◌≡◌ {A = Spoken} (record { reader = x.reader; body = s.body; note = s.note }) (spoken_to b buf s)
-  none_said h t = rw answered (silent x.answer h t)
 
 -- four bits one after the other
 pub four_read_lem : (ds : Four) (buf b1 b2 b3 b4 : List ℕ) (s s1 s2 s3 s4 : Spoken)
@@ -105,3 +78,16 @@ ones_read buf r ds h =
   where
     four : {a b c d : Bool} → a ≡ true → b ≡ true → c ≡ true → d ≡ true → record { first = a; second = b; third = c; fourth = d } ≡ all_four true
     four a b c d = cc
+
+-- ---- The comparison with a fresh reader, field by field, as the derived `==` has it.
+is_off : (b : Bool) → beq b false ≡ not b
+is_off true = refl
+is_off false = refl
+
+other_order : (a b c d e : Bool) → (a && (b && (c && (d && e)))) ≡ ((((a && b) && c) && d) && e)
+other_order a b c d e = grind (arith, common_steps)
+
+pub by_fields : (r f : Reader) → f ≡ fresh_reader
+    → (eqb r.bits f.bits && (eqb r.ones f.ones && (eqb r.octet f.octet && (beq r.opened f.opened && beq r.zero f.zero)))) ≡ reader_waits r
+unfolding reader_waits
+by_fields r f e = simp (e, is_off) (other_order (eqb r.bits 0) (eqb r.ones 7) (eqb r.octet 0) (not r.opened) (not r.zero))

@@ -2,23 +2,24 @@
 -- then come the timers due at the next one's start. Crate `bus_call_specs`' law `step_shown` holds
 -- it to document 01's period.
 -- Interface: `no_notes`, `leaves_g3`, `reader_after`, `network_listens`, `network_rests`,
--- `counted_after`, `answer_with`, `answer_after`, `octets_after`, `refused_run`. Assumes nothing.
-use Rattle.std.specs.Prelude.{Bool, false, cond, not, ◌&&◌, ◌||◌, List, ℕ, eqb, ltb}
+-- `counted_after`, `counted_over`, `answer_with`, `answer_after`, `octets_after`, `refused_run`. Assumes nothing.
+use Rattle.std.specs.Prelude.{Bool, false, cond, not, ◌&&◌, ◌||◌, List, ℕ, ◌+◌, ◌*◌, eqb, ltb, leb}
 use Rattle.table_6_3.specs.Table63.{G1, G2, G3, G4}
+use Rattle.timing.specs.Counts.{most_periods}
 use Rattle.timing.specs.Calls.{next_period, four_more}
 use Rattle.timing.specs.declared.counts.Periods.{Periods}
 use Rattle.timing.specs.declared.counts.Opportunities.{Opportunities}
 use Rattle.heard_line.specs.declared.heard.Upward.{Upward}
 use Rattle.network.specs.Calls as networkCalls
 use Rattle.network.specs.declared.Network.{Network}
-use Rattle.network.specs.declared.NetworkStep.{NetworkStep}
+use Rattle.network.specs.Steps.{NetworkStep}
 use Rattle.d_reader.specs.Counters.{fresh_reader}
 use Rattle.d_reader.specs.declared.Reader.{Reader}
 use Rattle.bus_rules.specs.Quick.{shown_from}
 use Rattle.exchange.specs.declared.tally.Tally.{Tally}
 pub use Rattle.period_hearing.specs.Hears.{no_notes}
 use Rattle.period_hearing.specs.declared.hears.UnitNotes.{UnitNotes}
-use Rattle.bus_record.specs.Reading.{read_in, octets_in}
+use Rattle.bus_record.specs.Reading.{said_note, said_body, read_in, octets_in}
 use Rattle.bus_record.specs.Record.{with_counts, with_network, with_echo, with_hit}
 use Rattle.bus_record.specs.declared.record.BusRecord.{BusRecord}
 use Rattle.bus_record.specs.declared.reading.Spoken.{Spoken}
@@ -67,11 +68,16 @@ network_rests line n =
 unfoldable pub counted_after : ℕ → Opportunities → Opportunities
 counted_after state o = cond (eqb state G3) (four_more o) o
 
+-- four for each of `over` periods (no count that a bus can have is above the bounds)
+unfoldable pub counted_over : ℕ → ℕ → Opportunities → Opportunities
+counted_over state over o =
+    cond ((eqb state G3 && leb o.0 (4 * most_periods)) && leb over most_periods) (record { 0 = o.0 + 4 * over }) o
+
 -- whether there is a note: of the terminals, of the reader, of a frame completed, of the network
 -- end
 unfoldable pub period_has_note : Bool → Tally → Spoken → UnitNotes → Bool
 period_has_note told m spoken notes =
-    ((((told || not (eqb spoken.note 0)) || not (eqb m.done1 0)) || not (eqb m.done2 0)) || ltb 0 notes.hearing.0)
+    ((((told || not (eqb (said_note spoken.said) 0)) || not (eqb m.done1 0)) || not (eqb m.done2 0)) || ltb 0 notes.hearing.0)
     || ltb 0 notes.timers.0
 
 unfoldable pub answer_with : BusRecord → Tally → Spoken → NetworkHeard → Bool → RunAnswer
@@ -81,8 +87,8 @@ answer_with r m spoken side told =
           with_counts (next_period r.periods) (counted_after r.network.state r.opportunities)
           (with_network side.network (reader_after side.left spoken.reader) (with_echo m.echo (with_hit false r)));
       network = side.notes;
-      body = spoken.body;
-      said = spoken.note;
+      body = said_body spoken.said;
+      said = said_note spoken.said;
       done1 = m.done1;
       done2 = m.done2;
       told = period_has_note told m spoken side.notes;

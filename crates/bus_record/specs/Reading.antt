@@ -1,27 +1,40 @@
 -- How the code goes: the network end reads the four D of a period in G3 (document 01, "D access
 -- (6.1)"), bit by bit. Crate `bus_call_specs`' law `step_shown` holds it to document 01's period.
--- Interface: `quiet_reading`, `spoken_to`, `octets_to`, `spoken_to_four`, `octets_to_four`, `reader_waits`,
--- `read_in`, `octets_in`. Assumes nothing.
-use Rattle.std.specs.Prelude.{Bool, cond, not, ◌&&◌, List, ℕ, eqb}
+-- Interface: `quiet_reading`, `spoken_to`, `octets_to`, `said_note`, `said_body`, `spoken_to_four`,
+-- `octets_to_four`, `reader_waits`, `read_in`, `octets_in`. Assumes nothing.
+use Rattle.std.specs.Prelude.{Bool, cond, not, ◌&&◌, List, ℕ, eqb, Result, Ok, Err}
 use Rattle.notes_and_cells.specs.Notes.{HEARD, TORN}
 use Rattle.table_6_3.specs.Table63.{G3}
 use Rattle.frame.specs.declared.fields.Four.{Four}
 use Rattle.d_reader.specs.Counters.{read_bit, read_octets}
 use Rattle.d_reader.specs.declared.Reader.{Reader}
 use Rattle.d_reader.specs.declared.ReaderAnswer.{ReaderAnswer}
-use Rattle.d_reader.specs.declared.ReaderAnswer.TheVariants.{Nothing, Heard, Torn, Refused}
+use Rattle.d_reader.specs.declared.ReaderAnswer.TheVariants.{Nothing, Heard, Torn}
+use Rattle.refusals.specs.declared.Refusal.{Refusal}
 use Rattle.bus_record.specs.declared.reading.Spoken.{Spoken}
 
 -- nothing read yet
 abbrev pub quiet_reading : Reader → Spoken
-quiet_reading r = record { reader = r; body = 0; note = 0 }
+quiet_reading r = record { reader = r; said = Nothing }
 
 -- what has been said, after an answer
-unfoldable pub said_with : ReaderAnswer → Reader → Spoken → Spoken
-said_with Nothing r s = record { reader = r; body = s.body; note = s.note }
-said_with (Heard n) r s = record { reader = r; body = n; note = HEARD }
-said_with Torn r s = record { reader = r; body = 0; note = TORN }
-said_with (Refused k) r s = record { reader = r; body = s.body; note = s.note }
+unfoldable pub said_with : Result ReaderAnswer Refusal → Reader → Spoken → Spoken
+said_with (Ok Nothing) r s = record { reader = r; said = s.said }
+said_with (Ok (Heard n)) r s = record { reader = r; said = Heard n }
+said_with (Ok Torn) r s = record { reader = r; said = Torn }
+said_with (Err k) r s = record { reader = r; said = s.said }
+
+-- what has been said as a note's code, 0 for none, and how many of the lent octets are the heard
+-- body
+abbrev pub said_note : ReaderAnswer → ℕ
+said_note Nothing = 0
+said_note (Heard n) = HEARD
+said_note Torn = TORN
+
+abbrev pub said_body : ReaderAnswer → ℕ
+said_body Nothing = 0
+said_body (Heard n) = n
+said_body Torn = 0
 
 -- one bit more, and the lent octets then
 unfoldable pub spoken_to : Bool → List ℕ → Spoken → Spoken

@@ -10,7 +10,7 @@ use combining::hit::{KEEP_LETTER, apply_hit};
 use exchange::tally::{Letters, Tally};
 use frame::fields::Four;
 use heard_line::heard::Downward;
-use heard_line::sensing::{SensedDown, sense_down};
+use heard_line::sensing::sense_down;
 use info::info::{info0, info2, info4};
 use symbols::{LINE_LENGTH, NONE};
 use table_6_3::info_sent;
@@ -19,14 +19,11 @@ use table_6_3::info_sent;
 fn letter_at(letters: &[u8], i: usize) -> u8
     ensures { result ≡ letter_at letters.now i }
 {
-    if i < letters.len() {
-        letters[i]
-    } else {
-        KEEP_LETTER
-    }
+    letters.get(i).copied().unwrap_or(KEEP_LETTER)
 }
 
 // Gives the letters at E11, E24, E35 and E46, the keep letter where there is no hit.
+#[tactic(auto, unfolding(exchange::specs::Shown::letters_at_e, crate::specs::Echo::hit_in))]
 fn letters_at_e(hit: bool, letters: &[u8]) -> Letters
     ensures { result ≡ letters_at_e (hit_in hit letters.now) }
 {
@@ -38,16 +35,12 @@ fn letters_at_e(hit: bool, letters: &[u8]) -> Letters
             fourth: letter_at(letters, 45),
         }
     } else {
-        Letters {
-            first: KEEP_LETTER,
-            second: KEEP_LETTER,
-            third: KEEP_LETTER,
-            fourth: KEEP_LETTER,
-        }
+        Letters::KEEP
     }
 }
 
 // Gives the tally as the first E of a period comes.
+#[tactic(auto, unfolding(crate::specs::Echo::first_tally))]
 pub fn first_tally(bus: BusRecord, letters: &[u8]) -> Tally
     ensures { result ≡ first_tally bus letters.now }
 {
@@ -55,6 +48,7 @@ pub fn first_tally(bus: BusRecord, letters: &[u8]) -> Tally
 }
 
 // Gives what a line that the network end sends in `state` shows.
+#[tactic(auto, using(crate::proofs::EchoLaws::shown_by_state))]
 pub fn shown_by(state: u8) -> Downward
     ensures { result ≡ shown_by state }
 {
@@ -68,17 +62,16 @@ pub fn shown_by(state: u8) -> Downward
 }
 
 // Builds the line that a network end in `state` sends, with the four E `es`.
-fn build_down(state: u8, es: Four, line: &mut [u8])
+#[tactic(auto, unfolding(crate::specs::Echo::built_down, bus_rules::specs::Exchange::sent_down))]
+fn build_down(state: u8, es: Four, line: &mut [u8; LINE_LENGTH])
     ensures { line.new ≡ built_down state es line.old }
 {
-    let info = info_sent(state);
-    if info == 4 {
-        info4(es, line);
-    } else if info == 2 {
-        info2(line);
-    } else {
-        info0(line);
-    }
+    let built = match info_sent(state) {
+        4 => info4(es, line),
+        2 => info2(line),
+        _ => info0(line),
+    };
+    built.unwrap()
 }
 
 // Gives what all powered terminals hear of the line, where `ds` are the four D heard in the
@@ -98,9 +91,7 @@ pub fn heard_down(bus: BusRecord, ds: Four, letters: &[u8]) -> Downward
     };
     let mut line = [NONE; LINE_LENGTH];
     build_down(bus.network.state, es, &mut line);
-    apply_hit(&mut line, letters);
-    match sense_down(&line) {
-        SensedDown::Line(shown) => shown,
-        SensedDown::Refused(_) => quick,
-    }
+    // Letters that are not 48 are refused, and the line stays as it is sent.
+    let _ = apply_hit(&mut line, letters);
+    sense_down(&line).unwrap_or(quick)
 }

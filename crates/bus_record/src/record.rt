@@ -42,49 +42,47 @@ impl BusRecord {
     pub fn with_counts(self, periods: Periods, opportunities: Opportunities) -> Self
         ensures { result ≡ spec.with_counts periods opportunities self }
     {
-        let mut bus = self;
-        bus.periods = periods;
-        bus.opportunities = opportunities;
-        bus
+        BusRecord {
+            periods,
+            opportunities,
+            ..self
+        }
     }
 
     // Gives the record with another network end, and with its reader.
     pub fn with_network(self, network: Network, reader: Reader) -> Self
         ensures { result ≡ spec.with_network network reader self }
     {
-        let mut bus = self;
-        bus.network = network;
-        bus.reader = reader;
-        bus
+        BusRecord {
+            network,
+            reader,
+            ..self
+        }
     }
 
     // Gives the record with another last D.
     pub fn with_echo(self, echo: bool) -> Self
         ensures { result ≡ spec.with_echo echo self }
     {
-        let mut bus = self;
-        bus.echo = echo;
-        bus
+        BusRecord { echo, ..self }
     }
 
     // Gives the record with a hit pending, or with none.
     pub fn with_hit(self, hit: bool) -> Self
         ensures { result ≡ spec.with_hit hit self }
     {
-        let mut bus = self;
-        bus.hit = hit;
-        bus
+        BusRecord { hit, ..self }
     }
 
     // Tests whether every field is in its range.
+    #[tactic(auto, unfolding(crate::specs::Record::record_in_range))]
     pub fn in_range(self) -> bool
         ensures { result ≡ spec.record_in_range self }
     {
-        let network = self.network.in_range();
-        let periods = self.periods.in_range();
-        let opportunities = self.opportunities.in_range(self.periods);
-        let reader = self.reader.in_range();
-        let cycle = self.cycle.rests();
-        network & periods & opportunities & reader & cycle
+        self.network.in_range()
+            & self.periods.in_range()
+            & self.opportunities.in_range(self.periods)
+            & self.reader.in_range()
+            & self.cycle.rests()
     }
 }

@@ -2,7 +2,9 @@
 // due at the next one's start.
 ghost use Rattle.std.specs.Prelude.{◌≡◌};
 ghost use Rattle.bus_rules.specs.Quick.{shown_from};
-ghost use Rattle.bus_record.specs.NetworkSide.{reader_after, network_rests, network_listens, counted_after};
+ghost use Rattle.network.specs.Network.{unchanged};
+ghost use Rattle.network.specs.Steps.{step_of};
+ghost use Rattle.bus_record.specs.NetworkSide.{reader_after, network_rests, network_listens, counted_over};
 ghost use Rattle.bus_record.specs.NetworkSide.{answer_with, answer_after, octets_after, refused_run};
 
 use super::reading::{Spoken, read_in};
@@ -10,16 +12,17 @@ use super::record::BusRecord;
 use d_reader::Reader;
 use exchange::tally::Tally;
 use heard_line::heard::Upward;
-use network::Network;
+use network::{Network, NetworkStep};
 use notes_and_cells::cell::NO_NOTES;
 use period_hearing::hears::UnitNotes;
 use table_6_3::{G1, G2, G3, G4};
-use timing::counts::{Opportunities, Periods};
+use timing::counts::{MOST_PERIODS, Opportunities, Periods};
 use timing::timers::due;
 
 // What a run of periods gives: the record; the last period's notes of unit 0, of the reader (its
 // code, 0 for none, and the length of the heard body) and of frames completed (bit i for
 // terminal i + 1); whether that period has a note; and 0 or the number of the refusal.
+// Kept: what may not change: period_text's `put_period` takes an answer with any of these numbers.
 #[derive(Clone, Copy)]
 pub struct RunAnswer {
     pub bus: BusRecord,
@@ -43,6 +46,7 @@ pub struct NetworkHeard {
 
 // Gives what the terminals' line shows, where any terminal sends INFO 1 (`info1`), any INFO 3
 // (`info3`).
+#[tactic(auto, using(crate::proofs::EchoLaws::shown_up_lem))]
 pub fn shown_from(info1: bool, info3: bool) -> Upward
     ensures { result ≡ shown_from info1 info3 }
 {
@@ -55,6 +59,7 @@ pub fn shown_from(info1: bool, info3: bool) -> Upward
 
 // Tests whether the network end hears what it heard before, so that nothing happens: in G1 and G2
 // unaligned no pulse, in G3 aligned INFO 3, in G4 unaligned INFO 1.
+#[tactic(auto, unfolding(crate::specs::NetworkSide::network_rests))]
 pub fn network_rests(network: Network, line: Upward) -> bool
     ensures { result ≡ network_rests line network }
 {
@@ -82,43 +87,50 @@ fn network_listens(network: Network, line: Upward, period: Periods) -> NetworkHe
     if network_rests(network, line) & !timer_due {
         return NetworkHeard {
             network,
-            notes: UnitNotes {
-                hearing: NO_NOTES,
-                timers: NO_NOTES,
-            },
+            notes: UnitNotes::NONE,
             left: false,
         };
     }
-    let heard = network.hear(line, period);
+    let heard = network.hear(line, period).unwrap_or(without_notes(network));
     let after = heard.network;
-    let timed = after.timer_due(next);
+    let timed = after.timer_due(next).unwrap_or(without_notes(after));
     let last = timed.network;
-    let first = heard.notes;
-    let second = timed.notes;
     NetworkHeard {
         network: last,
         notes: UnitNotes {
-            hearing: first,
-            timers: second,
+            hearing: heard.notes,
+            timers: timed.notes,
         },
         left: ((network.state == G3) & (after.state != G3))
             | ((after.state == G3) & (last.state != G3)),
     }
 }
 
+// Gives what a call of the network end leaves where it is refused: the record as it was.
+fn without_notes(network: Network) -> NetworkStep
+    ensures { result ≡ step_of (unchanged 0 network) }
+{
+    NetworkStep {
+        network,
+        notes: NO_NOTES,
+    }
+}
+
 // Clears the reader where G3 has been left.
+#[tactic(auto, unfolding(crate::specs::NetworkSide::reader_after))]
 pub fn reader_after(left: bool, reader: Reader) -> Reader
     ensures { result ≡ reader_after left reader }
 {
     if left { Reader::fresh() } else { reader }
 }
 
-// Counts four D opportunities more for a period in G3, elsewhere none.
-fn counted(state: u8, opportunities: Opportunities) -> Opportunities
-    ensures { result ≡ counted_after state opportunities }
+// Counts four D opportunities more for each of `over` periods in G3, elsewhere none.
+#[tactic(auto, unfolding(crate::specs::NetworkSide::counted_over))]
+pub fn counted_over(state: u8, over: u32, opportunities: Opportunities) -> Opportunities
+    ensures { result ≡ counted_over state over opportunities }
 {
-    if state == G3 {
-        opportunities.four_more()
+    if (state == G3) & (opportunities.0 <= 4 * MOST_PERIODS) & (over <= MOST_PERIODS) {
+        Opportunities(opportunities.0 + 4 * over)
     } else {
         opportunities
     }
@@ -126,6 +138,7 @@ fn counted(state: u8, opportunities: Opportunities) -> Opportunities
 
 // Gathers all that a period gives: from what the reader said, the network end heard and the
 // exchange left.
+#[tactic(auto, using(crate::proofs::Counted::counted_one), unfolding(crate::specs::NetworkSide::answer_with, crate::specs::NetworkSide::period_has_note))]
 fn ran_with(
     bus: BusRecord,
     tally: Tally,
@@ -137,7 +150,8 @@ fn ran_with(
 {
     let notes = side.notes;
     let reader = reader_after(side.left, spoken.reader);
-    let opportunities = counted(bus.network.state, bus.opportunities);
+    let opportunities = counted_over(bus.network.state, 1, bus.opportunities);
+    let said = spoken.note();
     let heard = bus
         .with_hit(false)
         .with_echo(tally.echo)
@@ -145,12 +159,12 @@ fn ran_with(
     RunAnswer {
         bus: heard.with_counts(bus.periods.next_period(), opportunities),
         network: notes,
-        body: spoken.body,
-        said: spoken.note,
+        body: spoken.body(),
+        said,
         done1: tally.done1,
         done2: tally.done2,
         told: told
-            | (spoken.note != 0)
+            | (said != 0)
             | (tally.done1 != 0)
             | (tally.done2 != 0)
             | (0 < notes.hearing.0)
@@ -160,6 +174,7 @@ fn ran_with(
 }
 
 // Runs the network end's side of a period, after the exchange and the terminals' hearing.
+#[tactic(auto, unfolding(crate::specs::NetworkSide::answer_after, crate::specs::NetworkSide::octets_after))]
 pub fn network_side(bus: BusRecord, tally: Tally, octets: &mut [u8], told: bool) -> RunAnswer
     ensures value { result ≡ answer_after bus tally octets.old told }
     ensures octets_after { octets.new ≡ octets_after bus tally octets.old }
@@ -174,15 +189,13 @@ pub fn network_side(bus: BusRecord, tally: Tally, octets: &mut [u8], told: bool)
 }
 
 // Gives the record as it is, with a reply: nothing is run.
+#[tactic(auto, unfolding(crate::specs::NetworkSide::refused_run))]
 pub fn refused_run(bus: BusRecord, reply: u8) -> RunAnswer
     ensures { result ≡ refused_run reply bus }
 {
     RunAnswer {
         bus,
-        network: UnitNotes {
-            hearing: NO_NOTES,
-            timers: NO_NOTES,
-        },
+        network: UnitNotes::NONE,
         body: 0,
         said: 0,
         done1: 0,

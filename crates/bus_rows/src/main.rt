@@ -21,14 +21,9 @@
 // each D in G3.
 #![tactic(auto)]
 
-use bench::{Bench, given, until};
-use bus_event::event::IMAGES_ROOM;
-use bus_record::record::BusRecord;
-use hdlc::LONGEST_BODY;
+use bench::Bench;
 use notes_and_cells::events::{AR, D1, ON};
-use print::{say, two};
 use std::io;
-use terminal::Terminal;
 
 mod bench;
 mod print;
@@ -36,60 +31,39 @@ mod row;
 
 // The events of a book: unit, event, the octet of a frame, and the period before which the next
 // event is given, or the book ends.
-const DOCUMENT_01: [[u8; 4]; 3] = [[1, ON, 0, 1], [1, AR, 0, 9], [1, D1, 0x00, 20]];
+const DOCUMENT_01: [(u32, u8, u8, u32); 3] = [(1, ON, 0, 1), (1, AR, 0, 9), (1, D1, 0x00, 20)];
 
-const IV_2_1: [[u8; 4]; 6] = [
-    [1, ON, 0, 0],
-    [2, ON, 0, 1],
-    [0, AR, 0, 8],
-    [1, D1, 0x01, 8],
-    [2, D1, 0x00, 16],
-    [2, D1, 0x00, 33],
+const IV_2_1: [(u32, u8, u8, u32); 6] = [
+    (1, ON, 0, 0),
+    (2, ON, 0, 1),
+    (0, AR, 0, 8),
+    (1, D1, 0x01, 8),
+    (2, D1, 0x00, 16),
+    (2, D1, 0x00, 33),
 ];
 
 // Prints the rows of a book, and gives how often each E followed each D in G3.
-fn book(rt: &impl Print, events: &[[u8; 4]], used: usize) -> io::Result<[u32; 4]> {
-    let mut images = [0u8; IMAGES_ROOM];
-    let mut body = [0u8; LONGEST_BODY];
-    let mut counts = [0u32; 4];
-    let mut bench = Bench {
-        bus: BusRecord::fresh(),
-        terminals: [Terminal::fresh(); 8],
-    };
-    let mut i: usize = 0;
-    while i < events.len() {
-        let e = events[i];
-        i += 1;
-        let mut terminals = bench.terminals;
-        bench = given(rt, bench.bus, terminals, &mut images, e[0], e[1], e[2])?;
-        terminals = bench.terminals;
-        bench = until(
-            rt,
-            bench.bus,
-            terminals,
-            &images,
-            &mut body,
-            &mut counts,
-            used,
-            e[3],
-        )?;
+fn book(rt: &impl Print, events: &[(u32, u8, u8, u32)], used: usize) -> io::Result<[u32; 4]> {
+    let mut bench = Bench::fresh(used);
+    for &(unit, code, octet, end) in events {
+        bench.give(rt, unit, code, octet)?;
+        bench.run_until(rt, end)?;
     }
-    Ok(counts)
+    Ok(bench.echoes)
 }
 
 // Prints how often E was 0, and how often 1, after a D of 0 and after a D of 1.
 fn echoes(rt: &impl Print, n: [u32; 4]) -> io::Result<()> {
-    two(rt, "\nIV.2.1 D 0 echo 0:", n[0])?;
-    two(rt, " 1:", n[1])?;
-    two(rt, "\nIV.2.1 D 1 echo 0:", n[2])?;
-    two(rt, " 1:", n[3])?;
-    say(rt, "\n")
+    let [none_0, one_0, none_1, one_1] = n;
+    print!(rt; "\nIV.2.1 D 0 echo 0:{none_0:2} 1:{one_0:2}")?;
+    print!(rt; "\nIV.2.1 D 1 echo 0:{none_1:2} 1:{one_1:2}")?;
+    rt.print("\n")
 }
 
 fn main(rt: HostRuntime) -> io::Result<()> {
-    say(&rt, "document 01: the bench book")?;
+    rt.print("document 01: the bench book")?;
     book(&rt, &DOCUMENT_01, 1)?;
-    say(&rt, "\nIV.2.1: the echo")?;
+    rt.print("\nIV.2.1: the echo")?;
     let counts = book(&rt, &IV_2_1, 2)?;
     echoes(&rt, counts)
 }

@@ -38,7 +38,7 @@ use Rattle.network.proofs.RangesKept as network_kept
 use Rattle.terminal.specs.Terminal as terminal
 use Rattle.terminal.specs.Calls as terminalCalls
 use Rattle.terminal.specs.declared.Terminal.{Terminal}
-use Rattle.terminal.specs.declared.TerminalStep.{TerminalStep}
+use Rattle.terminal.specs.Steps.{TerminalStep}
 use Rattle.terminal.proofs.Laws as terminal-laws
 use Rattle.terminal.proofs.RangesKept as terminal-kept
 use Rattle.bus_rules.specs.Bus.{Station, Bus, terminals, fresh_station, fresh_bus, station_at}

@@ -24,7 +24,7 @@ use Rattle.network.specs.Network as network
 use Rattle.network.proofs.Laws.{timers_keep_g3}
 use Rattle.terminal.specs.Terminal as terminal
 use Rattle.terminal.specs.declared.Terminal.{Terminal}
-use Rattle.terminal.specs.declared.TerminalStep.{TerminalStep}
+use Rattle.terminal.specs.Steps.{TerminalStep}
 use Rattle.terminal.proofs.Laws.{AccessByState, hears_access, timer_keeps_f7, timer_keeps_access}
 use Rattle.bus_rules.specs.Bus.{Station, Bus, terminals, fresh_station}
 use Rattle.bus_rules.specs.Exchange.{Opportunity, in_f7, stations_of, onward, begins, opportunities_of, exchanged, whole_down, whole_up}

@@ -6,7 +6,7 @@ use Rattle.test_lemmas.proofs.ByCases.{by_test}
 use Rattle.notes_and_cells.specs.Events.{ON, OFF, AR}
 use Rattle.terminal.specs.Terminal as terminal
 use Rattle.terminal.specs.declared.Terminal.{Terminal}
-use Rattle.terminal.specs.declared.TerminalStep.{TerminalStep}
+use Rattle.terminal.specs.Steps.{TerminalStep}
 use Rattle.terminal.proofs.Laws.{AccessByState, switches_on_access, switches_off_access, requests_access, unchanged_access}
 use Rattle.bus_rules.specs.Event.{terminal_does}
 

@@ -16,9 +16,9 @@ use Rattle.contention.specs.Change.{change}
 use Rattle.network.specs.Network as network
 use Rattle.terminal.specs.Terminal as terminal
 use Rattle.network.specs.declared.Network.{Network}
-use Rattle.network.specs.declared.NetworkStep.{NetworkStep}
+use Rattle.network.specs.Steps.{NetworkStep}
 use Rattle.terminal.specs.declared.Terminal.{Terminal}
-use Rattle.terminal.specs.declared.TerminalStep.{TerminalStep}
+use Rattle.terminal.specs.Steps.{TerminalStep}
 use Rattle.bus_rules.specs.Bus.{Station, Hit, Bus, Note, terminals, station_at, with_hit, with_stations, notes_of}
 use Rattle.bus_rules.specs.Period.{network_now, stepped}
 

@@ -17,9 +17,9 @@ use Rattle.heard_line.specs.Sensing.{shown_up, shown_down}
 use Rattle.network.specs.Network as network
 use Rattle.terminal.specs.Terminal as terminal
 use Rattle.network.specs.declared.Network.{Network}
-use Rattle.network.specs.declared.NetworkStep.{NetworkStep}
+use Rattle.network.specs.Steps.{NetworkStep}
 use Rattle.terminal.specs.declared.Terminal.{Terminal}
-use Rattle.terminal.specs.declared.TerminalStep.{TerminalStep}
+use Rattle.terminal.specs.Steps.{TerminalStep}
 use Rattle.bus_rules.specs.Bus.{Station, Hit, Bus, Note, with_terminal, with_counts, with_network, with_heard_d, with_hit, with_cycle}
 use Rattle.bus_rules.specs.Bus.{with_stations}
 use Rattle.bus_rules.specs.Order.{ByUnit, d_first, no_cycle, period_in_order}

@@ -2,11 +2,12 @@
 -- a hit is lent.
 -- Interface: `terminals`, `lines_length`, `rows`, `combine_fits`, `combined_reply`, `eight`,
 -- `hit_fits`. Assumes nothing.
-use Rattle.std.specs.Prelude.{Bool, cond, ◌&&◌, List, [], ◌∷◌, ◌++◌, ℕ, zero, suc, ◌*◌, take, drop}
+use Rattle.std.specs.Prelude.{Bool, cond, ◌&&◌, List, [], ◌∷◌, ◌++◌, ℕ, zero, suc, ◌*◌, take, drop, Result, Ok, Err}
+use Rattle.refusals.specs.declared.Refusal.{Refusal}
+use Rattle.refusals.specs.declared.Refusal.TheVariants.{WrongSlice}
 use Rattle.symbols.specs.Symbols.{line_length, minus, fits, is_line}
 use Rattle.symbols.specs.Calls.{has_line_length}
 use Rattle.combining.specs.Combine.{combined}
-use Rattle.combining.specs.declared.combine.Combined.{Combined}
 use Rattle.combining.specs.Hit.{none_letter}
 
 -- The number of terminals of a bus, and the number of symbols of all their lines.
@@ -32,8 +33,8 @@ abbrev pub combine_fits : List ℕ → List ℕ → Bool
 combine_fits lines lent = has_line_length lent && fits lines_length minus lines
 
 -- What the call replies: how many lines it took, or refusal 2.
-abbrev pub combined_reply : Bool → ℕ → Combined
-combined_reply good taken = cond good (Combined.Line taken) (Combined.Refused 2)
+abbrev pub combined_reply : Bool → ℕ → Result ℕ Refusal
+combined_reply good taken = cond good (Ok taken) (Err WrongSlice)
 
 -- The combined line of the eight.
 abbrev pub eight : List ℕ → List ℕ

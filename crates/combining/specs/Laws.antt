@@ -1,7 +1,7 @@
 -- Laws: what holds of combined and of hit lines: the statements, each a type. `proofs/Laws.antt`
 -- proves each under the same name in small letters.
 -- Interface: none but for laws and proofs. Assumes nothing.
-use Rattle.std.specs.Prelude.{◌≡◌, Bool, true, false, not, cond, ◌&&◌, List, [], ◌∷◌, ◌++◌, map, ℕ, ◌<◌, eqb, length, get_or, replicate}
+use Rattle.std.specs.Prelude.{◌≡◌, Bool, true, false, not, cond, ◌&&◌, List, [], ◌∷◌, ◌++◌, map, ℕ, ◌<◌, eqb, length, get_or, replicate, Ok}
 use Rattle.symbols.specs.Symbols.{line_length, none, plus, minus, level, levels, within, fits, is_line}
 use Rattle.frame.specs.Four.{pick, and_all}
 use Rattle.frame.specs.Bits.{d_bits, fa_bit, fa_index}
@@ -15,7 +15,6 @@ use Rattle.framed.specs.Framed.{framed_up, has_pulse}
 use Rattle.info.specs.Info.{info0, info1, info3_with, info3, is_info1}
 use Rattle.combining.specs.Combine.{combined_over, combined}
 use Rattle.combining.specs.Calls.{terminals, lines_length, rows, laid, combine_fits, combined_reply, eight}
-use Rattle.combining.specs.declared.combine.Combined.{Combined}
 use Rattle.combining.specs.Groups.{Combines, all_of, of_sender}
 use Rattle.combining.specs.Sent.{Sent, sent_line}
 use Rattle.combining.specs.SentD.{how_many_send, sent_d, sent_fa, any_calling, frames, is_info3, joint_fields, frames_line}
@@ -166,7 +165,7 @@ abbrev pub ReplySent : Type 0
 ReplySent =
     (xs : List Sent) (lent : List ℕ) → length xs ≡ terminals → length lent ≡ line_length →
     let lines = laid (map sent_line xs) in
-    combined_reply (combine_fits lines lent) (lines_taken lines) ≡ Combined.Line (how_many_send xs)
+    combined_reply (combine_fits lines lent) (lines_taken lines) ≡ Ok (how_many_send xs)
 
 -- Where no line is taken, INFO 0 is given; so it is with the lines of nobody.
 abbrev pub TakenNone : Type 0

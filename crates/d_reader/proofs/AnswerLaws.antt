@@ -10,20 +10,22 @@ use lib.ListN.{length}
 use borrow.Author.Tests.{lt-ltb, ltb-false, leb-true, ne_eqb, eqb-true}
 use Rattle.test_lemmas.proofs.ByCases.{by_test}
 use Rattle.hdlc.specs.Image.{longest_body}
-use Rattle.d_reader.specs.Counters.{most_bits, one_more, after_bit, is_data, fills, store_whole, between_flags, aborted_after, answer_to, read_bit, read_octets}
+use Rattle.d_reader.specs.Counters.{Read, most_bits, one_more, after_bit, is_data, fills, store_whole, between_flags, aborted_after, answer_to, read_bit, read_octets}
 use Rattle.hdlc.specs.Reading.{Reading, said, next}
 use Rattle.hdlc.proofs.ReadingLaws.{answers}
 use Rattle.d_reader.specs.StandsFor.{StandsFor, reader_says, reader_meaning}
 use Rattle.d_reader.proofs.ReadingKept.{reads_on, length_read_octets}
 use Rattle.d_reader.specs.Calls.{octets_after, answers_after, speaks, speaking}
 use Rattle.d_reader.specs.declared.Reader.{Reader}
-use Rattle.d_reader.specs.declared.Read.{Read}
 use Rattle.d_reader.specs.declared.ReaderAnswer.{ReaderAnswer}
-use Rattle.d_reader.specs.declared.ReaderAnswer.TheVariants.{Nothing, Heard, Torn, Refused}
+use Rattle.d_reader.specs.declared.ReaderAnswer.TheVariants.{Nothing, Heard, Torn}
+use Rattle.refusals.specs.declared.Refusal.{Refusal}
+use Rattle.refusals.specs.declared.Refusal.TheVariants.{WrongSlice}
+use Rattle.std.specs.Prelude.{Result, Ok, Err}
 
 -- a property of what a call gives, short buffers and others apart
-by_room {ℓ} : (P : Read → Type ℓ) (b : Bool) (buf : List ℕ) (r : Reader) → P (record { reader = r; answer = Refused 2 })
-    → P (record { reader = after_bit b r; answer = answer_to b r }) → P (read_bit b buf r)
+by_room {ℓ} : (P : Read → Type ℓ) (b : Bool) (buf : List ℕ) (r : Reader) → P (record { reader = r; answer = Err WrongSlice })
+    → P (record { reader = after_bit b r; answer = Ok (answer_to b r) }) → P (read_bit b buf r)
 unfolding read_bit
 by_room P b buf r p q = by_test (ltb (length buf) longest_body) (λ t. simp t p) (λ t. simp t q)
 
@@ -96,16 +98,19 @@ heard_says b r n e =
         (simp t, y.0, y.1)
 
 -- the same of a call
-pub heard_call : (b : Bool) (r : Reader) (buf : List ℕ) (n : ℕ) → (read_bit b buf r).answer ≡ Heard n
+pub heard_call : (b : Bool) (r : Reader) (buf : List ℕ) (n : ℕ) → (read_bit b buf r).answer ≡ Ok (Heard n)
     → ((read_bit b buf r).reader.bits ≡ 0) × (1 ≤ n) × (n ≤ longest_body)
 heard_call b r buf n e =
-    by_room (λ (x : Read). x.answer ≡ Heard n → (x.reader.bits ≡ 0) × (1 ≤ n) × (n ≤ longest_body)) b buf r refused (heard_says b r n) e
+    by_room (λ (x : Read). x.answer ≡ Ok (Heard n) → (x.reader.bits ≡ 0) × (1 ≤ n) × (n ≤ longest_body)) b buf r refused told e
   where
-    refused : Refused 2 ≡ Heard n → (r.bits ≡ 0) × (1 ≤ n) × (n ≤ longest_body)
+    told : ◌≡◌ {A = Result ReaderAnswer Refusal} (Ok (answer_to b r)) (Ok (Heard n)) → ((after_bit b r).bits ≡ 0) × (1 ≤ n) × (n ≤ longest_body)
+    told x = heard_says b r n cc
+
+    refused : ◌≡◌ {A = Result ReaderAnswer Refusal} (Err WrongSlice) (Ok (Heard n)) → (r.bits ≡ 0) × (1 ≤ n) × (n ≤ longest_body)
     refused x = let z : ◌≡◌ {A = ℕ} 0 1 = cc in absurd (omega arith)
 
 -- After a heard body up to seven further calls change no octet of the buffer: the body stays in its first ones.
-pub heard_stays : (b : Bool) (r : Reader) (buf : List ℕ) (n : ℕ) → (read_bit b buf r).answer ≡ Heard n
+pub heard_stays : (b : Bool) (r : Reader) (buf : List ℕ) (n : ℕ) → (read_bit b buf r).answer ≡ Ok (Heard n)
     → (bs : List Bool) → length bs ≤ 7 → octets_after bs (read_bit b buf r).reader (read_octets b r buf) ≡ read_octets b r buf
 heard_stays b r buf n e bs l =
     octets_stay bs (read_bit b buf r).reader (read_octets b r buf) (omega (arith, (heard_call b r buf n e).0))
@@ -145,11 +150,11 @@ none_speaks (b ∷ bs) (suc k) r buf n l h =
     let x : (speaks (read_bit b buf r).answer ≡ 0) × Resting k (read_bit b buf r).reader =
     by_room (λ (a : Read). (speaks a.answer ≡ 0) × Resting k a.reader) b buf r
     (refl, ⊎_elim (λ q. inl (omega arith)) (λ q. inr q) h)
-    (ap speaks (rests_on k b r l h).0, (rests_on k b r l h).1) in
+    (ap (λ (x : ReaderAnswer). speaks (Ok x)) (rests_on k b r l h).0, (rests_on k b r l h).1) in
     omega (arith, x.0, none_speaks bs k (read_bit b buf r).reader (read_octets b r buf) (omega arith) (omega arith) x.1)
 
 -- an answer says neither, or the reader is at rest after it
-then_rests : (b : Bool) (r : Reader) → (speaks (answer_to b r) ≡ 0) ⊎ Resting 6 (after_bit b r)
+then_rests : (b : Bool) (r : Reader) → (speaks (Ok (answer_to b r)) ≡ 0) ⊎ Resting 6 (after_bit b r)
 unfolding answer_to after_bit speaks
 then_rests b r =
     by_test r.opened
@@ -160,12 +165,12 @@ then_rests b r =
     six true t = simp (eqb-true r.ones 6 t) (inr (refl, refl))
     six false t = simp t (inl (omega arith))
 
-speaks_most : (a : ReaderAnswer) → speaks a ≤ 1
+speaks_most : (a : Result ReaderAnswer Refusal) → speaks a ≤ 1
 unfolding speaks
-speaks_most Nothing = omega arith
-speaks_most (Heard n) = omega arith
-speaks_most Torn = omega arith
-speaks_most (Refused k) = omega arith
+speaks_most (Ok Nothing) = omega arith
+speaks_most (Ok (Heard n)) = omega arith
+speaks_most (Ok Torn) = omega arith
+speaks_most (Err k) = omega arith
 
 -- Of up to seven bits running, as the four of a period are, at most one is answered by heard or torn.
 pub one_speaks : (bs : List Bool) (r : Reader) (buf : List ℕ) → length bs ≤ 7 → speaking (answers_after bs r buf) ≤ 1
@@ -180,18 +185,18 @@ one_speaks (b ∷ bs) r buf n =
     x
 
 -- what an answer means stays for up to seven further calls
-meaning_stays : (b : Bool) (r : Reader) (buf : List ℕ) (bs : List Bool) → length bs ≤ 7 → (x : ReaderAnswer) → (read_bit b buf r).answer ≡ x
+meaning_stays : (b : Bool) (r : Reader) (buf : List ℕ) (bs : List Bool) → length bs ≤ 7 → (x : Result ReaderAnswer Refusal) → (read_bit b buf r).answer ≡ x
     → reader_meaning x (octets_after bs (read_bit b buf r).reader (read_octets b r buf)) ≡ reader_meaning x (read_octets b r buf)
 unfolding reader_meaning
-meaning_stays b r buf bs l Nothing e = refl
-meaning_stays b r buf bs l (Heard n) e = rw (heard_stays b r buf n e bs l)
-meaning_stays b r buf bs l Torn e = refl
-meaning_stays b r buf bs l (Refused k) e = refl
+meaning_stays b r buf bs l (Ok Nothing) e = refl
+meaning_stays b r buf bs l (Ok (Heard n)) e = rw (heard_stays b r buf n e bs l)
+meaning_stays b r buf bs l (Ok Torn) e = refl
+meaning_stays b r buf bs l (Err k) e = refl
 
 -- Up to eight bits running, as the four of a period: the answers mean, with the octets as the last call leaves them, what the reader over
 -- raw bits says to these bits.
 pub answers_say : (bs : List Bool) (r : Reader) (buf : List ℕ) (s : Reading) → length bs ≤ 8 → longest_body ≤ length buf → StandsFor r buf s
-    → map (λ (x : ReaderAnswer). reader_meaning x (octets_after bs r buf)) (answers_after bs r buf) ≡ map reader_says (answers s bs)
+    → map (λ (x : Result ReaderAnswer Refusal). reader_meaning x (octets_after bs r buf)) (answers_after bs r buf) ≡ map reader_says (answers s bs)
 unfolding octets_after answers_after answers
 answers_say [] r buf s n long h = refl
 answers_say (b ∷ bs) r buf s n long h =

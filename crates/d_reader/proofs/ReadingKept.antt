@@ -19,12 +19,12 @@ use Rattle.hdlc.proofs.RawLaws.{data_of, data_one, data_zero, data_inserted, dat
 use Rattle.hdlc.proofs.ReadingLaws.{after, bit_adds, bit_silent, waiting_silent}
 use Rattle.packing.specs.Octets.{WholeOctets}
 use Rattle.packing.proofs.KeptLaws.{eighth, kept_none, kept_stored, kept_on_lem, whole_before}
-use Rattle.d_reader.specs.Counters.{most_bits, fresh_reader, one_more, take_up, after_bit, is_data, fills, store_whole, between_flags, aborted_after, answer_to, read_bit, read_octets}
+use Rattle.d_reader.specs.Counters.{Read, most_bits, fresh_reader, one_more, take_up, after_bit, is_data, fills, store_whole, between_flags, aborted_after, answer_to, read_bit, read_octets}
 use Rattle.d_reader.specs.StandsFor.{ones_since_zero, zero_counts, capped, FrameRead, StandsFor, reader_says, reader_meaning, ReadsOn}
 use Rattle.d_reader.specs.Calls.{reader_after, octets_after}
 use Rattle.d_reader.proofs.RawOnes.{ones_leading, leading_since, data_flag, next_zero, next_flag, next_seven, said_flag, said_seven}
+use Rattle.std.specs.Prelude.{Ok}
 use Rattle.d_reader.specs.declared.Reader.{Reader}
-use Rattle.d_reader.specs.declared.Read.{Read}
 use Rattle.d_reader.specs.declared.ReaderAnswer.TheVariants.{Nothing}
 
 -- A fresh reader stands for a cleared reading, with any octets.
@@ -188,7 +188,7 @@ taken_octets n bs buf few long fit whole =
 
 -- what lies between two flags, for the count as it is
 means_between : (bs : List Bool) (buf : List ℕ) → longest_body ≤ length buf → WholeOctets longest_body buf bs
-    → reader_meaning (between_flags (length bs)) buf ≡ reader_says (between bs)
+    → reader_meaning (Ok (between_flags (length bs))) buf ≡ reader_says (between bs)
 unfolding between_flags between reader_meaning
 means_between bs buf long whole =
     by_test (ltb (length bs) 8)
@@ -209,7 +209,7 @@ between_torn bs l =
 
 -- the same for the count as the reader has it, with the flag's z + 6 bits
 means_flag : (bs : List Bool) (z : Bool) (n bits : ℕ) (buf : List ℕ) → longest_body ≤ length buf → WholeOctets longest_body buf bs
-    → n ≡ length bs + cond z 7 6 → bits ≡ capped n → reader_meaning (between_flags (bits - cond z 7 6)) buf ≡ reader_says (between bs)
+    → n ≡ length bs + cond z 7 6 → bits ≡ capped n → reader_meaning (Ok (between_flags (bits - cond z 7 6))) buf ≡ reader_says (between bs)
 unfolding capped between_flags reader_meaning
 means_flag bs z n bits buf long whole e c =
     by_test (ltb n most_bits)
@@ -220,13 +220,13 @@ means_flag bs z n bits buf long whole e c =
     rw b (full z e (ltb-false n most_bits t)))
   where
     full : (z : Bool) → n ≡ length bs + cond z 7 6 → most_bits ≤ n
-        → reader_meaning (between_flags (most_bits - cond z 7 6)) buf ≡ reader_says (between bs)
+        → reader_meaning (Ok (between_flags (most_bits - cond z 7 6))) buf ≡ reader_says (between bs)
     full true e m = rw (between_torn bs (omega arith))
     full false e m = rw (between_torn bs (omega arith))
 
 -- .. and for what seven 1s break off
 means_aborted : (bs : List Bool) (n bits : ℕ) (buf : List ℕ) → n ≡ length bs + 6 → bits ≡ capped n
-    → reader_meaning (aborted_after (bits - 6)) buf ≡ reader_says (aborted bs)
+    → reader_meaning (Ok (aborted_after (bits - 6))) buf ≡ reader_says (aborted bs)
 unfolding capped aborted_after aborted reader_meaning
 means_aborted bs n bits buf e c =
     by_test (ltb n most_bits)
@@ -244,7 +244,7 @@ module _ (r : Reader) (buf : List ℕ) (s : Reading) (long : longest_body ≤ le
         → contents s.raw ≡ data_of (drop 6 (h.frame o).since) ++ replicate 6 true
     before_ones l = contents_is r buf s long h o ∙ (rw l at (data_leading (h.frame o).since))
 
-    means_seven : reader_meaning (aborted_after (r.bits - 6)) (store_whole true r buf) ≡ reader_says (aborted (contents (drop 6 s.raw)))
+    means_seven : reader_meaning (Ok (aborted_after (r.bits - 6))) (store_whole true r buf) ≡ reader_says (aborted (contents (drop 6 s.raw)))
     means_seven =
         let f : FrameRead r buf s.raw = h.frame o in
         let l : leading f.since ≡ 6 = leading_is r buf s long h o ∙ six in
@@ -253,7 +253,7 @@ module _ (r : Reader) (buf : List ℕ) (s : Reading) (long : longest_body ≤ le
         let c : contents (drop 6 s.raw) ≡ D = ap (λ (x : List Bool). contents (drop 6 x)) f.raw_is ∙ contents_drop 6 f.since in
         rw c (means_aborted D (length (contents s.raw)) r.bits (store_whole true r buf) n f.bits_is)
 
-    means_closing : reader_meaning (between_flags (r.bits - cond r.zero 7 6)) buf ≡ reader_says (between (contents (drop 7 s.raw)))
+    means_closing : reader_meaning (Ok (between_flags (r.bits - cond r.zero 7 6))) buf ≡ reader_says (between (contents (drop 7 s.raw)))
     means_closing =
         let f : FrameRead r buf s.raw = h.frame o in
         let l : leading f.since ≡ 6 = leading_is r buf s long h o ∙ six in
@@ -272,7 +272,7 @@ module _ (r : Reader) (buf : List ℕ) (s : Reading) (long : longest_body ≤ le
         flag_length D true = refl
         flag_length D false = refl
 
-    means_six : (b : Bool) → reader_meaning (answer_to b r) (store_whole b r buf) ≡ reader_says (said s b)
+    means_six : (b : Bool) → reader_meaning (Ok (answer_to b r)) (store_whole b r buf) ≡ reader_says (said s b)
     unfolding answer_to store_whole fills is_data
     means_six true =
         let e : answer_to true r ≡ aborted_after (r.bits - 6) = simp (h.same_state ∙ o, six) in
@@ -282,7 +282,7 @@ module _ (r : Reader) (buf : List ℕ) (s : Reading) (long : longest_body ≤ le
         let f : store_whole false r buf ≡ buf = simp (h.same_state ∙ o, six) in
         rw (e, f, said_flag s (sym h.ones_is ∙ six) o) means_closing
 
-  means : (b : Bool) → reader_meaning (answer_to b r) (store_whole b r buf) ≡ reader_says (said s b)
+  means : (b : Bool) → reader_meaning (Ok (answer_to b r)) (store_whole b r buf) ≡ reader_says (said s b)
   unfolding answer_to reader_meaning
   means b =
       by_test s.opened
@@ -300,7 +300,7 @@ length_stored b r buf = by_test (fills b r) (λ e. simp (e, length-set)) (λ e. 
 
 -- a step of the call, where the buffer is long enough
 module _ (b : Bool) (r : Reader) (buf : List ℕ) (long : longest_body ≤ length buf) where
-  pub read_is : read_bit b buf r ≡ record { reader = after_bit b r; answer = answer_to b r }
+  pub read_is : read_bit b buf r ≡ record { reader = after_bit b r; answer = Ok (answer_to b r) }
   unfolding read_bit
   read_is = simp (le-ltb (length buf) longest_body long)
 
@@ -317,11 +317,6 @@ pub reads_on : (r : Reader) (buf : List ℕ) (b : Bool) (after : Read) (left : L
     → ReadsOn r buf b after left
 reads_on r buf b after left e f s long h =
     rw (e ∙ read_is b r buf long, f ∙ octets_is b r buf long) (means r buf s long h b, keeps r buf s long h b)
-
--- what the call ensures
-pub reads : (r : Reader) (buf : List ℕ) (b : Bool) (after : Read) (left : List ℕ) → after ≡ read_bit b buf r → left ≡ read_octets b r buf
-    → (after ≡ read_bit b buf r) × ((left ≡ read_octets b r buf) × ReadsOn r buf b after left)
-reads r buf b after left e f = (e, (f, reads_on r buf b after left e f))
 
 -- Calls one after the other, from any record and octets that stand for a reading.
 pub stands_after : (bs : List Bool) (r : Reader) (buf : List ℕ) (s : Reading) → longest_body ≤ length buf → StandsFor r buf s

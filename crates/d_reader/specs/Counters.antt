@@ -1,14 +1,20 @@
 -- How the code goes: the network end's reader as the code has it: counters, and the frame's octets
 -- in a lent buffer. StandsFor.antt says which reading of raw bits they stand for.
--- Interface: `most_bits`, `fresh_reader`, `opened_reader`, `take_up`, `after_bit`, `store_whole`,
+-- Interface: `Read`, `most_bits`, `fresh_reader`, `opened_reader`, `take_up`, `after_bit`, `store_whole`,
 -- `answer_to`, `read_bit`, `read_octets`. Assumes nothing.
-use Rattle.std.specs.Prelude.{Bool, true, false, cond, not, List, ℕ, ◌+◌, ◌-◌, ◌*◌, ◌/◌, ◌%◌, ltb, leb, eqb, length, set}
+use Rattle.std.specs.Prelude.{Bool, true, false, cond, not, List, ℕ, ◌+◌, ◌-◌, ◌*◌, ◌/◌, ◌%◌, ltb, leb, eqb, length, set, Result, Ok, Err}
 use Rattle.hdlc.specs.Image.{longest_body}
 use Rattle.packing.specs.Octets.{shifted}
 use Rattle.d_reader.specs.declared.Reader.{Reader}
 use Rattle.d_reader.specs.declared.ReaderAnswer.{ReaderAnswer}
-use Rattle.d_reader.specs.declared.ReaderAnswer.TheVariants.{Nothing, Heard, Torn, Refused}
-use Rattle.d_reader.specs.declared.Read.{Read}
+use Rattle.d_reader.specs.declared.ReaderAnswer.TheVariants.{Nothing, Heard, Torn}
+use Rattle.refusals.specs.declared.Refusal.{Refusal}
+use Rattle.refusals.specs.declared.Refusal.TheVariants.{WrongSlice}
+
+-- the record after a bit, and the answer
+pub record Read : Type 0 where
+  pub reader : Reader
+  pub answer : Result ReaderAnswer Refusal
 
 -- the count of bits goes up to here: most_bits, even less the seven of a flag, are too many for a
 -- body
@@ -80,8 +86,8 @@ answer_to b r =
 unfoldable pub read_bit : Bool → List ℕ → Reader → Read
 read_bit b buf r =
     cond (ltb (length buf) longest_body)
-    (record { reader = r; answer = Refused 2 })
-    (record { reader = after_bit b r; answer = answer_to b r })
+    (record { reader = r; answer = Err WrongSlice })
+    (record { reader = after_bit b r; answer = Ok (answer_to b r) })
 
 -- the lent octets after the call
 unfoldable pub read_octets : Bool → Reader → List ℕ → List ℕ

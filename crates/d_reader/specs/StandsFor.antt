@@ -2,16 +2,17 @@
 -- specs/Reading.antt has it) the reader's record and the lent octets stand for, and what its
 -- answers mean.
 -- Interface: `StandsFor`, `ReadsOn`. Assumes nothing.
-use Rattle.std.specs.Prelude.{Bool, true, false, cond, not, List, [], ◌∷◌, ◌++◌, ◌≡◌, ℕ, ◌+◌, ◌≤◌, ltb, eqb, length, take}
+use Rattle.std.specs.Prelude.{Bool, true, false, cond, not, List, [], ◌∷◌, ◌++◌, ◌≡◌, ℕ, ◌+◌, ◌≤◌, ltb, eqb, length, take, Result, Ok, Err}
 use Rattle.hdlc.specs.Image.{longest_body}
 use Rattle.hdlc.specs.Ones.{leading}
 use Rattle.hdlc.specs.Reading.{Reading, Said, nothing, torn, heard, contents, said, next}
 use Rattle.packing.specs.Octets.{BitsKept}
-use Rattle.d_reader.specs.Counters.{most_bits}
+use Rattle.d_reader.specs.Counters.{Read, most_bits}
 use Rattle.d_reader.specs.declared.Reader.{Reader}
-use Rattle.d_reader.specs.declared.Read.{Read}
 use Rattle.d_reader.specs.declared.ReaderAnswer.{ReaderAnswer}
-use Rattle.d_reader.specs.declared.ReaderAnswer.TheVariants.{Nothing, Heard, Torn, Refused}
+use Rattle.d_reader.specs.declared.ReaderAnswer.TheVariants.{Nothing, Heard, Torn}
+use Rattle.refusals.specs.declared.Refusal.{Refusal}
+use Rattle.refusals.specs.Numbers.{number}
 
 -- the 1s since the last 0 of raw bits, newest first: 7 for seven or more, or where there is no 0
 unfoldable pub ones_since_zero : List Bool → ℕ
@@ -50,11 +51,11 @@ pub data ReaderReply : Type 0 where
   reader_says : Said → ReaderReply
   reader_refused : ℕ → ReaderReply
 
-unfoldable pub reader_meaning : ReaderAnswer → List ℕ → ReaderReply
-reader_meaning Nothing buf = reader_says nothing
-reader_meaning (Heard n) buf = reader_says (heard (take n buf))
-reader_meaning Torn buf = reader_says torn
-reader_meaning (Refused k) buf = reader_refused k
+unfoldable pub reader_meaning : Result ReaderAnswer Refusal → List ℕ → ReaderReply
+reader_meaning (Ok Nothing) buf = reader_says nothing
+reader_meaning (Ok (Heard n)) buf = reader_says (heard (take n buf))
+reader_meaning (Ok Torn) buf = reader_says torn
+reader_meaning (Err r) buf = reader_refused (number r)
 
 -- A call, with a buffer that is long enough, is a step of the reader over raw bits: from every
 -- reading that the record and the octets stand for, the answer means what is said to the bit, and

@@ -1,7 +1,7 @@
 // The network end's reader of D (document 01, "D access (6.1)").
 #![tactic(auto)]
 
-ghost use Rattle.std.specs.Prelude.{◌≡◌, List, ℕ, ◌≤◌, length};
+ghost use Rattle.std.specs.Prelude.{◌≡◌, List, ℕ, ◌≤◌, length, OnErr};
 ghost use Rattle.hdlc.specs.Image.{longest_body};
 ghost use Rattle.hdlc.specs.Reading.{cleared};
 ghost use Rattle.d_reader.specs.Counters.{fresh_reader, take_up, after_bit, store_whole, answer_to, read_bit, read_octets};
@@ -9,6 +9,7 @@ ghost use Rattle.d_reader.specs.ReaderRange.{reader_in_range};
 ghost use Rattle.d_reader.specs.StandsFor.{StandsFor, ReadsOn};
 
 use hdlc::LONGEST_BODY;
+use refusals::Refusal;
 
 // The bits of the longest body.
 const BODY_BITS: u16 = 8 * LONGEST_BODY as u16;
@@ -18,7 +19,7 @@ const MOST_BITS: u16 = BODY_BITS + 8;
 
 // What has been read of the frame under way, in counters. The frame's whole octets stand in a lent
 // buffer.
-#[derive(Clone, Copy)]
+#[derive(Clone, Copy, PartialEq, Eq, Debug)]
 pub struct Reader {
     // How many bits of the frame under way have been read, inserted 0s left out; MOST_BITS stands
     // for that many and for all more. The bits of the closing flag are counted too, as they come.
@@ -35,21 +36,12 @@ pub struct Reader {
 }
 
 // What the reader says to a bit.
-#[derive(Clone, Copy)]
+#[derive(Clone, Copy, PartialEq, Eq, Debug)]
 pub enum ReaderAnswer {
     Nothing,
     // A body: this many octets, the first of the lent buffer.
     Heard(u16),
     Torn,
-    // The number of the refusal.
-    Refused(u8),
-}
-
-// The record after a bit, and the answer.
-#[derive(Clone, Copy)]
-pub struct Read {
-    pub reader: Reader,
-    pub answer: ReaderAnswer,
 }
 
 impl Reader {
@@ -67,24 +59,25 @@ impl Reader {
         }
     }
 
-    // Reads one bit. The frame's octets are in `octets`; where this has no room for the longest
-    // body, the call is refused with 2.
-    pub fn read(self, bit: bool, octets: &mut [u8]) -> Read
-        ensures value { result ≡ read_bit bit octets.old self }
-        ensures octets_after { octets.new ≡ read_octets bit self octets.old }
-        ensures reads_on { ReadsOn self octets.old bit result octets.new }
+    // Reads one bit, and gives what is said to it. The frame's octets are in `octets`; where this
+    // has no room for the longest body, the call is refused as a wrong slice, and both the reader
+    // and the octets stay as they were.
+    #[tactic(auto, unfolding(crate::specs::Counters::read_bit, crate::specs::Counters::read_octets))]
+    pub fn read(&mut self, bit: bool, octets: &mut [u8]) -> Result<ReaderAnswer, Refusal>
+        ensures reader_after { self.new ≡ (read_bit bit octets.old self.old).reader }
+        ensures value { result ≡ (read_bit bit octets.old self.old).answer }
+        ensures octets_after { octets.new ≡ read_octets bit self.old octets.old }
+        ensures reads_on { ReadsOn self.old octets.old bit (record { reader = self.new; answer = result }) octets.new }
+        ensures refused_reader { OnErr result (self.new ≡ self.old) }
+        ensures refused_octets { OnErr result (octets.new ≡ octets.old) }
     {
         if octets.len() < LONGEST_BODY {
-            return Read {
-                reader: self,
-                answer: ReaderAnswer::Refused(2),
-            };
+            return Err(Refusal::WrongSlice);
         }
         self.store_whole(bit, octets);
-        Read {
-            reader: self.after_bit(bit),
-            answer: self.answer_to(bit),
-        }
+        let said = self.answer_to(bit);
+        *self = self.after_bit(bit);
+        Ok(said)
     }
 
     // Tests whether every field is in its range.
@@ -92,11 +85,7 @@ impl Reader {
     pub fn in_range(self) -> bool
         ensures { result ≡ reader_in_range self }
     {
-        if MOST_BITS < self.bits {
-            false
-        } else {
-            self.ones <= 7
-        }
+        self.bits <= MOST_BITS && self.ones <= 7
     }
 
     // Puts an octet that is whole with this bit in its place, unless the longest body ends before
@@ -109,21 +98,11 @@ impl Reader {
         let is_data = if bit {
             self.ones < 6
         } else {
-            if self.ones == 5 {
-                false
-            } else {
-                self.ones != 6
-            }
+            self.ones != 5 && self.ones != 6
         };
-        if self.opened {
-            if is_data {
-                if self.bits % 8 == 7 {
-                    if self.bits < BODY_BITS {
-                        let at = (self.bits / 8) as usize;
-                        octets[at] = packing::bits::shifted(self.octet, bit);
-                    }
-                }
-            }
+        if self.opened && is_data && self.bits % 8 == 7 && self.bits < BODY_BITS {
+            let at = (self.bits / 8) as usize;
+            octets[at] = packing::bits::shifted(self.octet, bit);
         }
     }
 
@@ -149,11 +128,9 @@ impl Reader {
         }
         if self.ones == 5 {
             return Reader {
-                bits: self.bits,
                 ones: 0,
-                octet: self.octet,
-                opened: self.opened,
                 zero: false,
+                ..self
             };
         }
         self.take_up(false, 0, self.opened)
@@ -164,25 +141,12 @@ impl Reader {
     fn take_up(self, bit: bool, ones: u8, zero: bool) -> Self
         ensures { result ≡ take_up bit ones zero self }
     {
-        let octet = packing::bits::shifted(self.octet, bit);
-        let opened = self.opened;
-        if self.bits < MOST_BITS {
-            let bits = self.bits + 1;
-            Reader {
-                bits,
-                ones,
-                octet,
-                opened,
-                zero,
-            }
-        } else {
-            Reader {
-                bits: MOST_BITS,
-                ones,
-                octet,
-                opened,
-                zero,
-            }
+        Reader {
+            bits: MOST_BITS.min(self.bits.saturating_add(1)),
+            ones,
+            octet: packing::bits::shifted(self.octet, bit),
+            zero,
+            ..self
         }
     }
 
@@ -192,28 +156,16 @@ impl Reader {
     fn answer_to(self, bit: bool) -> ReaderAnswer
         ensures { result ≡ answer_to bit self }
     {
-        if !self.opened {
+        if !self.opened || self.ones != 6 {
             return ReaderAnswer::Nothing;
         }
-        if self.ones != 6 {
-            return ReaderAnswer::Nothing;
-        }
-        let own: u16 = if bit {
-            6
-        } else {
-            if self.zero { 7 } else { 6 }
-        };
+        let own = if !bit && self.zero { 7 } else { 6 };
         if self.bits < own + 8 {
             return ReaderAnswer::Nothing;
         }
         let n = self.bits - own;
-        if bit {
-            return ReaderAnswer::Torn;
-        }
-        if n % 8 == 0 {
-            if n <= BODY_BITS {
-                return ReaderAnswer::Heard(n / 8);
-            }
+        if !bit && n % 8 == 0 && n <= BODY_BITS {
+            return ReaderAnswer::Heard(n / 8);
         }
         ReaderAnswer::Torn
     }

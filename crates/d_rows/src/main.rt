@@ -6,115 +6,86 @@ ghost use Rattle.std.specs.Prelude.{◌≤◌, length, IfOk};
 
 use d_reader::{Reader, ReaderAnswer};
 use hdlc::LONGEST_BODY;
-use packing::image::{IMAGE_ROOM, Imaged};
-use std::io;
+use packing::image::{IMAGE_ROOM, packed_bit};
+use refusals::Refusal;
 use std::io::Read;
+use std::{fmt, io};
 
-// Prints a text.
-fn text(rt: &impl Print, t: &str) -> io::Result<()> {
-    rt.print(t)
-}
+// Octets, printed in hexadecimal.
+#[derive(Clone, Copy, Drop)]
+struct Hex<'a>(&'a [u8]);
 
-// Prints a number.
-fn number(rt: &impl Print, n: usize) -> io::Result<()> {
-    rt.print(n)
-}
-
-// Prints octets in hexadecimal.
-fn octets(rt: &impl Print, o: &[u8]) -> io::Result<()> {
-    for octet in o {
-        print!(rt; "{octet:02x}")?;
+impl fmt::Display for Hex<'_> {
+    fn fmt<W: fmt::Write>(&self, f: &mut fmt::Formatter<W>) -> fmt::Result {
+        for octet in self.0 {
+            write!(f, "{octet:02x}")?;
+        }
+        Ok(())
     }
-    Ok(())
 }
 
-// Prints the first `count` of some octets, where there are that many.
-fn first(rt: &impl Print, o: &[u8], count: usize) -> io::Result<()> {
-    if count <= o.len() {
-        octets(rt, &o[..count])?;
+// The first `count` bits of packed octets, printed as digits.
+#[derive(Clone, Copy, Drop)]
+struct Bits<'a> {
+    octets: &'a [u8],
+    count: u16,
+}
+
+impl fmt::Display for Bits<'_> {
+    fn fmt<W: fmt::Write>(&self, f: &mut fmt::Formatter<W>) -> fmt::Result {
+        for i in 0..self.count {
+            let bit = packed_bit(self.octets, i) as u8;
+            write!(f, "{bit}")?;
+        }
+        Ok(())
     }
-    Ok(())
-}
-
-// Prints a bit.
-fn bit(rt: &impl Print, b: bool) -> io::Result<()> {
-    if b { text(rt, "1") } else { text(rt, "0") }
-}
-
-// Prints the first `count` bits of packed octets.
-fn bits(rt: &impl Print, o: &[u8], count: u16) -> io::Result<()> {
-    for i in 0..count {
-        bit(rt, packing::image::packed_bit(o, i))?;
-    }
-    Ok(())
 }
 
 // Prints a line for an image: its length in bits and, if `shown`, the bits; or the number of the
 // refusal.
 fn image(rt: &impl Print, body: &[u8], out: &mut [u8], shown: bool) -> io::Result<()> {
-    let answer = packing::image::image(body, out);
-    match answer {
-        Imaged::Bits(n) => {
-            number(rt, n as usize)?;
+    match packing::image::image(body, out) {
+        Ok(count) => {
             if shown {
-                text(rt, " ")?;
-                bits(rt, out, n)?;
+                let bits = Bits { octets: out, count };
+                return println!(rt; "{count} {bits}");
             }
+            println!(rt; "{count}")
         }
-        Imaged::Refused(k) => {
-            text(rt, "refused ")?;
-            number(rt, k as usize)?;
-        }
+        Err(refusal) => println!(rt; "refused {refusal}"),
     }
-    text(rt, "\n")
 }
 
 // Prints a line for what the reader answers to the bit at a place, unless it is nothing.
-fn answer(rt: &impl Print, place: usize, answer: ReaderAnswer, heard: &[u8]) -> io::Result<()> {
+fn answer(
+    rt: &impl Print,
+    place: usize,
+    answer: Result<ReaderAnswer, Refusal>,
+    octets: &[u8],
+) -> io::Result<()> {
     match answer {
-        ReaderAnswer::Nothing => {}
-        ReaderAnswer::Heard(n) => {
-            number(rt, place)?;
-            text(rt, " heard ")?;
-            first(rt, heard, n as usize)?;
-            text(rt, "\n")?;
+        Ok(ReaderAnswer::Nothing) => Ok(()),
+        Ok(ReaderAnswer::Heard(n)) => {
+            let body = Hex(octets.get(..n as usize).unwrap_or(&[]));
+            println!(rt; "{place} heard {body}")
         }
-        ReaderAnswer::Torn => {
-            number(rt, place)?;
-            text(rt, " torn\n")?;
-        }
-        ReaderAnswer::Refused(k) => {
-            number(rt, place)?;
-            text(rt, " refused ")?;
-            number(rt, k as usize)?;
-            text(rt, "\n")?;
-        }
+        Ok(ReaderAnswer::Torn) => println!(rt; "{place} torn"),
+        Err(refusal) => println!(rt; "{place} refused {refusal}"),
     }
-    Ok(())
 }
 
 // Prints what a fresh reader answers to the digits of a bit string, each answer with the digit's
-// place, and gives the reader after them.
-fn answers(rt: &impl Print, digits: &[u8], heard: &mut [u8]) -> io::Result<Reader> {
+// place, and then whether the reader is in range.
+fn read(rt: &impl Print, digits: &[u8], octets: &mut [u8]) -> io::Result<()> {
     let mut reader = Reader::fresh();
-    let mut i: usize = 0;
-    while i < digits.len() {
-        let read = reader.read(digits[i] == b'1', heard);
-        reader = read.reader;
-        let said = read.answer;
-        answer(rt, i, said, heard)?;
-        i += 1;
+    for (place, digit) in digits.iter().enumerate() {
+        let said = reader.read(*digit == b'1', octets);
+        answer(rt, place, said, octets)?;
     }
-    Ok(reader)
-}
-
-// Prints the same, and whether the reader is in range in the end.
-fn read(rt: &impl Print, digits: &[u8], heard: &mut [u8]) -> io::Result<()> {
-    let reader = answers(rt, digits, heard)?;
     if reader.in_range() {
-        text(rt, "in range\n")
+        println!(rt; "in range")
     } else {
-        text(rt, "out of range\n")
+        println!(rt; "out of range")
     }
 }
 
@@ -136,22 +107,22 @@ fn images(rt: &impl Print) -> io::Result<()> {
 // Prints what the reader says to some bit strings.
 fn readings(rt: &impl Print) -> io::Result<()> {
     let mut heard = [0u8; LONGEST_BODY];
-    text(rt, "an image of 00\n")?;
+    println!(rt; "an image of 00")?;
     read(rt, b"011111100000000001111110", &mut heard)?;
-    text(rt, "two images of ff with a shared 0 between the flags\n")?;
+    println!(rt; "two images of ff with a shared 0 between the flags")?;
     read(
         rt,
         b"0111111011111011101111110111111011111011101111110",
         &mut heard,
     )?;
-    text(rt, "seven 1s after seven bits and after eight\n")?;
+    println!(rt; "seven 1s after seven bits and after eight")?;
     read(rt, b"0111111000000001111111", &mut heard)?;
     read(rt, b"01111110000000001111111", &mut heard)?;
-    text(rt, "nine bits between flags\n")?;
+    println!(rt; "nine bits between flags")?;
     read(rt, b"0111111000000000001111110", &mut heard)?;
-    text(rt, "six 1s and a 0 first\n")?;
+    println!(rt; "six 1s and a 0 first")?;
     read(rt, b"11111100000000001111110", &mut heard)?;
-    text(rt, "a short buffer\n")?;
+    println!(rt; "a short buffer")?;
     let mut short = [0u8; LONGEST_BODY - 1];
     read(rt, b"0", &mut short)
 }
@@ -177,6 +148,6 @@ fn main(rt: HostRuntime) -> io::Result<()> {
     let mut digits = [0u8; 65_536];
     let mut heard = [0u8; LONGEST_BODY];
     let n = read_full(&mut rt.stdin(), &mut digits)?;
-    text(&rt, "standard input\n")?;
+    println!(rt; "standard input")?;
     read(&rt, &digits[..n], &mut heard)
 }

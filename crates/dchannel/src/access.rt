@@ -1,12 +1,14 @@
 // One terminal's access to the D channel (document 01, "D access (6.1)").
 ghost use Rattle.std.specs.Prelude.{◌≡◌, cond};
-ghost use Rattle.dchannel.specs.Access.{normal1, normal2, fresh, entered, after_e, may_start, completes, stops, access_step};
+ghost use Rattle.dchannel.specs.Access.{normal1, normal2, fresh, entered, count_after, after_e, may_start, completes, stops, access_step};
 ghost use Rattle.dchannel.specs.AtRest.{at_rest};
 ghost use Rattle.dchannel.specs.Handing.{left};
 ghost use Rattle.dchannel.specs.Calls.{handed};
 ghost use Rattle.dchannel.specs.Ranges.{access_in_range};
+ghost use Rattle.refusals.specs.Numbers.{unless_refused};
 
 use hdlc::LONGEST_BODY;
+use refusals::Refusal;
 
 // The C at which class 1 starts at its normal level. At the low level it is one more.
 pub const NORMAL_1: u8 = 8;
@@ -36,6 +38,7 @@ pub struct Access {
     // C, the running 1s of E.
     pub count: u8,
     // The class of the held frame, 0 where none is held.
+    // Kept: what may not change: public calls take a record with any `held`, and `in_range` tests it.
     pub held: u8,
     // Whether class 1 is at its low level.
     pub low1: bool,
@@ -51,22 +54,28 @@ pub struct Access {
 pub struct AccessStep {
     pub access: Access,
     pub d: bool,
+    // Kept: what may not change: `access_step` gives the number that `held` was, which may be any.
     pub done: u8,
-}
-
-// What handing over a frame gives: the record, and 0, or the number of the refusal (7 or 8) with
-// the record as it was.
-#[derive(Clone, Copy)]
-pub struct Handed {
-    pub access: Access,
-    pub reply: u8,
 }
 
 // What leaving F7 gives: the record, and the class of the dropped frame, 0 for none.
 #[derive(Clone, Copy)]
 pub struct Left {
     pub access: Access,
+    // Kept: what may not change: `leave` gives the number that `held` was, which may be any.
     pub dropped: u8,
+}
+
+// Gives C after an E: a 1 counts one more, up to the low level of class 2, and a 0 starts anew.
+#[tactic(auto, unfolding(crate::specs::Access::count_after))]
+pub fn counted(count: u8, e: bool) -> u8
+    ensures { result ≡ count_after normal2 e count }
+{
+    if e {
+        count.saturating_add(1).min(NORMAL_2 + 1)
+    } else {
+        0
+    }
 }
 
 impl Access {
@@ -85,42 +94,30 @@ impl Access {
         }
     }
 
-    // Hands over a frame of a class, whose image has `length` bits. It is refused with 7 where that
-    // is less than the shortest image has or more than the longest, and with 8 where a frame is
-    // held.
+    // Hands over a frame of a class, whose image has `length` bits, and gives the record that holds
+    // it. It is refused for its length where that is less than the shortest image has or more than
+    // the longest, and where a frame is held; the terminal then keeps the record as it was.
     #[tactic(auto, unfolding(crate::specs::Calls::handed, crate::specs::Calls::is_image_length, crate::specs::Handing::taken_up))]
-    pub fn hand(self, class: Class, length: u16) -> Handed
-        ensures { result ≡ handed class length self }
+    pub fn hand(self, class: Class, length: u16) -> Result<Access, Refusal>
+        ensures { let call = handed class length self in result ≡ unless_refused call.reply call.access }
     {
-        let held: u8 = match class {
+        if length < SHORTEST_IMAGE || LONGEST_IMAGE < length {
+            return Err(Refusal::BodyLength);
+        }
+        if self.held != 0 {
+            return Err(Refusal::FrameHeld);
+        }
+        let held = match class {
             Class::One => 1,
             Class::Two => 2,
         };
-        let fits = (SHORTEST_IMAGE <= length) & (length <= LONGEST_IMAGE);
-        let reply: u8 = if fits {
-            if self.held == 0 { 0 } else { 8 }
-        } else {
-            7
-        };
-        if reply == 0 {
-            Handed {
-                access: Access {
-                    length,
-                    sent: 0,
-                    count: self.count,
-                    held,
-                    low1: self.low1,
-                    low2: self.low2,
-                    last: true,
-                },
-                reply,
-            }
-        } else {
-            Handed {
-                access: self,
-                reply,
-            }
-        }
+        Ok(Access {
+            length,
+            sent: 0,
+            held,
+            last: true,
+            ..self
+        })
     }
 
     // Gives the record as the terminal enters F7: C is 0.
@@ -128,15 +125,7 @@ impl Access {
     pub fn enter(self) -> Self
         ensures { result ≡ entered self }
     {
-        Access {
-            length: self.length,
-            sent: self.sent,
-            count: 0u8,
-            held: self.held,
-            low1: self.low1,
-            low2: self.low2,
-            last: self.last,
-        }
+        Access { count: 0, ..self }
     }
 
     // Gives the record as the terminal leaves F7: a held frame is dropped, and both levels are
@@ -165,13 +154,9 @@ impl Access {
         if leaves {
             return AccessStep {
                 access: Access {
-                    length: self.length,
                     sent: self.sent + 1,
-                    count: heard.count,
-                    held: self.held,
-                    low1: heard.low1,
-                    low2: heard.low2,
                     last: next,
+                    ..heard
                 },
                 d: next,
                 done: 0,
@@ -189,27 +174,16 @@ impl Access {
     }
 
     // Gives the record with C and the levels after an E.
-    #[tactic(auto, using(test_lemmas::proofs::Operators::without_cond), unfolding(crate::specs::Access::after_e, crate::specs::Access::count_after, crate::specs::Access::low_after))]
+    #[tactic(auto, using(test_lemmas::proofs::Operators::without_cond), unfolding(crate::specs::Access::after_e, crate::specs::Access::low_after))]
     fn after_e(self, e: bool) -> Self
         ensures { result ≡ after_e normal1 normal2 e self }
     {
-        let count: u8 = if e {
-            if self.count < NORMAL_2 + 1 {
-                self.count + 1
-            } else {
-                NORMAL_2 + 1
-            }
-        } else {
-            0
-        };
+        let count = counted(self.count, e);
         Access {
-            length: self.length,
-            sent: self.sent,
             count,
-            held: self.held,
             low1: (count != NORMAL_1 + 1) & self.low1,
             low2: (count != NORMAL_2 + 1) & self.low2,
-            last: self.last,
+            ..self
         }
     }
 
@@ -223,11 +197,11 @@ impl Access {
                 access: Access {
                     length: 0,
                     sent: 0,
-                    count: self.count,
                     held: 0,
                     low1: (self.held == 1) | self.low1,
                     low2: (self.held == 2) | self.low2,
                     last: true,
+                    ..self
                 },
                 d: true,
                 done: self.held,
@@ -235,13 +209,9 @@ impl Access {
         } else {
             AccessStep {
                 access: Access {
-                    length: self.length,
                     sent: 0,
-                    count: self.count,
-                    held: self.held,
-                    low1: self.low1,
-                    low2: self.low2,
                     last: true,
+                    ..self
                 },
                 d: true,
                 done: 0,

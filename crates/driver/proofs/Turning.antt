@@ -15,7 +15,9 @@ use Rattle.report.specs.Ahead.{Stopped, TEXT}
 use Rattle.report.proofs.Driving.{text_few, fresh_state_ready, state_stays_ready}
 use Rattle.book_go_on.specs.Progress.{book_state_of, fresh_progress}
 use Rattle.book_go_on.specs.GoOn.{GoesOn}
-use Rattle.book_go_on.proofs.Going.{never_refused}
+use Rattle.std.specs.Prelude.{Result, Ok, IsOk}
+use Rattle.refusals.specs.declared.Refusal.{Refusal}
+use Rattle.book_go_on.proofs.Going.{never_refused, gone_on_call}
 use Rattle.book_go_on.specs.declared.progress.Progress.{Progress}
 use Rattle.book_go_on.specs.declared.progress.GoneOn.{GoneOn}
 use Rattle.driver.specs.Turn.{Fills, Turned, Going, held_state, first}
@@ -24,38 +26,43 @@ use Rattle.driver.specs.declared.turn.Held.{Held}
 -- ---- A turn.
 module _ (most : ℕ) (h : Held) (text room images octets letters : List ℕ) (g : Going h text images octets letters)
     (have : ℕ) (whole : Bool) (filled : List ℕ) (f : Fills most text h.have h.why h.whole filled have whole)
-    (w : GoneOn) (room' images' octets' letters' : List ℕ)
-    (o : GoesOn h.progress images octets letters (take have filled) room whole w images' octets' letters' room') where
-  abbrev rest : List ℕ
-  rest = rest_of w.taken have filled
+    (said : Result GoneOn Refusal) (room' images' octets' letters' : List ℕ)
+    (o : GoesOn h.progress images octets letters (take have filled) room whole said images' octets' letters' room') where
+  -- the call is not refused
+  pub accepted : IsOk said
+  accepted = let g = gone_on_call said (o.replies ∙ never_refused (held_state h images octets letters) g.sound) in rw g.1
 
-  goes : Stopped (held_state h images octets letters) (take have filled) room whole
-      (book_state_of w.progress images' octets' letters') w.taken w.wrote w.why room'
-  goes = o.stops (o.replies ∙ never_refused (held_state h images octets letters) g.sound)
+  module _ (w : GoneOn) (is : said ≡ Ok w) where
+    abbrev rest : List ℕ
+    rest = rest_of w.taken have filled
 
-  pub wrote_fits : w.wrote ≤ length room'
-  wrote_fits = omega (arith, goes.went.fits, goes.went.long)
+    goes : Stopped (held_state h images octets letters) (take have filled) room whole
+        (book_state_of w.progress images' octets' letters') w.taken w.wrote w.why room'
+    goes = o.stops w is
 
-  pub turned : (failed : Bool) (left : ℕ) (text' : List ℕ) → left ≡ length rest → text' ≡ kept w.taken have filled
-      → Turned most h text room images octets letters
-      (record { progress = w.progress; have = left; why = w.why; whole = whole; failed = failed })
-      text' room' images' octets' letters'
-  turned failed left text' n is =
-      record {
-        part = f.part;
-        few = f.few;
-        asked = f.asked;
-        unasked = f.unasked;
-        taken = w.taken;
-        wrote = w.wrote;
-        stopped =
-            subst
-            (λ (l : List ℕ). Stopped (held_state h images octets letters) l room whole
-            (book_state_of w.progress images' octets' letters') w.taken w.wrote w.why room')
-            f.behind goes;
-        rest = rw (n, is) (take-append_seam rest _ ∙ ap (drop w.taken) f.behind);
-        within = rw (n, is) (omega (arith, length-append rest (drop (length rest) filled)));
-      }
+    pub wrote_fits : w.wrote ≤ length room'
+    wrote_fits = omega (arith, goes.went.fits, goes.went.long)
+
+    pub turned : (failed : Bool) (left : ℕ) (text' : List ℕ) → left ≡ length rest → text' ≡ kept w.taken have filled
+        → Turned most h text room images octets letters
+        (record { progress = w.progress; have = left; why = w.why; whole = whole; failed = failed })
+        text' room' images' octets' letters'
+    turned failed left text' n is =
+        record {
+          part = f.part;
+          few = f.few;
+          asked = f.asked;
+          unasked = f.unasked;
+          taken = w.taken;
+          wrote = w.wrote;
+          stopped =
+              subst
+              (λ (l : List ℕ). Stopped (held_state h images octets letters) l room whole
+              (book_state_of w.progress images' octets' letters') w.taken w.wrote w.why room')
+              f.behind goes;
+          rest = rw (n, is) (take-append_seam rest _ ∙ ap (drop w.taken) f.behind);
+          within = rw (n, is) (omega (arith, length-append rest (drop (length rest) filled)));
+        }
 
 -- ---- What holds after it.
 pub goes_on : (most : ℕ) (h : Held) (text room images octets letters : List ℕ) (r : Held) (text' room' images' octets' letters' : List ℕ)

@@ -1,11 +1,12 @@
 // Reading text from standard input.
 ghost use Rattle.std.specs.Prelude.{◌≡◌, ◌≤◌, ◌<◌, length};
+ghost use Rattle.std.specs.NonZero.{non_zero_usize_get};
 ghost use Rattle.report.specs.Ahead.{TEXT};
 ghost use Rattle.driver.specs.Turn.{Fills};
 
 use book_go_on::progress::TEXT;
+use std::num::NonZeroUsize;
 use streams::read::read_in;
-use text::length::least;
 
 // The octets in hand, and whether they reach to the book's end.
 #[derive(Clone, Copy)]
@@ -23,17 +24,16 @@ pub(crate) fn fill(
     have: usize,
     why: u8,
     whole: bool,
-    most: usize,
+    most: NonZeroUsize,
 ) -> Filled
     requires have_in_bounds { have ≤ length text.old }
     requires have_in_bounds_2 { why ≡ TEXT → have < length text.old }
-    requires most_nonzero { 0 < most }
-    ensures { Fills most text.old have why whole text.new result.have result.whole }
+    ensures { Fills (non_zero_usize_get most) text.old have why whole text.new result.have result.whole }
 {
     if why != TEXT {
         return Filled { have, whole };
     }
-    let end = have + least(most, text.len() - have);
+    let end = have + most.get().min(text.len() - have);
     let n = read_in(rt, &mut text[have..end]);
     Filled {
         have: have + n,

@@ -1,5 +1,6 @@
 // All turns, from a fresh bus to the end of the book.
-ghost use Rattle.std.specs.Prelude.{◌≡◌, ◌≤◌, ◌<◌, true, length};
+ghost use Rattle.std.specs.Prelude.{◌≡◌, ◌≤◌, true, length};
+ghost use Rattle.std.specs.NonZero.{non_zero_usize_get};
 ghost use Rattle.hdlc.specs.Image.{longest_body};
 ghost use Rattle.bus_event.specs.Event.{images_room, are_letters};
 ghost use Rattle.book_line.specs.Line.{longest_line};
@@ -10,13 +11,14 @@ use book_go_on::progress::{OVER, Progress, TEXT};
 use bus_event::event::IMAGES_ROOM;
 use hdlc::LONGEST_BODY;
 use period_text::period::PERIOD_ROOM;
+use std::num::NonZeroUsize;
 use symbols::LINE_LENGTH;
 
 // The octets of the book that are in hand at a time at the most.
 const TEXT_ROOM: usize = 65_536;
 
 // Takes turns until the book is over or a write has failed. Nothing says that the input ends, so
-// the turns are counted down, from a number that no run uses up (`RunEnds`). The first turn stands
+// the turns are counted, up to a number that no run comes to (`RunEnds`). The first turn stands
 // before the loop: where the compiler sees a fresh book go into the loop, it copies the book's
 // fields one by one, at every turn.
 fn drive(
@@ -26,14 +28,13 @@ fn drive(
     images: &mut [u8],
     octets: &mut [u8],
     letters: &mut [u8],
-    most: usize,
+    most: NonZeroUsize,
 )
     requires longest_line_in_bounds { longest_line ≤ length text.old }
-    requires most_nonzero { 0 < most }
     requires images_len { length images.old ≡ images_room }
     requires longest_body_in_bounds { longest_body ≤ length octets.old }
     requires letters_value { are_letters letters.old ≡ true }
-    ensures { Drives most text.old room.old images.old octets.old letters.old
+    ensures { Drives (non_zero_usize_get most) text.old room.old images.old octets.old letters.old
         text.new room.new images.new octets.new letters.new }
 {
     let first = Held {
@@ -44,10 +45,11 @@ fn drive(
         failed: false,
     };
     let mut h = turn(rt, first, text, room, images, octets, letters, most);
-    let mut turns = u64::MAX - 1;
-    while (turns > 0) & (!h.failed & (h.why != OVER)) {
+    for _turns in 1..u64::MAX {
+        if h.failed | (h.why == OVER) {
+            return;
+        }
         h = turn(rt, h, text, room, images, octets, letters, most);
-        turns -= 1;
     }
 }
 
@@ -64,7 +66,7 @@ pub fn run(rt: &HostRuntime, room: &mut [u8], most: usize)
     let mut images = [0u8; IMAGES_ROOM];
     let mut octets = [0u8; LONGEST_BODY];
     let mut letters = [0u8; LINE_LENGTH];
-    let part = if most == 0 { 1 } else { most };
+    let part = NonZeroUsize::new(most).unwrap_or(NonZeroUsize::MIN);
     drive(
         rt,
         &mut text,

@@ -1,5 +1,6 @@
 // One turn: text where it is needed, a call, and what it has written goes to standard output.
-ghost use Rattle.std.specs.Prelude.{◌≤◌, ◌<◌, length};
+ghost use Rattle.std.specs.Prelude.{◌≤◌, length};
+ghost use Rattle.std.specs.NonZero.{non_zero_usize_get};
 ghost use Rattle.book_line.specs.Line.{longest_line};
 ghost use Rattle.driver.specs.Turn.{Turned, Going};
 
@@ -7,6 +8,7 @@ use super::fill::fill;
 use book_go_on::go_on::go_on;
 use book_go_on::progress::Progress;
 use book_reader::rest::keep;
+use std::num::NonZeroUsize;
 use streams::write::write_out;
 
 // What is kept between turns: how far the book has come, how many octets of it are in hand, why the
@@ -22,7 +24,7 @@ pub(crate) struct Held {
 
 // Reads where text is needed, calls, writes out what stands in the room, and keeps the text not yet
 // taken. Whether the write has failed is what `write_out` answers: no statement speaks of it. No
-// call is refused here (`Going`), so the reply, which is 0, is not looked at.
+// call is refused here (`Going`).
 pub(crate) fn turn(
     rt: &HostRuntime,
     h: Held,
@@ -31,12 +33,11 @@ pub(crate) fn turn(
     images: &mut [u8],
     octets: &mut [u8],
     letters: &mut [u8],
-    most: usize,
+    most: NonZeroUsize,
 ) -> Held
     requires going { Going h text.old images.old octets.old letters.old }
     requires longest_line_in_bounds { longest_line ≤ length text.old }
-    requires most_nonzero { 0 < most }
-    ensures { Turned most h
+    ensures { Turned (non_zero_usize_get most) h
         text.old room.old images.old octets.old letters.old
         result text.new room.new images.new octets.new letters.new }
 {
@@ -51,7 +52,8 @@ pub(crate) fn turn(
         &text[..have],
         room,
         f.whole,
-    );
+    )
+    .unwrap();
     let wrote = w.wrote;
     let taken = write_out(rt, &room[..wrote]);
     let left = keep(text, w.taken, have);

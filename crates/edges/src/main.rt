@@ -4,37 +4,29 @@
 
 use dchannel::access::{Access, Class};
 use hdlc::LONGEST_BODY;
-use packing::image::{IMAGE_ROOM, Imaged, image};
+use packing::image::{IMAGE_ROOM, image};
+use refusals::Refusal;
 use std::io;
 
-// Prints a text.
-fn say(rt: &impl Print, text: &str) -> io::Result<()> {
-    rt.print(text)
-}
-
 // Prints the answer of the image call, and then that of handing the frame over.
-fn show(rt: &impl Print, answer: Imaged) -> io::Result<()> {
+fn show(rt: &impl Print, answer: Result<u16, Refusal>) -> io::Result<()> {
     match answer {
-        Imaged::Bits(n) => {
-            say(rt, "image of ")?;
-            rt.print(n)?;
-            say(rt, " bits, reply ")?;
-            let handed = Access::fresh().hand(Class::One, n);
-            rt.print(handed.reply)?;
+        Ok(bits) => {
+            print!(rt; "image of {bits} bits, reply ")?;
+            match Access::fresh().hand(Class::One, bits) {
+                Ok(_) => println!(rt; "0"),
+                Err(refusal) => println!(rt; "{refusal}"),
+            }
         }
-        Imaged::Refused(k) => {
-            say(rt, "refused ")?;
-            rt.print(k)?;
-        }
+        Err(refusal) => println!(rt; "refused {refusal}"),
     }
-    say(rt, "\n")
 }
 
 fn main(rt: HostRuntime) -> io::Result<()> {
     let body = [255u8; LONGEST_BODY + 1];
     let mut out = [0u8; IMAGE_ROOM];
-    say(&rt, "266 octets: ")?;
+    print!(rt; "266 octets: ")?;
     show(&rt, image(&body[..LONGEST_BODY], &mut out))?;
-    say(&rt, "267 octets: ")?;
+    print!(rt; "267 octets: ")?;
     show(&rt, image(&body, &mut out))
 }

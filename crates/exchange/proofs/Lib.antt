@@ -4,3 +4,5 @@ pub mod Images
 pub mod Turning
 pub mod Shown
 pub mod Resting
+pub mod Gathered
+pub mod First

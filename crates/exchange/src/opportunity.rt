@@ -13,18 +13,16 @@ pub fn opportunity(terminals: &mut [Terminal], images: &[u8], before: Tally) -> 
     ensures terminals_after { terminals.new ≡ terminals_after images.now before terminals.old }
 {
     let mut tally = before.begun();
-    let mut i: usize = 0;
-    while i < terminals.len() {
-        let t = terminals[i];
-        let s = one_part(t, images, i, tally);
-        terminals[i] = s.terminal;
-        tally = s.tally;
-        i += 1;
+    for (i, terminal) in terminals.iter_mut().enumerate() {
+        let part = one_part(*terminal, images, i, tally);
+        *terminal = part.terminal;
+        tally = part.tally;
     }
     tally.ended()
 }
 
 // Runs the four D opportunities of a period one after the other.
+#[tactic(auto, unfolding(crate::specs::Opportunities::tally_after_four, crate::specs::Opportunities::terminals_after_four))]
 fn four_opportunities(terminals: &mut [Terminal], images: &[u8], first: Tally) -> Tally
     ensures value { result ≡ tally_after_four images.now first terminals.old }
     ensures terminals_after { terminals.new ≡ terminals_after_four images.now first terminals.old }

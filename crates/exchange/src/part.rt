@@ -20,6 +20,7 @@ pub struct Part {
 }
 
 // Gives bit number `sent`, from 0, of the image lent with terminal i; 1 where there is none.
+#[tactic(auto, unfolding(crate::specs::Part::image_bit))]
 pub fn image_bit(images: &[u8], i: usize, sent: u16) -> bool
     ensures { result ≡ image_bit images.now i sent }
 {
@@ -32,6 +33,7 @@ pub fn image_bit(images: &[u8], i: usize, sent: u16) -> bool
 }
 
 // Takes terminal i through the E that has come and adds it to the tally: outside F7 it sends 1.
+#[tactic(auto, using(crate::proofs::Images::image_at), unfolding(crate::specs::Part::taken, crate::specs::Part::terminal_after_e, crate::specs::Part::tally_with, crate::specs::Part::completed_class, bus_rules::specs::Exchange::station_after_e, bus_rules::specs::Exchange::d_of, bus_rules::specs::Exchange::access_step_of))]
 pub fn one_part(terminal: Terminal, images: &[u8], i: usize, tally: Tally) -> Part
     ensures { result ≡ taken images.now i tally terminal }
 {

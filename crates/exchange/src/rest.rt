@@ -14,11 +14,11 @@ pub struct Rest {
 }
 
 // Tests whether an E of 1 changes nothing in a terminal, which then sends 1 as its D.
+#[tactic(auto, using(test_lemmas::proofs::Operators::not_or), unfolding(crate::specs::Rest::part_rests))]
 pub fn part_rests(terminal: Terminal) -> bool
     ensures { result ≡ part_rests true terminal }
 {
-    let access = terminal.access;
-    (terminal.state != F7) | access.at_rest()
+    (terminal.state != F7) | terminal.access.at_rest()
 }
 
 impl Rest {
@@ -45,15 +45,9 @@ impl Rest {
 }
 
 // Looks at all terminals.
+#[tactic(auto, using(crate::proofs::Gathered::rest_gathered))]
 pub fn rest_of(terminals: &[Terminal]) -> Rest
     ensures { result ≡ rest_of terminals.now }
 {
-    let mut rest = Rest::start();
-    let mut i: usize = 0;
-    while i < terminals.len() {
-        let t = terminals[i];
-        rest = rest.also(t);
-        i += 1;
-    }
-    rest
+    terminals.iter().copied().fold(Rest::start(), Rest::also)
 }

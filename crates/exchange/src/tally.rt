@@ -12,7 +12,7 @@ use packing::bits::shifted;
 use table_6_2::info_sent;
 
 // The letters of a hit at the four coming E; the keep letter where there is no hit.
-#[derive(Clone, Copy)]
+#[derive(Clone, Copy, PartialEq, Eq, Debug)]
 pub struct Letters {
     pub first: u8,
     pub second: u8,
@@ -20,7 +20,17 @@ pub struct Letters {
     pub fourth: u8,
 }
 
-#[derive(Clone, Copy)]
+impl Letters {
+    // The letters where there is no hit.
+    pub const KEEP: Letters = Letters {
+        first: KEEP_LETTER,
+        second: KEEP_LETTER,
+        third: KEEP_LETTER,
+        fourth: KEEP_LETTER,
+    };
+}
+
+#[derive(Clone, Copy, PartialEq, Eq, Debug)]
 pub struct Tally {
     pub letters: Letters,
     // The last four D heard.
@@ -44,6 +54,7 @@ pub struct Tally {
 }
 
 // Gives the E that a network end in `state` sends, where `d` is the last D heard.
+#[tactic(auto, using(crate::proofs::Images::not_cond), unfolding(bus_rules::specs::Quick::sent_e))]
 fn sent_e(state: u8, d: bool) -> bool
     ensures { result ≡ sent_e state d }
 {
@@ -68,15 +79,9 @@ impl Tally {
     pub fn first(state: u8, letters: Letters, echo: bool) -> Self
         ensures { result ≡ spec.first_tally state letters echo }
     {
-        let ds = Four {
-            first: true,
-            second: true,
-            third: true,
-            fourth: true,
-        };
         Tally {
             letters,
-            ds,
+            ds: Four::all(true),
             state,
             place: 0,
             done1: 0,
@@ -90,51 +95,40 @@ impl Tally {
     }
 
     // Begins an opportunity: its E has come, and no terminal has been added yet.
+    #[tactic(auto, unfolding(crate::specs::Tally::begun))]
     pub fn begun(self) -> Self
         ensures { result ≡ spec.begun self }
     {
-        let letters = self.letters;
-        let ds = self.ds;
         Tally {
-            letters,
-            ds,
-            state: self.state,
-            place: self.place,
-            done1: self.done1,
-            done2: self.done2,
-            echo: self.echo,
-            e: struck_bit(letters.first, sent_e(self.state, self.echo)),
+            e: struck_bit(self.letters.first, sent_e(self.state, self.echo)),
             d: true,
             info1: false,
             info3: false,
+            ..self
         }
     }
 
     // Adds one terminal: its state, its D, and the class of the frame that it has completed at this
     // E, 0 for none. The octets turn by one bit at each terminal: after eight, bit i is
     // terminal i + 1's again.
+    // Kept: what may not change: `also` takes any number as a state and as a class.
+    #[tactic(auto, unfolding(crate::specs::Tally::also))]
     pub fn also(self, state: u8, d: bool, done: u8) -> Self
         ensures { result ≡ spec.also state d done self }
     {
-        let letters = self.letters;
-        let ds = self.ds;
         let info = info_sent(state);
         Tally {
-            letters,
-            ds,
-            state: self.state,
-            place: self.place,
             done1: shifted(self.done1, (self.done1 % 2 == 1) | (done == 1)),
             done2: shifted(self.done2, (self.done2 % 2 == 1) | (done == 2)),
-            echo: self.echo,
-            e: self.e,
             d: self.d & d,
             info1: self.info1 | (info == 1),
             info3: self.info3 | (info == 3),
+            ..self
         }
     }
 
     // Gives the D that the network end hears: INFO 1 inverts that of the second opportunity, D25.
+    #[tactic(auto, using(crate::proofs::Images::xor_cond), unfolding(crate::specs::Tally::d_heard))]
     fn d_heard(self) -> bool
         ensures { result ≡ spec.d_heard self }
     {
@@ -142,6 +136,7 @@ impl Tally {
     }
 
     // Ends an opportunity: all terminals have been added.
+    #[tactic(auto, unfolding(crate::specs::Tally::ended))]
     pub fn ended(self) -> Self
         ensures { result ≡ spec.ended self }
     {
@@ -162,36 +157,20 @@ impl Tally {
         Tally {
             letters,
             ds,
-            state: self.state,
             place,
-            done1: self.done1,
-            done2: self.done2,
             echo,
-            e: self.e,
-            d: self.d,
-            info1: self.info1,
-            info3: self.info3,
+            ..self
         }
     }
 
     // Tests whether the four opportunities must be run one by one: one has been run already, or
     // some E is 0, be it for the last D heard, the network end's state or a hit.
+    #[tactic(auto, using(crate::proofs::First::by_fields), unfolding(crate::specs::Rest::may_rest, crate::specs::Rest::ones_sent))]
     pub fn must_exchange(self) -> bool
         ensures { result ≡ not (rest.may_rest self) }
     {
-        let ds = self.ds;
         let letters = self.letters;
-        let first = ds.first
-            & ds.second
-            & ds.third
-            & ds.fourth
-            & (self.place == 0)
-            & (self.done1 == 0)
-            & (self.done2 == 0)
-            & self.e
-            & self.d
-            & !self.info1
-            & !self.info3;
+        let first = self == Tally::first(self.state, letters, self.echo);
         let e = sent_e(self.state, true);
         let ones = struck_bit(letters.first, sent_e(self.state, self.echo))
             & struck_bit(letters.second, e)
@@ -205,30 +184,11 @@ impl Tally {
     pub fn rested(self, info3: bool) -> Self
         ensures { result ≡ rest.rest_tally self.state self.letters false info3 }
     {
-        let letters = Letters {
-            first: KEEP_LETTER,
-            second: KEEP_LETTER,
-            third: KEEP_LETTER,
-            fourth: KEEP_LETTER,
-        };
-        let ds = Four {
-            first: true,
-            second: true,
-            third: true,
-            fourth: true,
-        };
+        let e = struck_bit(self.letters.fourth, sent_e(self.state, true));
         Tally {
-            letters,
-            ds,
-            state: self.state,
-            place: 0,
-            done1: 0,
-            done2: 0,
-            echo: true,
-            e: struck_bit(self.letters.fourth, sent_e(self.state, true)),
-            d: true,
-            info1: false,
+            e,
             info3,
+            ..Tally::first(self.state, Letters::KEEP, true)
         }
     }
 }

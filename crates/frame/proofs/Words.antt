@@ -15,12 +15,13 @@ use Rattle.frame.specs.Word.{top_bits}
 use Rattle.frame.specs.declared.fields.DownFields.{DownFields}
 use Rattle.frame.specs.declared.fields.UpFields.{UpFields}
 use Rattle.test_lemmas.proofs.ByCases.{by_test}
-use Rattle.frame.proofs.Bits.{number_append, number_last, octet_number, ones_zeros, top_bits_lem}
+use Rattle.frame.proofs.Bits.{number_append, number_last, octet_number, ones_zeros, top_bits_lem, byte_bit}
+use Rattle.std.specs.Int.{from_bool}
 
 -- An octet and three bits.
-pub part_number : (x : ℕ) (a b c : Bool) → x < 256 → number_high_first (octet_bits x ++ (a ∷ b ∷ c ∷ [])) ≡ x * 8 + bit a * 4 + bit b * 2 + bit c
+pub part_number : (x : ℕ) (a b c : Bool) → x < 256 → x * 8 + from_bool a * 4 + from_bool b * 2 + from_bool c ≡ number_high_first (octet_bits x ++ (a ∷ b ∷ c ∷ []))
 unfolding number_high_first
-part_number x a b c h = omega (arith, number_append (octet_bits x) (a ∷ b ∷ c ∷ []), octet_number x h)
+part_number x a b c h = omega (arith, number_append (octet_bits x) (a ∷ b ∷ c ∷ []), octet_number x h, byte_bit a, byte_bit b, byte_bit c)
 
 -- Whether a count is even, from the count of the rest.
 even_of_even : (o z : ℕ) → o + z ≡ 8 → eqb (o % 2) 0 ≡ eqb (z % 2) 0
@@ -69,7 +70,7 @@ zeros_last [] = refl
 zeros_last (x ∷ xs) = omega (arith, zeros_last xs)
 
 -- The downward frame: N is the inverse of FA, and L is added to the number whose last bit is 0.
-pair_number : (fa : Bool) → 1 + bit fa ≡ number_high_first (fa ∷ not fa ∷ [])
+pair_number : (fa : Bool) → 1 + from_bool fa ≡ number_high_first (fa ∷ not fa ∷ [])
 unfolding number_high_first
 pair_number true = refl
 pair_number false = refl
@@ -91,7 +92,7 @@ down_last f n e =
 
 pub down_bits_lem : (f : DownFields) (n first pair second third fourth : ℕ)
     → first ≡ number_high_first (octet_bits f.b1first ++ (f.e.first ∷ f.d.first ∷ f.a ∷ []))
-    → pair ≡ 1 + bit f.fa
+    → pair ≡ 1 + from_bool f.fa
     → second ≡ number_high_first (octet_bits f.b2first ++ (f.e.second ∷ f.d.second ∷ f.m ∷ []))
     → third ≡ number_high_first (octet_bits f.b1second ++ (f.e.third ∷ f.d.third ∷ f.s ∷ []))
     → fourth ≡ number_high_first (octet_bits f.b2second ++ (f.e.fourth ∷ f.d.fourth ∷ false ∷ []))
@@ -109,14 +110,14 @@ down_bits_lem f n first pair second third fourth h q k l m e =
     down_last f n sum
 
 -- The upward frame: FA and its L are alike.
-alike_number : (fa : Bool) → 3 * bit fa ≡ number_high_first (single fa)
+alike_number : (fa : Bool) → 3 * from_bool fa ≡ number_high_first (single fa)
 unfolding number_high_first zeros
 alike_number true = refl
 alike_number false = refl
 
 pub up_bits_lem : (f : UpFields) (n first pair second third fourth : ℕ)
     → first ≡ number_high_first (balanced (octet_bits f.b1first) ++ single f.d.first)
-    → pair ≡ 3 * bit f.fa
+    → pair ≡ 3 * from_bool f.fa
     → second ≡ number_high_first (balanced (octet_bits f.b2first) ++ single f.d.second)
     → third ≡ number_high_first (balanced (octet_bits f.b1second) ++ single f.d.third)
     → fourth ≡ number_high_first (balanced (octet_bits f.b2second) ++ single f.d.fourth)

@@ -2,5 +2,4 @@
 // symbol level.
 #![tactic(auto)]
 
-pub mod answers;
 pub mod read;

@@ -7,61 +7,28 @@ use super::heard::{Downward, Upward};
 use frame_reader::read::a_bit;
 use framed::{framed_down, framed_up, has_pulse};
 use info::info::is_info1;
-use symbols::TestAnswer;
+use refusals::Refusal;
 
-// What a downward line shows, or the number of the refusal.
-#[derive(Clone, Copy)]
-pub enum SensedDown {
-    Line(Downward),
-    Refused(u8),
-}
-
-// The same for an upward line.
-#[derive(Clone, Copy)]
-pub enum SensedUp {
-    Line(Upward),
-    Refused(u8),
-}
-
-// Works out what a downward line shows, or refuses with 2 what is no line.
+// Works out what a downward line shows, or refuses what is no line.
 #[tactic(auto, unfolding(crate::specs::Calls::sensed_down, crate::specs::Sensing::shown_down))]
-pub fn sense_down(line: &[u8]) -> SensedDown
+pub fn sense_down(line: &[u8]) -> Result<Downward, Refusal>
     ensures { result ≡ calls.sensed_down line.now }
 {
-    let pulse = has_pulse(line);
-    if let TestAnswer::Refused(k) = pulse {
-        return SensedDown::Refused(k);
-    }
-    SensedDown::Line(Downward {
-        pulse: is_yes(pulse),
-        framed: is_yes(framed_down(line)),
-        a: is_yes(a_bit(line)),
+    Ok(Downward {
+        pulse: has_pulse(line)?,
+        framed: framed_down(line)?,
+        a: a_bit(line)?,
     })
 }
 
-// Works out what an upward line shows, or refuses with 2 what is no line.
+// Works out what an upward line shows, or refuses what is no line.
 #[tactic(auto, unfolding(crate::specs::Calls::sensed_up, crate::specs::Sensing::shown_up))]
-pub fn sense_up(line: &[u8]) -> SensedUp
+pub fn sense_up(line: &[u8]) -> Result<Upward, Refusal>
     ensures { result ≡ calls.sensed_up line.now }
 {
-    let pulse = has_pulse(line);
-    if let TestAnswer::Refused(k) = pulse {
-        return SensedUp::Refused(k);
-    }
-    SensedUp::Line(Upward {
-        pulse: is_yes(pulse),
-        framed: is_yes(framed_up(line)),
-        info1: is_yes(is_info1(line)),
+    Ok(Upward {
+        pulse: has_pulse(line)?,
+        framed: framed_up(line)?,
+        info1: is_info1(line)?,
     })
-}
-
-// Tests whether an answer is yes.
-fn is_yes(answer: TestAnswer) -> bool
-    ensures { result ≡ calls.is_yes answer }
-{
-    match answer {
-        TestAnswer::Yes => true,
-        TestAnswer::No => false,
-        TestAnswer::Refused(_) => false,
-    }
 }

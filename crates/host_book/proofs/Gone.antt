@@ -22,7 +22,10 @@ use Rattle.report.specs.Ahead.{BookState, ReadyState, Stopped}
 use Rattle.report.proofs.Order.{order_done}
 use Rattle.report.proofs.Driving.{state_stays_ready}
 use Rattle.book_go_on.specs.Progress.{book_state_of, reason}
+use Rattle.std.specs.Prelude.{Result, Ok, IsOk}
+use Rattle.refusals.specs.declared.Refusal.{Refusal}
 use Rattle.book_go_on.specs.GoOn.{GoesOn}
+use Rattle.book_go_on.proofs.Going.{gone_on_call}
 use Rattle.book_go_on.specs.declared.progress.Progress.{Progress}
 use Rattle.book_go_on.specs.declared.progress.GoneOn.{GoneOn}
 use Rattle.bus_octets.specs.Layout.{record_octets, terminals_octets, head_octets, bus_octets, record_in, terminals_in, letters_read, octets_of, shown, images_at, bus_length}
@@ -133,17 +136,25 @@ module _ (b : List ℕ) (h : is_book b ≡ true) where
         rw over (laid_behind (bus_octets stand.kept) (drop bus_length b) _ bus_length bus-long' (rw (length-drop bus_length b, long)))
 
   -- ---- All of it.
-  pub gone : (text report : List ℕ) (whole : Bool) (w : GoneOn) (progress : Progress) (images letters octets images' letters' octets' report' b' : List ℕ)
+  -- it is not refused
+  pub taken_on : (text report : List ℕ) (whole : Bool) (said : Result GoneOn Refusal) (progress : Progress) (images letters octets images' letters' octets' report' : List ℕ)
       → progress ≡ progress_in b → images ≡ take images_room (drop images_at b) → letters ≡ letters_read s → octets ≡ octets_of s
-      → GoesOn progress images octets letters text report whole w images' octets' letters' report'
+      → GoesOn progress images octets letters text report whole said images' octets' letters' report' → IsOk said
+  unfolding book_state_in progress_in shown reason
+  taken_on text report whole said progress images letters octets images' letters' octets' report' pi ii li oi g =
+      let e : book_state_of progress images octets letters ≡ book_state_in b = rw (pi, ii, images_are, li, letters_are, oi, octets_are, record_is, terminals_are) in
+      let k = gone_on_call said (g.replies ∙ (ap reason e ∙ ready)) in rw k.1
+
+  pub gone : (text report : List ℕ) (whole : Bool) (said : Result GoneOn Refusal) (w : GoneOn) (progress : Progress) (images letters octets images' letters' octets' report' b' : List ℕ)
+      → progress ≡ progress_in b → images ≡ take images_room (drop images_at b) → letters ≡ letters_read s → octets ≡ octets_of s
+      → GoesOn progress images octets letters text report whole said images' octets' letters' report' → said ≡ Ok w
       → b' ≡ progress_laid w.progress letters' octets' (take images_at b ++ (images' ++ drop images_room (drop images_at b)))
       → Goes b text report whole w b' report'
   unfolding book_state_in progress_in shown reason
-  gone text report whole w progress images letters octets images' letters' octets' report' b' pi ii li oi g bi =
+  gone text report whole said w progress images letters octets images' letters' octets' report' b' pi ii li oi g is bi =
       let e : book_state_of progress images octets letters ≡ book_state_in b = rw (pi, ii, images_are, li, letters_are, oi, octets_are, record_is, terminals_are) in
-      let z : w.reply ≡ 0 = g.replies ∙ (ap reason e ∙ ready) in
       let left : BookState = book_state_of w.progress images' octets' letters' in
-      let stop : Stopped (book_state_in b) text report whole left w.taken w.wrote w.why report' = rw e at (g.stops z) in
+      let stop : Stopped (book_state_in b) text report whole left w.taken w.wrote w.why report' = rw e at (g.stops w is) in
       let sound : ReadyState left = state_stays_ready (book_state_in b) left text report report' whole w.taken w.wrote w.why stop ready in
       let octets_long : length octets' ≡ longest_body =
       ap (λ (x : Kept). length x.octets) stop.went.left ∙ (octets_done k stop.went.made order ∙ (exact s (tested b h).bus).octets_fit) in

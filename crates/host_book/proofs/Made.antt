@@ -41,7 +41,7 @@ module _ (b text report went : List ℕ) (whole : Bool) (r : ℕ) (e : r ≡ goi
       record {
         replies = e;
         refused = λ _. (refl, refl, refl);
-        how_far = record { progress = fresh_progress; taken = 0; wrote = 0; why = 0; reply = 0 };
+        how_far = record { progress = fresh_progress; taken = 0; wrote = 0; why = 0 };
         goes = λ z. absurd (n z);
         says = λ z. absurd (n z);
       }

@@ -1,5 +1,6 @@
 // Going on with a book that is lent as octets.
 ghost use Rattle.std.specs.Prelude.{true, not, ◌≡◌, eqb};
+ghost use Rattle.refusals.specs.Numbers.{reply_of};
 ghost use Rattle.note_text.specs.Room.{laid};
 ghost use Rattle.host_book.specs.Octets.{is_book, progress_in, progress_laid};
 ghost use Rattle.host_book.specs.Going.{going_reason, gone_on_octets, Goes, HostGoesOn};
@@ -13,11 +14,13 @@ use bus_octets::numbers::{flag_at, octet_at};
 use bus_octets::shown::{letters_in, octets_in, record_in, terminals_in};
 use note_text::low::put_double;
 use note_text::room::put;
+use refusals::{Refusal, reply};
 
 // The octets that say how far a call went.
 const WENT: usize = 17;
 
 // Reads how far a book has come.
+#[tactic(auto, unfolding(crate::specs::Octets::progress_in))]
 fn progress_in(book: &[u8]) -> Progress
     ensures { result ≡ progress_in book.now }
 {
@@ -33,6 +36,7 @@ fn progress_in(book: &[u8]) -> Progress
 }
 
 // Writes how far a book has come over its octets, but for the images.
+#[tactic(auto, unfolding(crate::specs::Octets::progress_laid))]
 fn lay_progress(book: &mut [u8], p: Progress, letters: &[u8], octets: &[u8])
     ensures { book.new ≡ progress_laid p letters.now octets.now book.old }
 {
@@ -42,7 +46,7 @@ fn lay_progress(book: &mut [u8], p: Progress, letters: &[u8], octets: &[u8])
     put(book, STAGE_AT, &[p.stage, p.begun as u8, p.over as u8]);
 }
 
-// Goes on with a book.
+// Goes on with a book: what is a book is not refused.
 fn go(book: &mut [u8], text: &[u8], report: &mut [u8], whole: bool) -> GoneOn
     requires { is_book book.old ≡ true }
     ensures { Goes book.old text.now report.old whole result book.new report.new }
@@ -59,7 +63,8 @@ fn go(book: &mut [u8], text: &[u8], report: &mut [u8], whole: bool) -> GoneOn
         text,
         report,
         whole,
-    );
+    )
+    .unwrap();
     let after = w.progress;
     lay_progress(book, after, &letters, &octets);
     w
@@ -73,16 +78,35 @@ fn put_gone_on(went: &mut [u8], taken: usize, wrote: usize, why: u8)
     put(went, both_put, &[why]);
 }
 
-// Gives 1 where the octets lent are no book, 2 where there is no room to say how far the call went,
-// else 0.
-fn going_reason(book: &[u8], went: usize) -> u32
-    ensures { result ≡ going_reason book.now went }
+// Tests whether the octets lent are a book, and there is room to say how far the call went.
+#[tactic(auto, unfolding(crate::specs::Going::going_reason))]
+fn going_reason(book: &[u8], went: usize) -> Result<(), Refusal>
+    ensures { reply_of result ≡ going_reason book.now went }
 {
-    if is_book(book) {
-        if went < WENT { 2 } else { 0 }
-    } else {
-        1
+    if !is_book(book) {
+        return Err(Refusal::OutOfRange);
     }
+    if went < WENT {
+        return Err(Refusal::WrongSlice);
+    }
+    Ok(())
+}
+
+// Goes on with a book, and puts how far the call went.
+fn go_on_lent(
+    book: &mut [u8],
+    text: &[u8],
+    whole: bool,
+    report: &mut [u8],
+    went: &mut [u8],
+) -> Result<(), Refusal>
+    ensures { HostGoesOn book.old text.now report.old went.old whole
+        (reply_of result) book.new report.new went.new }
+{
+    going_reason(book, went.len())?;
+    let w = go(book, text, report, whole);
+    put_gone_on(went, w.taken, w.wrote, w.why);
+    Ok(())
 }
 
 // Goes on with a book in lent text, its report in lent room, until it needs more text or room, or
@@ -97,11 +121,5 @@ pub fn sbus_book_go_on(
     ensures { HostGoesOn book.old text.now report.old went.old (not (eqb whole 0))
         result book.new report.new went.new }
 {
-    let reason = going_reason(book, went.len());
-    if reason != 0 {
-        return reason;
-    }
-    let w = go(book, text, report, whole != 0);
-    put_gone_on(went, w.taken, w.wrote, w.why);
-    0
+    reply(go_on_lent(book, text, whole != 0, report, went))
 }

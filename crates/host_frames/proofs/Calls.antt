@@ -1,46 +1,34 @@
 -- What the calls answer and leave, from what their tests say.
-use mathlib.Core.Path.{◌≡◌, refl, sym, ◌∙◌}
-use mathlib.Core.Bool.{Bool, true, false, ◌&&◌}
+use mathlib.Core.Path.{◌≡◌, ◌∙◌}
+use mathlib.Core.Bool.{Bool, true, false, cond, ◌&&◌}
 use mathlib.Core.List.{List}
 use Prim.Native.Nat.{ℕ, ◌+◌, ◌-◌}
 use native.Mathlib.Omega.{arith}
-use borrow.Author.Tests.{eqb-true, eqb-false, eq-eqb, ne_eqb}
+use borrow.Author.Tests.{eq-eqb, ne_eqb}
 use lib.Dec.{eqb}
 use lib.ListN.{length, take, drop, length-take, length-drop}
 use lib.Seq.{take_all}
-use Rattle.test_lemmas.proofs.ByCases.{by_test, clash}
+use Rattle.test_lemmas.proofs.ByCases.{by_test}
 use Rattle.symbols.specs.Symbols.{within, fits}
-use Rattle.symbols.specs.Calls.{has_line_length, reply, leaves}
+use Rattle.symbols.specs.Calls.{has_line_length, reply}
 use Rattle.frame.specs.Down.{down_line}
 use Rattle.frame.specs.Up.{up_line}
 use Rattle.frame.specs.declared.fields.DownFields.{DownFields}
 use Rattle.frame_reader.specs.Read.{down_read, up_read}
-use Rattle.frame_reader.specs.declared.answers.ReadDown.{ReadDown}
-use Rattle.frame_reader.specs.declared.answers.ReadUp.{ReadUp}
+use Rattle.frame.specs.declared.fields.UpFields.{UpFields}
+use Rattle.std.specs.Prelude.{Result}
+use Rattle.refusals.specs.declared.Refusal.{Refusal}
 use Rattle.host_frames.specs.Octets.{fields_length, down_from, up_part, is_down}
-use Rattle.host_frames.specs.Calls.{Outcome, reply_of, left_of, as_down_read, read_as, octets_read, frame_read, accepts, line_from, frame_written}
-
--- A call replies r and leaves last where it is lent some octets.
-abbrev pub Does : Outcome → List ℕ → ℕ → List ℕ → Type 0
-Does o lent r last = (r ≡ reply_of o) × (last ≡ left_of o lent)
+use Rattle.refusals.specs.Numbers.{reply_of as number_of}
+use Rattle.host_frames.specs.Calls.{wrote, refused, reply_of, as_down_read, read_as, accepts, frame_written}
 
 -- ---- Reading.
 module _ (up : ℕ) (l : List ℕ) where
-  pub read_downward : {r : ReadDown} → up ≡ 0 → r ≡ down_read l → r ≡ read_as up l
+  pub read_downward : {r : Result DownFields Refusal} → up ≡ 0 → r ≡ down_read l → r ≡ read_as up l
   read_downward h e = rw h e
 
-  pub read_upward : {r : ReadUp} (s : ReadUp) → (up ≡ 0 → ⊥) → r ≡ up_read l → r ≡ s → as_down_read s ≡ read_as up l
-  read_upward s h e k = rw (ne_eqb up 0 h, ← e, k)
-
-  module _ (lent : List ℕ) where
-    pub read_unlent : (length lent ≡ fields_length → ⊥) → Does (frame_read up l lent) lent 2 lent
-    unfolding frame_read
-    read_unlent h = let e = ne_eqb (length lent) fields_length h in (rw e, rw e)
-
-    pub read_does : {r : ReadDown} (s : ReadDown) {last : List ℕ} → length lent ≡ fields_length → r ≡ read_as up l → r ≡ s
-        → last ≡ left_of (octets_read s) lent → Does (frame_read up l lent) lent (reply_of (octets_read s)) last
-    unfolding frame_read
-    read_does s h e k q = rw (eq-eqb (length lent) fields_length h, ← e, k) (refl, q)
+  pub read_upward : (r : Result UpFields Refusal) → (up ≡ 0 → ⊥) → r ≡ up_read l → as_down_read r ≡ read_as up l
+  read_upward r h e = rw (ne_eqb up 0 h, ← e)
 
 -- ---- Writing.
 -- The length of a part of octets is right: the test of the part is that of its codes.
@@ -74,29 +62,20 @@ module _ (up : ℕ) (fs : List ℕ) where
         → (d && (u && v)) ≡ accepts up fs
     accepts_upward h k l = rw (ne_eqb up 0 h, down_is, k, l, echoes_fit, part_fits 14 2 0 fs long)
 
-  pub accepts_length : accepts up fs ≡ true → length fs ≡ fields_length
-  unfolding is_down
-  accepts_length e =
-      by_test (eqb (length fs) fields_length) (λ t. eqb-true (length fs) fields_length t)
-      (λ t. clash (accepts up fs) e (sym (accepts_none (eqb-false (length fs) fields_length t))))
-
-  -- the line that is written
-  pub line_downward : {f : DownFields} → up ≡ 0 → f ≡ down_from fs → down_line f ≡ line_from up fs
-  line_downward h e = rw (h, e)
-
-  pub line_upward : {f : DownFields} → (up ≡ 0 → ⊥) → f ≡ down_from fs → up_line (up_part f) ≡ line_from up fs
-  line_upward h e = rw (ne_eqb up 0 h, e)
-
-  -- what the frame's writer replies and leaves is what the call does
+  -- the line that is written, by the frame's writer
   module _ (lent : List ℕ) where
-    pub written_refused : accepts up fs ≡ false → Does (frame_written up fs lent) lent 2 lent
+    pub written_refused : accepts up fs ≡ false → frame_written up fs lent ≡ refused 2
     unfolding frame_written
-    written_refused h = (rw h, rw h)
+    written_refused h = rw h
 
-    pub written_does : {r : ℕ} {line last : List ℕ} → accepts up fs ≡ true → line ≡ line_from up fs
-        → (r ≡ reply (has_line_length lent)) × (last ≡ leaves (has_line_length lent) line lent)
-        → Does (frame_written up fs lent) lent r last
+    pub written_downward : accepts up fs ≡ true → up ≡ 0 → frame_written up fs lent ≡ cond (has_line_length lent) (wrote (down_line (down_from fs))) (refused 2)
     unfolding frame_written
-    written_does h e w =
-        by_test (has_line_length lent) (λ t. (rw (h, t) (rw t at w.0), rw (h, t, ← e) (rw t at w.1)))
-        (λ t. (rw (h, t) (rw t at w.0), rw (h, t) (rw t at w.1)))
+    written_downward h z = rw (h, z)
+
+    pub written_upward : accepts up fs ≡ true → (up ≡ 0 → ⊥) → frame_written up fs lent ≡ cond (has_line_length lent) (wrote (up_line (up_part (down_from fs)))) (refused 2)
+    unfolding frame_written
+    written_upward h z = rw (h, ne_eqb up 0 z)
+
+-- what the writer replies is what the call does
+pub reply_written : (line lent : List ℕ) → number_of (reply (has_line_length lent)) ≡ reply_of (cond (has_line_length lent) (wrote line) (refused 2))
+reply_written line lent = by_test (has_line_length lent) (λ t. rw t) (λ t. rw t)

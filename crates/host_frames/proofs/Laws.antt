@@ -12,8 +12,10 @@ use Rattle.symbols.specs.Symbols.{line_length, is_line, same_symbols}
 use Rattle.frame.specs.Down.{down_line, down_fields_of}
 use Rattle.frame.specs.Up.{up_line, up_fields_of}
 use Rattle.frame_reader.specs.Read.{read_by, down_read, up_read}
-use Rattle.frame_reader.specs.declared.answers.ReadDown.{ReadDown}
-use Rattle.frame_reader.specs.declared.answers.ReadUp.{ReadUp}
+use Rattle.std.specs.Prelude.{Result, Ok, Err}
+use Rattle.refusals.specs.declared.Refusal.{Refusal}
+use Rattle.refusals.specs.Numbers.{number}
+use Rattle.refusals.specs.declared.Refusal.TheVariants.{WrongSlice, NoFrame}
 use Rattle.frame_reader.proofs.Laws as reader
 use Rattle.host_frames.specs.Octets.{fields_length, down_octets, down_from, up_octets, up_from}
 use Rattle.host_frames.specs.Calls.{Outcome, wrote, refused, reply_of, left_of, as_down_read, octets_read, frame_read, accepts, line_from, frame_written}
@@ -49,14 +51,13 @@ pub write_then_read : Laws.WriteThenRead
 write_then_read up fs symbols fields small e h k = let w = written up fs symbols e h in (rw w, rw w (read_back up fs fields small e k))
 
 -- A reading that replies 0 gives the fields taken from the line.
-module _ {F R : Type 0} (write : F → List ℕ) (taken : List ℕ → F) (fields : F → R) (refused : ℕ → R)
-    (reply : R → ℕ) (number : (n : ℕ) → reply (refused n) ≡ n) where
-  zero_read : (l : List ℕ) → reply (read_by write taken fields refused l) ≡ 0 → read_by write taken fields refused l ≡ fields (taken l)
+module _ {F : Type 0} (write : F → List ℕ) (taken : List ℕ → F) (reply : Result F Refusal → ℕ) (numbered : (r : Refusal) → reply (Err r) ≡ number r) where
+  zero_read : (l : List ℕ) → reply (read_by write taken l) ≡ 0 → read_by write taken l ≡ Ok (taken l)
   unfolding read_by
   zero_read l z =
       by_test (is_line l)
-      (λ h. by_test (same_symbols l (write (taken l))) (λ s. rw (h, s)) (λ s. absurd (omega (arith, rw (h, s) at z, number 10))))
-      (λ h. absurd (omega (arith, rw h at z, number 2)))
+      (λ h. by_test (same_symbols l (write (taken l))) (λ s. rw (h, s)) (λ s. absurd (omega (arith, rw (h, s) at z, numbered NoFrame))))
+      (λ h. absurd (omega (arith, rw h at z, numbered WrongSlice)))
 
 pub read_then_write : Laws.ReadThenWrite
 unfolding frame_read
@@ -68,13 +69,13 @@ read_then_write up l fields symbols z h =
     downward : eqb up 0 ≡ true → reply_of (octets_read (down_read l)) ≡ 0 → frame_written up (left_of (octets_read (down_read l)) fields) symbols ≡ wrote l
     downward t zero =
         let f = down_fields_of l in
-        let read = zero_read down_line down_fields_of ReadDown.Fields ReadDown.Refused (λ r. reply_of (octets_read r)) (λ n. refl) l zero in
+        let read = zero_read down_line down_fields_of (λ r. reply_of (octets_read r)) (λ r. refl) l zero in
         rw read (written up (down_octets f) symbols (rw t (down_taken f)) h ∙ rw (t, down_back f) (ap wrote (sym (reader.exact_down l f read).1)))
 
     upward : eqb up 0 ≡ false → reply_of (octets_read (as_down_read (up_read l))) ≡ 0 → frame_written up (left_of (octets_read (as_down_read (up_read l))) fields) symbols ≡ wrote l
     upward t zero =
         let f = up_fields_of l in
-        let read = zero_read up_line up_fields_of ReadUp.Fields ReadUp.Refused (λ r. reply_of (octets_read (as_down_read r))) (λ n. refl) l zero in
+        let read = zero_read up_line up_fields_of (λ r. reply_of (octets_read (as_down_read r))) (λ r. refl) l zero in
         rw read (written up (up_octets f) symbols (rw t (up_taken f)) h ∙ rw (t, up_back f) (ap wrote (sym (reader.exact_up l f read).1)))
 
 -- A call that does not reply 0 leaves what it was lent.

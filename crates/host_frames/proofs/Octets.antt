@@ -1,67 +1,20 @@
--- The fields' octets: what stands at each place, and the loop that copies them.
-use mathlib.Core.Path.{◌≡◌, refl, sym, ap, ◌∙◌}
+-- The fields' octets: what stands at each place.
+use mathlib.Core.Path.{◌≡◌, refl, sym, ap}
 use mathlib.Core.Bool.{Bool, true, false, ◌&&◌}
 use mathlib.Core.List.{List, [], ◌∷◌}
 use Prim.Native.Nat.{ℕ, zero, suc, ◌+◌, ◌≤◌, ◌<◌}
-use native.Mathlib.Numerals.{add-one}
 use native.Mathlib.Omega.{arith}
-use mir.Val.{bool_byte}
 use borrow.Author.Tests.{eqb-true, eqb-false, leb-true}
 use lib.Dec.{eqb, leb}
-use lib.ListN.{length, take, drop, get_or, set, length-set}
-use lib.Seq.{get_or-drop, get_or-take, take-suc, take-suc-set, take_all}
+use lib.ListN.{length, take, drop, get_or}
+use lib.Seq.{get_or-drop, get_or-take}
 use Rattle.test_lemmas.proofs.ByCases.{by_test, both, and_left, and_right}
 use Rattle.symbols.specs.Symbols.{within, tabulate}
 use Rattle.symbols.proofs.Fill.{tabulate_is}
 use Rattle.frame.specs.Bits.{bit}
-use Rattle.frame.proofs.Bits.{byte_bit}
 use Rattle.frame.specs.declared.fields.DownFields.{DownFields}
 use Rattle.frame.specs.declared.fields.UpFields.{UpFields}
 use Rattle.host_frames.specs.Octets.{fields_length, down_octets, down_from, as_down, up_part, up_octets, up_from, is_down, is_up}
-
--- The octets as the code has them.
-abbrev pub code_octets : DownFields → List ℕ
-code_octets f =
-    f.b1first
-    ∷ f.b2first
-    ∷ f.b1second
-    ∷ f.b2second
-    ∷ bool_byte f.d.first
-    ∷ bool_byte f.d.second
-    ∷ bool_byte f.d.third
-    ∷ bool_byte f.d.fourth
-    ∷ bool_byte f.e.first
-    ∷ bool_byte f.e.second
-    ∷ bool_byte f.e.third
-    ∷ bool_byte f.e.fourth
-    ∷ bool_byte f.a
-    ∷ bool_byte f.fa
-    ∷ bool_byte f.m
-    ∷ bool_byte f.s
-    ∷ []
-
-pub code_octets_lem : (f : DownFields) → code_octets f ≡ down_octets f
-unfolding down_octets
-code_octets_lem f = simp byte_bit
-
--- The loop that copies: the first i of lent are those of new.
-pub record Copying (new lent : List ℕ) (i : ℕ) : Type 0 where
-  pub long : length lent ≡ length new
-  pub low : i ≤ length new
-  pub done : take i lent ≡ take i new
-
-module _ {new lent : List ℕ} {i : ℕ} (k : Copying new lent i) where
-  pub copy_next : i < length new → Copying new (set lent i (get_or new i 0)) (i + 1)
-  copy_next h =
-      let here : i < length lent = omega (arith, k.long) in
-      record {
-        long = length-set lent i (get_or new i 0) ∙ k.long;
-        low = omega arith;
-        done = rw (add-one, take-suc-set lent i (get_or new i 0) here, take-suc new i 0 h, k.done);
-      }
-
-  pub copy_done : length new ≤ i → lent ≡ new
-  copy_done h = sym (take_all i lent (omega (arith, k.long))) ∙ (k.done ∙ take_all i new h)
 
 -- A bit as an octet is 0 or 1, and comes back; an octet that is 0 or 1 is that of a bit.
 bit_most : (b : Bool) → leb (bit b) 1 ≡ true

@@ -1,14 +1,15 @@
 -- Calls: the two calls of a host that passes only numbers and octets (document 01, "The line";
 -- refusals 2 and 10). A frame is downward where the number up is 0, else upward.
--- Interface: `reply_of`, `left_of`, `read_as`, `frame_read`, `accepts`, `frame_written`. Assumes
--- nothing.
-use Rattle.std.specs.Prelude.{Bool, cond, ◌&&◌, List, ℕ, eqb, length}
+-- Interface: `reply_of`, `left_of`, `read_as`, `frame_read`, `accepts`, `frame_written`. Assumes nothing.
+use Rattle.std.specs.Prelude.{Bool, cond, ◌&&◌, List, ℕ, eqb, length, Result, Ok, Err}
+use Rattle.refusals.specs.declared.Refusal.{Refusal}
+use Rattle.refusals.specs.Numbers.{number}
 use Rattle.symbols.specs.Calls.{has_line_length}
 use Rattle.frame.specs.Down.{down_line}
 use Rattle.frame.specs.Up.{up_line}
 use Rattle.frame_reader.specs.Read.{down_read, up_read}
-use Rattle.frame_reader.specs.declared.answers.ReadDown.{ReadDown}
-use Rattle.frame_reader.specs.declared.answers.ReadUp.{ReadUp}
+use Rattle.frame.specs.declared.fields.DownFields.{DownFields}
+use Rattle.frame.specs.declared.fields.UpFields.{UpFields}
 use Rattle.host_frames.specs.Octets.{fields_length, down_octets, down_from, as_down, up_from, is_down, is_up}
 
 -- What a call comes to: it writes octets over what it is lent, or is refused.
@@ -27,18 +28,18 @@ left_of (wrote new) lent = new
 left_of (refused n) lent = lent
 
 -- What symbols are read as, an upward frame with every other bit 0.
-abbrev pub as_down_read : ReadUp → ReadDown
-as_down_read (ReadUp.Fields f) = ReadDown.Fields (as_down f)
-as_down_read (ReadUp.Refused n) = ReadDown.Refused n
+abbrev pub as_down_read : Result UpFields Refusal → Result DownFields Refusal
+as_down_read (Ok f) = Ok (as_down f)
+as_down_read (Err r) = Err r
 
-abbrev pub read_as : ℕ → List ℕ → ReadDown
+abbrev pub read_as : ℕ → List ℕ → Result DownFields Refusal
 read_as up l = cond (eqb up 0) (down_read l) (as_down_read (up_read l))
 
 -- Reading symbols l into lent octets: the octets of the fields, or the refusal; 2 for lent octets
 -- of another length.
-abbrev pub octets_read : ReadDown → Outcome
-octets_read (ReadDown.Fields f) = wrote (down_octets f)
-octets_read (ReadDown.Refused n) = refused n
+abbrev pub octets_read : Result DownFields Refusal → Outcome
+octets_read (Ok f) = wrote (down_octets f)
+octets_read (Err r) = refused (number r)
 
 unfoldable pub frame_read : ℕ → List ℕ → List ℕ → Outcome
 frame_read up l lent = cond (eqb (length lent) fields_length) (octets_read (read_as up l)) (refused 2)

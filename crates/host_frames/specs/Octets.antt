@@ -1,8 +1,8 @@
 -- Calls: the fields of a frame (document 01, "Network to terminals" and "Terminals to network") as
 -- 16 octets, with the same places in both directions: the four B octets, then bits, each an octet 0
 -- or 1.
--- Interface: `fields_length`, `down_octets`, `four_from`, `down_from`, `as_down`, `up_from`, `is_down`,
--- `is_up`. Assumes nothing.
+-- Interface: `fields_length`, `down_octets`, `four_from`, `down_from`, `as_down`, `up_from`, `up_part`,
+-- `is_down`, `is_up`. Assumes nothing.
 use Rattle.std.specs.Prelude.{Bool, false, ◌&&◌, List, [], ◌∷◌, ℕ, ◌+◌, eqb, length, take, drop, get_or}
 use Rattle.symbols.specs.Symbols.{within}
 use Rattle.frame.specs.Bits.{bit}

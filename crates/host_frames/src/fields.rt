@@ -1,7 +1,7 @@
 // The fields of a frame as 16 octets, with the same places in both directions: the four B octets;
 // then bits, each an octet 0 or 1: the four D, the four E, A, FA, M and S. Of these bits an upward
 // frame has the four D and FA: the octets of the others are 0.
-ghost use Rattle.std.specs.Prelude.{◌≡◌, ◌+◌, ◌≤◌, length};
+ghost use Rattle.std.specs.Prelude.{◌≡◌, ◌+◌, ◌≤◌};
 ghost use Rattle.host_frames.specs.Octets.{fields_length, down_octets, down_from, four_from, as_down};
 
 use frame::fields::{DownFields, Four, UpFields};
@@ -20,8 +20,8 @@ pub(crate) const FA: usize = 13;
 pub(crate) const M: usize = 14;
 
 // Gives the four bits from place `at` on.
-fn four_from(octets: &[u8], at: usize) -> Four
-    requires { at + 4 ≤ length octets.now }
+fn four_from(octets: &[u8; FIELDS], at: usize) -> Four
+    requires { at + 4 ≤ fields_length }
     ensures { result ≡ four_from at octets.now }
 {
     Four {
@@ -33,14 +33,9 @@ fn four_from(octets: &[u8], at: usize) -> Four
 }
 
 // Gives the fields that octets stand for.
-pub(crate) fn down_from(octets: &[u8]) -> DownFields
-    requires { length octets.now ≡ fields_length }
+pub(crate) fn down_from(octets: &[u8; FIELDS]) -> DownFields
     ensures { result ≡ down_from octets.now }
 {
-    let a = octets[12] == 1;
-    let fa = octets[FA] == 1;
-    let m = octets[M] == 1;
-    let s = octets[15] == 1;
     DownFields {
         b1first: octets[0],
         b2first: octets[1],
@@ -48,61 +43,49 @@ pub(crate) fn down_from(octets: &[u8]) -> DownFields
         b2second: octets[3],
         e: four_from(octets, FIRST_E),
         d: four_from(octets, FIRST_D),
-        a: a,
-        fa: fa,
-        m: m,
-        s: s,
+        a: octets[12] == 1,
+        fa: octets[FA] == 1,
+        m: octets[M] == 1,
+        s: octets[15] == 1,
     }
 }
 
-// Writes the octets of the fields f.
-pub(crate) fn put(f: DownFields, lent: &mut [u8])
-    requires { length lent.old ≡ fields_length }
-    ensures { lent.new ≡ down_octets f }
+// Gives the octets of the fields f.
+#[tactic(auto, using(frame::proofs::Bits::byte_bit), unfolding(crate::specs::Octets::down_octets))]
+pub(crate) fn down_octets(f: DownFields) -> [u8; FIELDS]
+    ensures { result ≡ down_octets f }
 {
-    let octets = [
+    [
         f.b1first,
         f.b2first,
         f.b1second,
         f.b2second,
-        f.d.first as u8,
-        f.d.second as u8,
-        f.d.third as u8,
-        f.d.fourth as u8,
-        f.e.first as u8,
-        f.e.second as u8,
-        f.e.third as u8,
-        f.e.fourth as u8,
-        f.a as u8,
-        f.fa as u8,
-        f.m as u8,
-        f.s as u8,
-    ];
-    let mut i: usize = 0;
-    while i < FIELDS {
-        lent[i] = octets[i];
-        i += 1;
-    }
+        u8::from(f.d.first),
+        u8::from(f.d.second),
+        u8::from(f.d.third),
+        u8::from(f.d.fourth),
+        u8::from(f.e.first),
+        u8::from(f.e.second),
+        u8::from(f.e.third),
+        u8::from(f.e.fourth),
+        u8::from(f.a),
+        u8::from(f.fa),
+        u8::from(f.m),
+        u8::from(f.s),
+    ]
 }
 
 // Gives the fields of an upward frame as those of a downward one, with every other bit 0.
 pub(crate) fn as_down(f: UpFields) -> DownFields
     ensures { result ≡ as_down f }
 {
-    let d = f.d;
-    let zeros = Four {
-        first: false,
-        second: false,
-        third: false,
-        fourth: false,
-    };
     DownFields {
         b1first: f.b1first,
         b2first: f.b2first,
         b1second: f.b1second,
         b2second: f.b2second,
-        e: zeros,
-        d: d,
+        e: Four::all(false),
+        d: f.d,
         a: false,
         fa: f.fa,
         m: false,

@@ -1,11 +1,11 @@
 -- How a call that steps a bus ends: turned down for what is lent, turned down by the bus, or with notes.
-use mathlib.Core.Bool.{true}
+use mathlib.Core.Bool.{true, false}
 use mathlib.Core.List.{List}
 use mathlib.Core.Path.{◌≡◌, sym, ◌∙◌}
 use Prim.Native.Nat.{ℕ, ◌≤◌}
 use native.Mathlib.Omega.{arith}
-use lib.Dec.{ltb}
-use borrow.Author.Tests.{eq-eqb, ne_eqb, ltb-false}
+use lib.Dec.{ltb, eqb}
+use borrow.Author.Tests.{ne_eqb, ltb-false}
 use Rattle.test_lemmas.proofs.ByCases.{by_test}
 use Rattle.bus_rules.specs.Bus.{Note}
 use Rattle.bus_call_specs.specs.Kept.{Kept}
@@ -18,18 +18,18 @@ module _ (s room : List ℕ) (reply : ℕ) (left : Kept) (notes : List Note) whe
   abbrev pub Answered : ℕ → List ℕ → List ℕ → Type 0
   Answered r s' room' = (r ≡ reply_with s room reply) × ((s' ≡ bus_with s room left) × (room' ≡ notes_with s room reply notes))
 
-  pub not_lent : (r : ℕ) → r ≡ reason s room → (r ≡ 0 → ⊥) → Answered r s room
+  pub not_lent : (r : ℕ) → r ≡ reason s room → eqb r 0 ≡ false → Answered r s room
   unfolding reply_with bus_with notes_with
-  not_lent r e n = let f = ne_eqb r 0 n in (rw (← e, f), (rw (← e, f), rw (← e, f, f)))
+  not_lent r e f = (rw (← e, f), (rw (← e, f), rw (← e, f, f)))
 
-  module _ (r : ℕ) (e : r ≡ reason s room) (z : r ≡ 0) where
+  module _ (e : 0 ≡ reason s room) where
     pub turned_down : (reply ≡ 0 → ⊥) → Answered reply (bus_octets left) room
     unfolding reply_with bus_with notes_with
-    turned_down n = let f = eq-eqb r 0 z in (rw (← e, f), (rw (← e, f), rw (← e, f, ne_eqb reply 0 n)))
+    turned_down n = (rw (← e), (rw (← e), rw (← e, ne_eqb reply 0 n)))
 
     pub stepped : reply ≡ 0 → Answered 0 (bus_octets left) (laid room 0 (notes_octets notes))
     unfolding reply_with bus_with notes_with
-    stepped y = let f = eq-eqb r 0 z in (rw (← e, f, y), (rw (← e, f), rw (← e, f, y)))
+    stepped y = (rw (← e, y), (rw (← e), rw (← e, y)))
 
 -- ---- What is lent is a bus, where neither 1 nor 2 holds.
 pub lent_bus : (s : List ℕ) (room needed r : ℕ) → r ≡ lent_reason s room needed → r ≡ 0 → is_bus s ≡ true

@@ -1,8 +1,9 @@
 -- How an event and a run on a bus that is lent as octets end.
-use mathlib.Core.Bool.{true}
+use mathlib.Core.Bool.{true, false}
 use mathlib.Core.List.{List}
-use mathlib.Core.Path.{◌≡◌, sym, ap, ◌∙◌}
+use mathlib.Core.Path.{◌≡◌, refl, sym, ap, ◌∙◌}
 use Prim.Native.Nat.{ℕ, ◌-◌}
+use lib.Dec.{eqb}
 use Rattle.bus_rules.specs.Bus.{notes_of}
 use Rattle.bus_rules.specs.Calls.{Call}
 use Rattle.bus_rules.specs.Calls.Call.{event, period}
@@ -26,11 +27,11 @@ module _ (s room : List ℕ) where
   abbrev Ended : Call → ℕ → List ℕ → List ℕ → Type 0
   Ended c r s' room' = (r ≡ host_reply s room c) × ((s' ≡ host_bus s room c) × (room' ≡ host_notes s room c))
 
-  pub event_not_lent : (c : Call) (r : ℕ) → r ≡ reason s room → (r ≡ 0 → ⊥) → Ended c r s room
+  pub event_not_lent : (c : Call) (r : ℕ) → r ≡ reason s room → eqb r 0 ≡ false → Ended c r s room
   unfolding host_reply host_bus host_notes
   event_not_lent c r e n = not_lent s room (replied (shown s) c) (called (shown s) c) (notes_told (shown s) c) r e n
 
-  module _ (unit n : ℕ) (value : List ℕ) (m : ℕ) (m-is : m ≡ event_number n) (r : ℕ) (e : r ≡ reason s room) (z : r ≡ 0)
+  module _ (unit n : ℕ) (value : List ℕ) (m : ℕ) (m-is : m ≡ event_number n) (e : 0 ≡ reason s room)
       (t : Told) (s' : List ℕ) (t-is : t ≡ told unit m value (shown s)) (s-is : s' ≡ bus_octets (called (shown s) (event unit m value))) where
     abbrev call : Call
     call = event unit n value
@@ -49,7 +50,7 @@ module _ (s room : List ℕ) where
     unfolding host_reply host_bus host_notes
     event_refused w w_is n' =
         rw (w_is ∙ replied_is, bus_is)
-        (turned_down s room (replied (shown s) call) (called (shown s) call) (notes_told (shown s) call) r e z (λ y. n' (replied_is ∙ y)))
+        (turned_down s room (replied (shown s) call) (called (shown s) call) (notes_told (shown s) call) e (λ y. n' (replied_is ∙ y)))
 
     pub event_ended : t.reply ≡ 0 → (bus : BusRecord) → bus ≡ record_in s → (room' : List ℕ)
         → room' ≡ laid room 0 (notes_octets (notes_of bus.periods.0 unit (noted t.notes))) → Ended call 0 s' room'
@@ -58,18 +59,18 @@ module _ (s room : List ℕ) where
         let notes_are : notes_of bus.periods.0 unit (noted t.notes) ≡ notes_told (shown s) call =
         rw (b, told_is) (event_notes_lem (shown s) unit n value (ap (λ (x : Told). x.reply) (sym told_is) ∙ y)) in
         rw (bus_is, l, notes_are)
-        (stepped s room (replied (shown s) call) (called (shown s) call) (notes_told (shown s) call) r e z (sym replied_is ∙ y))
+        (stepped s room (replied (shown s) call) (called (shown s) call) (notes_told (shown s) call) e (sym replied_is ∙ y))
 
   -- ---- A run.
   module _ (most : ℕ) where
     abbrev pub RanTo : ℕ → List ℕ → List ℕ → Type 0
     RanTo r s' room' = (r ≡ host_run_reply s room most) × ((s' ≡ host_run_bus s room most) × (room' ≡ host_run_notes s room most))
 
-    pub run_not_lent : (r : ℕ) → r ≡ reason s room → (r ≡ 0 → ⊥) → RanTo r s room
+    pub run_not_lent : (r : ℕ) → r ≡ reason s room → eqb r 0 ≡ false → RanTo r s room
     unfolding host_run_reply host_run_bus host_run_notes
     run_not_lent r e n = not_lent s room (run_answer most (shown s)).reply (kept_after most (shown s)) (run_told most (shown s)) r e n
 
-    module _ (r : ℕ) (e : r ≡ reason s room) (z : r ≡ 0) (t : RunAnswer) (units : List UnitNotes) (s' : List ℕ)
+    module _ (e : 0 ≡ reason s room) (t : RunAnswer) (units : List UnitNotes) (s' : List ℕ)
         (t-is : t ≡ run_answer most (shown s)) (units-are : units ≡ (kept_after most (shown s)).notes) (s-is : s' ≡ bus_octets (kept_after most (shown s))) where
       abbrev reply_is : t.reply ≡ (run_answer most (shown s)).reply
       reply_is = ap (λ (x : RunAnswer). x.reply) t-is
@@ -78,18 +79,18 @@ module _ (s room : List ℕ) where
       unfolding host_run_reply host_run_bus host_run_notes
       run_refused w w_is n =
           rw (w_is ∙ reply_is, s-is)
-          (turned_down s room (run_answer most (shown s)).reply (kept_after most (shown s)) (run_told most (shown s)) r e z (λ y. n (reply_is ∙ y)))
+          (turned_down s room (run_answer most (shown s)).reply (kept_after most (shown s)) (run_told most (shown s)) e (λ y. n (reply_is ∙ y)))
 
       pub run_ended : t.reply ≡ 0 → (room' : List ℕ)
           → room' ≡ laid room 0 (notes_octets (period_told (t.bus.periods.0 - 1) t units (octets_in s'))) → RanTo 0 s' room'
       unfolding host_run_reply host_run_bus host_run_notes
       run_ended y room' l =
-          let h : is_bus s ≡ true = lent_bus s _ _ r e z in
+          let h : is_bus s ≡ true = lent_bus s _ _ 0 e refl in
           let y' : (run_answer most (shown s)).reply ≡ 0 = sym reply_is ∙ y in
           let notes_are : period_told (t.bus.periods.0 - 1) t units (octets_in s') ≡ run_told most (shown s) =
           rw (t-is, units-are, s-is) (run_notes_lem s h most y') in
           rw (s-is, l, notes_are)
-          (stepped s room (run_answer most (shown s)).reply (kept_after most (shown s)) (run_told most (shown s)) r e z y')
+          (stepped s room (run_answer most (shown s)).reply (kept_after most (shown s)) (run_told most (shown s)) e y')
 
   -- a run of one period is a period
   pub period_ended : (r : ℕ) (s' room' : List ℕ) → RanTo 1 r s' room' → Ended period r s' room'

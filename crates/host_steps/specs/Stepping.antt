@@ -1,8 +1,10 @@
 -- Calls: stepping a bus that is lent as octets: each call is the call of crate `bus_calls` on what
 -- the octets stand for, and its notes come back as octets.
--- Interface: `notes_octets`, `notes_room`, `host_reply`, `host_bus`, `host_notes`, `event_number`,
+-- Interface: `notes_octets`, `notes_room`, `told_number`, `host_reply`, `host_bus`, `host_notes`, `event_number`,
 -- `most_to`, `host_run_reply`, `host_run_bus`, `host_run_notes`. Assumes nothing.
-use Rattle.std.specs.Prelude.{cond, List, [], ◌∷◌, ◌++◌, ℕ, ◌+◌, ◌-◌, eqb, ltb, length}
+use Rattle.std.specs.Prelude.{Result, Ok, Err, cond, List, [], ◌∷◌, ◌++◌, ℕ, ◌+◌, ◌-◌, eqb, ltb, length}
+use Rattle.refusals.specs.declared.Refusal.{Refusal}
+use Rattle.refusals.specs.Numbers.{number}
 use Rattle.bus_rules.specs.Bus.{Note}
 use Rattle.bus_rules.specs.Calls.{Call}
 use Rattle.bus_call_specs.specs.Kept.{Kept}
@@ -39,6 +41,11 @@ module _ (s room : List ℕ) where
 
   unfoldable pub notes_with : ℕ → List Note → List ℕ
   notes_with reply notes = cond (eqb (reply_with reply) 0) (laid room 0 (notes_octets notes)) room
+
+-- what a host is told: the reply of the bus, or the number of the reason for which what is lent was turned down
+abbrev pub told_number : Result ℕ Refusal → ℕ
+told_number (Ok reply) = reply
+told_number (Err r) = number r
 
 -- ---- An event or a period.
 unfoldable pub host_reply : List ℕ → List ℕ → Call → ℕ

@@ -31,19 +31,12 @@ pub(crate) fn put_told(room: &mut [u8], period: u32, unit: u32, notes: Notes)
     put(room, wrote, &[0]);
 }
 
-// Gives the first number less the second; 0 where the second is more.
-pub(crate) fn less(a: u32, b: u32) -> u32
-    ensures { result ≡ a - b }
-{
-    if a < b { 0 } else { a - b }
-}
-
 // Puts the notes of a run: those of its last period.
 pub(crate) fn put_run(room: &mut [u8], answer: RunAnswer, notes: [UnitNotes; 8], octets: &[u8])
     ensures { room.new
         ≡ laid room.old 0 (notes_octets (period_told (answer.bus.periods.0 - 1) answer notes octets.now)) }
 {
-    let last = less(answer.bus.periods.0, 1);
+    let last = answer.bus.periods.0.saturating_sub(1);
     let wrote = put_period(Form::Octets, room, 0, last, answer, notes, octets);
     put(room, wrote, &[0]);
 }

@@ -14,7 +14,7 @@ use Rattle.timing.specs.Counts.{most_periods}
 use Rattle.timing.specs.Calls.{all_run}
 use Rattle.terminal.specs.declared.Terminal.{Terminal}
 use Rattle.period_hearing.specs.declared.hears.UnitNotes.{UnitNotes}
-use Rattle.bus_record.specs.NetworkSide.{no_notes, refused_run}
+use Rattle.bus_record.specs.NetworkSide.{counted_over, no_notes, refused_run}
 use Rattle.bus_record.specs.declared.record.BusRecord.{BusRecord}
 use Rattle.bus_record.specs.declared.side.RunAnswer.{RunAnswer}
 use Rattle.bus_call_specs.specs.Kept.{Kept, kept}
@@ -24,7 +24,7 @@ use Rattle.bus_call_specs.specs.Step.{step_answer, step_terminals, step_octets, 
 use Rattle.bus_call_specs.proofs.InOrder.{InOrder, in_order, order_reply, one_left}
 use Rattle.bus_call_specs.proofs.RunSingle.{goes_facts}
 use Rattle.bus_call_specs.proofs.RunLoop.{goes_reply, Going, going_first, going_on, going_ends}
-use Rattle.idle_periods.specs.Still.{reach, counted_over, leapt}
+use Rattle.idle_periods.specs.Still.{reach, leapt}
 use Rattle.idle_periods.specs.Leap.{Leap}
 use Rattle.idle_periods.proofs.Stays.{Still, reach_less, reach_still, still_next}
 use Rattle.idle_periods.proofs.StillPeriod.{still_ran, still_terminals, still_octets, still_notes}

@@ -6,3 +6,4 @@ pub mod StillPeriod
 pub mod Leaping
 pub mod Turning
 pub mod AloneTurns
+pub mod Gathered

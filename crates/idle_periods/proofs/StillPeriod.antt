@@ -1,8 +1,8 @@
 -- A period of a still bus, as the code goes through it: it hands back no notes and changes nothing but the counts.
-use mathlib.Core.Path.{◌≡◌, refl}
+use mathlib.Core.Path.{◌≡◌, refl, sym}
 use mathlib.Core.Bool.{Bool, true, false, cond, not, ◌&&◌}
 use mathlib.Core.List.{List, [], ◌∷◌}
-use Prim.Native.Nat.{ℕ, suc, ◌+◌, ◌*◌, ◌<◌}
+use Prim.Native.Nat.{ℕ, suc, ◌+◌, ◌<◌}
 use native.Mathlib.Omega.{arith}
 use lib.Dec.{eqb, leb}
 use lib.ListN.{length, replicate}
@@ -16,7 +16,6 @@ use Rattle.table_6_2.specs.Table62.{F1, F7}
 use Rattle.table_6_3.specs.Table63.{G3, G4}
 use Rattle.table_6_3.specs.Table63 as Table63
 use Rattle.timing.specs.Counts.{most_periods}
-use Rattle.timing.specs.Calls.{four_more}
 use Rattle.timing.proofs.TimerLaws.{next_is, clear_due}
 use Rattle.timing.specs.declared.counts.Periods.{Periods}
 use Rattle.heard_line.specs.declared.heard.Downward.{Downward}
@@ -31,12 +30,13 @@ use Rattle.period_hearing.specs.Hears.{rests}
 use Rattle.period_hearing.proofs.Rests.{AllRest, Unchanged, all_rest_lem}
 use Rattle.bus_record.specs.Echo.{hit_in, first_tally, heard_down, step_tally, step_exchanged, step_line}
 use Rattle.bus_record.specs.Reading.{quiet_reading, reader_waits, read_in, octets_in}
+use Rattle.bus_record.proofs.Counted.{counted_one}
 use Rattle.bus_record.proofs.SpokenLaws.{four_ones}
 use Rattle.bus_record.proofs.NetworkRests.{rested, listens_rests}
-use Rattle.bus_record.specs.NetworkSide.{reader_after, rests_elsewhere, network_rests, counted_after, period_has_note, answer_with, answer_after, octets_after, no_notes, refused_run}
+use Rattle.bus_record.specs.NetworkSide.{reader_after, rests_elsewhere, network_rests, counted_after, counted_over, period_has_note, answer_with, answer_after, octets_after, no_notes, refused_run}
 use Rattle.bus_record.specs.declared.record.BusRecord.{BusRecord}
 use Rattle.bus_call_specs.specs.Step.{step_terminals, step_notes, step_told, step_answer, step_octets}
-use Rattle.idle_periods.specs.Still.{quiet, counted_over, leapt}
+use Rattle.idle_periods.specs.Still.{quiet, leapt}
 use Rattle.idle_periods.proofs.Stays.{AllStay, Still}
 
 -- ---- The network end.
@@ -168,8 +168,7 @@ module _ (images octets letters : List ℕ) (j : ℕ) (b : BusRecord) (ts : List
       (λ t. rw t))
 
   counted_is : counted_after state b.opportunities ≡ counted_over state 1 b.opportunities
-  unfolding counted_after counted_over four_more
-  counted_is = by_test (eqb state G3) (λ t. by_test (leb b.opportunities.0 (4 * most_periods)) (λ u. rw (t, u)) (λ u. rw (t, u))) (λ t. rw t)
+  counted_is = sym (counted_one state b.opportunities)
 
   pub still_ran : step_answer b ts images octets letters ≡ refused_run 0 (leapt 1 b)
   unfolding step_answer answer_after answer_with refused_run leapt period_has_note reader_after

@@ -21,10 +21,10 @@ use Rattle.bus_rules.specs.Quick.{shown_by, shown_from}
 use Rattle.exchange.specs.Rest.{part_rests}
 use Rattle.period_hearing.specs.Hears.{rests}
 use Rattle.bus_record.specs.Reading.{reader_waits}
-use Rattle.bus_record.specs.NetworkSide.{network_rests}
+use Rattle.bus_record.specs.NetworkSide.{counted_over, network_rests}
 use Rattle.bus_record.specs.Record.{fresh_record, with_counts, with_network, with_echo, with_hit}
 use Rattle.bus_record.specs.declared.record.BusRecord.{BusRecord}
-use Rattle.idle_periods.specs.Still.{quiet, farthest, first_ahead, over_with, also_ahead, reached, reach, counted_over, leapt}
+use Rattle.idle_periods.specs.Still.{quiet, farthest, first_ahead, over_with, also_ahead, reached, reach, leapt}
 
 -- ---- Units.
 -- aligned or not, with no run

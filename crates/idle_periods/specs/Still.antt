@@ -3,7 +3,7 @@
 -- next timer, the number asked for and 4,000,000 are one step. By a test that holds of still buses
 -- alone; the law `leap` (Leap.antt) holds it to single periods.
 -- Interface: every name. Assumes nothing.
-use Rattle.std.specs.Prelude.{Bool, true, false, cond, not, ◌&&◌, ◌||◌, List, ℕ, ◌+◌, ◌-◌, ◌*◌, eqb, leb}
+use Rattle.std.specs.Prelude.{Bool, true, false, cond, not, ◌&&◌, ◌||◌, List, ℕ, ◌+◌, ◌-◌, eqb, leb}
 use Rattle.slice_lemmas.specs.Over.{fold_from}
 use Rattle.notes_and_cells.specs.Cells.{info_in}
 use Rattle.table_6_2.specs.Table62.{info_sent}
@@ -11,14 +11,13 @@ use Rattle.table_6_3.specs.Table63.{G3}
 use Rattle.timing.specs.Counts.{most_periods}
 use Rattle.timing.specs.Calls.{at_period}
 use Rattle.timing.specs.Clear.{clear}
-use Rattle.timing.specs.declared.counts.Opportunities.{Opportunities}
 use Rattle.network.specs.declared.Network.{Network}
 use Rattle.terminal.specs.declared.Terminal.{Terminal}
 use Rattle.bus_rules.specs.Quick.{shown_by, shown_from}
 use Rattle.exchange.specs.Rest.{part_rests}
 use Rattle.period_hearing.specs.Hears.{rests}
 use Rattle.bus_record.specs.Reading.{reader_waits}
-use Rattle.bus_record.specs.NetworkSide.{network_rests}
+use Rattle.bus_record.specs.NetworkSide.{network_rests, counted_over}
 use Rattle.bus_record.specs.Record.{with_counts}
 use Rattle.bus_record.specs.declared.record.BusRecord.{BusRecord}
 use Rattle.idle_periods.specs.declared.ahead.Ahead.{Ahead}
@@ -62,11 +61,6 @@ reach b ts left = reached b.network (fold_from also_ahead 0 (first_ahead b left)
 
 -- ---- The step: `over` periods more, in G3 four times as many D opportunities, and all else as it
 -- was.
--- (No count that a bus can have is above the bounds.)
-unfoldable pub counted_over : ℕ → ℕ → Opportunities → Opportunities
-counted_over state over o =
-    cond ((eqb state G3 && leb o.0 (4 * most_periods)) && leb over most_periods) (record { 0 = o.0 + 4 * over }) o
-
 unfoldable pub leapt : ℕ → BusRecord → BusRecord
 leapt over b =
     cond (leb (b.periods.0 + over) most_periods)

@@ -1,5 +1,5 @@
 // How far a bus is still, gathered by value from its units.
-ghost use Rattle.std.specs.Prelude.{◌≡◌, ◌-◌};
+ghost use Rattle.std.specs.Prelude.{◌≡◌};
 ghost use Rattle.idle_periods.specs.Still as spec;
 
 use bus_record::echo::shown_by;
@@ -31,32 +31,23 @@ pub struct Ahead {
 }
 
 // Tests whether no hit is pending, D was 1, and in G3 the reader waits.
+#[tactic(auto, using(test_lemmas::proofs::Operators::not_or), unfolding(crate::specs::Still::quiet))]
 fn quiet(bus: BusRecord) -> bool
     ensures { result ≡ spec.quiet bus }
 {
-    let reader = bus.reader;
-    !bus.hit & bus.echo & ((bus.network.state != G3) | waits(reader))
-}
-
-// Gives one less than n, or 0.
-fn one_less(n: u32) -> u32
-    ensures { result ≡ n - 1 }
-{
-    if n == 0 { 0 } else { n - 1 }
+    !bus.hit & bus.echo & ((bus.network.state != G3) | waits(bus.reader))
 }
 
 // Gives how far the network end's own timers and `left`, the periods left to run, allow; one of
 // these stays to be run.
+#[tactic(auto, unfolding(crate::specs::Still::farthest))]
 fn farthest(bus: BusRecord, left: u32) -> u32
     ensures { result ≡ spec.farthest bus left }
 {
     if quiet(bus) {
-        let asked = clear(bus.periods, one_less(left), MOST_PERIODS as u64);
-        clear(
-            bus.periods,
-            clear(bus.periods, asked, bus.network.t1),
-            bus.network.t2,
-        )
+        let asked = clear(bus.periods, left.saturating_sub(1), MOST_PERIODS as u64);
+        let before_t1 = clear(bus.periods, asked, bus.network.t1);
+        clear(bus.periods, before_t1, bus.network.t2)
     } else {
         0
     }
@@ -64,15 +55,14 @@ fn farthest(bus: BusRecord, left: u32) -> u32
 
 impl Ahead {
     // Starts with the network end: no terminal has been looked at.
+    #[tactic(auto, unfolding(crate::specs::Still::first_ahead))]
     pub fn first(bus: BusRecord, left: u32) -> Self
         ensures { result ≡ spec.first_ahead bus left }
     {
-        let now = bus.periods;
-        let line = shown_by(bus.network.state);
         Ahead {
             over: farthest(bus, left),
-            now,
-            line,
+            now: bus.periods,
+            line: shown_by(bus.network.state),
             info1: false,
             info3: false,
         }
@@ -80,11 +70,11 @@ impl Ahead {
 
     // Gives how far one terminal more allows: it takes no part in the exchange and hears what it
     // heard before, until its timer is due.
+    #[tactic(auto, unfolding(crate::specs::Still::over_with))]
     fn over_with(self, terminal: Terminal) -> u32
         ensures { result ≡ spec.over_with self terminal }
     {
-        let line = self.line;
-        if rests(terminal, line) & part_rests(terminal) {
+        if rests(terminal, self.line) & part_rests(terminal) {
             clear(self.now, self.over, terminal.t3)
         } else {
             0
@@ -92,23 +82,22 @@ impl Ahead {
     }
 
     // Adds one terminal.
+    #[tactic(auto, unfolding(crate::specs::Still::also_ahead))]
     pub fn also(self, terminal: Terminal) -> Self
         ensures { result ≡ spec.also_ahead 0 self terminal }
     {
-        let now = self.now;
-        let line = self.line;
         let info = info_sent(terminal.state);
         Ahead {
             over: self.over_with(terminal),
-            now,
-            line,
             info1: self.info1 | (info == 1),
             info3: self.info3 | (info == 3),
+            ..self
         }
     }
 
     // Gives how far the bus is still, once all terminals have been added: 0 unless the network end
     // hears what it heard before.
+    #[tactic(auto, unfolding(crate::specs::Still::reached))]
     pub fn reached(self, network: Network) -> u32
         ensures { result ≡ spec.reached network self }
     {

@@ -3,22 +3,12 @@ ghost use Rattle.std.specs.Prelude.{◌≡◌};
 ghost use Rattle.idle_periods.specs.Still as spec;
 
 use bus_record::record::BusRecord;
-use table_6_3::G3;
-use timing::counts::{MOST_PERIODS, Opportunities, Periods};
-
-// Counts four D opportunities more for each of `over` periods in G3, elsewhere none.
-fn counted_over(state: u8, over: u32, opportunities: Opportunities) -> Opportunities
-    ensures { result ≡ spec.counted_over state over opportunities }
-{
-    if (state == G3) & (opportunities.0 <= 4 * MOST_PERIODS) & (over <= MOST_PERIODS) {
-        Opportunities(opportunities.0 + 4 * over)
-    } else {
-        opportunities
-    }
-}
+use bus_record::side::counted_over;
+use timing::counts::{MOST_PERIODS, Periods};
 
 // Steps over `over` periods: they count as run, in G3 four times as many D opportunities, and all
 // else stays as it was.
+#[tactic(auto, unfolding(crate::specs::Still::leapt))]
 pub fn leapt(bus: BusRecord, over: u32) -> BusRecord
     ensures { result ≡ spec.leapt over bus }
 {

@@ -8,18 +8,14 @@ use terminal::Terminal;
 
 // Gives how many periods are one step, with `left` periods left to run: one of these stays to be
 // run after it. 0 where the bus is not still; most often the bus record alone says so.
+#[tactic(auto, using(crate::proofs::Gathered::reach_gathered, crate::proofs::NoReach::reach_none))]
 pub fn reach(bus: BusRecord, terminals: &[Terminal], left: u32) -> u32
     ensures { result ≡ spec.reach bus terminals.now left }
 {
-    let mut ahead = Ahead::first(bus, left);
-    if ahead.over == 0 {
+    let first = Ahead::first(bus, left);
+    if first.over == 0 {
         return 0;
     }
-    let mut i: usize = 0;
-    while i < terminals.len() {
-        let t = terminals[i];
-        ahead = ahead.also(t);
-        i += 1;
-    }
+    let ahead = terminals.iter().copied().fold(first, Ahead::also);
     ahead.reached(bus.network)
 }

@@ -1,8 +1,8 @@
 -- Rules: the INFO signals as lines (document 01, "The line": INFO 0 to INFO 4).
 -- FA, M and S are as the 20-period cycle of Q and S bits sets them (document 02, 2.1).
--- Interface: `info0`, `repeated`, `info1`, `unset`, `info2_with`, `info2`, `info3_fields`,
+-- Interface: `info0`, `repeated`, `info1`, `unset`, `filled_fields`, `info2_with`, `info2`, `info3_fields`,
 -- `info3_with`, `info3`, `info4_with`, `info4`, `is_info1`. Assumes nothing.
-use Rattle.std.specs.Prelude.{Bool, true, false, List, [], ◌∷◌, ◌++◌, ℕ, zero, suc, replicate}
+use Rattle.std.specs.Prelude.{Bool, true, false, cond, List, [], ◌∷◌, ◌++◌, ℕ, zero, suc, replicate}
 use Rattle.symbols.specs.Symbols.{line_length, none, plus, minus, same_symbols}
 use Rattle.frame.specs.Four.{all_four}
 use Rattle.frame.specs.Down.{down_line}
@@ -31,6 +31,21 @@ info1 = repeated plus minus
 -- No bit of the cycle is set: so where no cycle runs.
 abbrev pub unset : CycleBits
 unset = record { fa = false; m = false; s = false }
+
+-- The fields of a downward frame with A, the B octets and the D bits at b.
+abbrev pub filled_fields : Bool → Four → CycleBits → DownFields
+filled_fields b echo bits = record {
+  b1first = cond b 255 0;
+  b2first = cond b 255 0;
+  b1second = cond b 255 0;
+  b2second = cond b 255 0;
+  e = echo;
+  d = all_four b;
+  a = b;
+  fa = bits.fa;
+  m = bits.m;
+  s = bits.s;
+}
 
 -- INFO 2 has A, B, D and E at 0, and FA, M and S as the cycle sets them.
 abbrev pub info2_fields : CycleBits → DownFields

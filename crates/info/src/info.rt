@@ -1,4 +1,5 @@
-// The INFO signals as lines. Each call replies 0, or 2 where what is lent is not 48 long.
+// The INFO signals as lines. Each call that writes one refuses what it is lent where it is not 48
+// long, with `Refusal::WrongSlice`.
 ghost use Rattle.std.specs.Prelude.{cond, ◌≡◌, ◌<◌, get_or};
 ghost use Rattle.frame.specs.Polarity.{opposite};
 ghost use Rattle.symbols.specs.Symbols.{none, line_length};
@@ -7,83 +8,79 @@ ghost use Rattle.info.specs.Info as spec;
 
 use frame::fields::{CycleBits, DownFields, Four, UpFields};
 use frame::write::{write_down, write_up};
-use symbols::{LINE_LENGTH, MINUS, NONE, PLUS, TestAnswer, answer, fits, same_symbols};
-
-// Gives the symbol at index i of the line that has `first`, `second` and six nones, six times.
-fn repeated_symbol(first: u8, second: u8, i: usize) -> u8
-    requires { i < line_length }
-    ensures { result ≡ get_or (spec.repeated first second) i none }
-{
-    let place = i % 8;
-    if place == 0 {
-        first
-    } else if place == 1 {
-        second
-    } else {
-        NONE
-    }
-}
-
-// Writes `first`, `second` and six nones, six times.
-fn write_repeated(first: u8, second: u8, out: &mut [u8]) -> u8
-    ensures reply { result ≡ reply (has_line_length out.old) }
-    ensures octets { out.new ≡ leaves (has_line_length out.old) (spec.repeated first second) out.old }
-{
-    if out.len() != LINE_LENGTH {
-        return 2;
-    }
-    let mut i: usize = 0;
-    while i < LINE_LENGTH {
-        out[i] = repeated_symbol(first, second, i);
-        i += 1;
-    }
-    0
-}
+use refusals::Refusal;
+use symbols::{LINE_LENGTH, MINUS, NONE, PLUS, as_line, same_symbols};
 
 // Writes INFO 0.
-pub fn info0(out: &mut [u8]) -> u8
+#[tactic(auto, using(crate::proofs::Lines::info0_filled))]
+pub fn info0(out: &mut [u8]) -> Result<(), Refusal>
     ensures reply { result ≡ reply (has_line_length out.old) }
     ensures octets { out.new ≡ leaves (has_line_length out.old) spec.info0 out.old }
 {
-    write_repeated(NONE, NONE, out)
+    if out.len() != LINE_LENGTH {
+        return Err(Refusal::WrongSlice);
+    }
+    out.fill(NONE);
+    Ok(())
+}
+
+// Gives the symbol at index i of INFO 1.
+fn info1_symbol(i: usize) -> u8
+    requires { i < line_length }
+    ensures { result ≡ get_or spec.info1 i none }
+{
+    match i % 8 {
+        0 => PLUS,
+        1 => MINUS,
+        _ => NONE,
+    }
 }
 
 // Writes INFO 1.
-pub fn info1(out: &mut [u8]) -> u8
+#[tactic(auto, using(crate::proofs::Lines::info1_next, crate::proofs::Lines::info1_done))]
+pub fn info1(out: &mut [u8]) -> Result<(), Refusal>
     ensures reply { result ≡ reply (has_line_length out.old) }
     ensures octets { out.new ≡ leaves (has_line_length out.old) spec.info1 out.old }
 {
-    write_repeated(PLUS, MINUS, out)
+    if out.len() != LINE_LENGTH {
+        return Err(Refusal::WrongSlice);
+    }
+    for (i, symbol) in out.iter_mut().enumerate() {
+        *symbol = info1_symbol(i);
+    }
+    Ok(())
 }
 
-// Writes INFO 2 with the cycle's bits.
-pub fn info2_with(bits: CycleBits, out: &mut [u8]) -> u8
-    ensures reply { result ≡ reply (has_line_length out.old) }
-    ensures octets { out.new ≡ leaves (has_line_length out.old) (spec.info2_with bits) out.old }
+// Gives the fields of a downward frame with A, the B octets and the D bits at b, with the echo bits
+// e and the cycle's bits.
+fn filled(b: bool, e: Four, bits: CycleBits) -> DownFields
+    ensures { result ≡ spec.filled_fields b e bits }
 {
-    let zeros = Four {
-        first: false,
-        second: false,
-        third: false,
-        fourth: false,
-    };
-    let f = DownFields {
-        b1first: 0,
-        b2first: 0,
-        b1second: 0,
-        b2second: 0,
-        e: zeros,
-        d: zeros,
-        a: false,
+    let octet = if b { 255 } else { 0 };
+    DownFields {
+        b1first: octet,
+        b2first: octet,
+        b1second: octet,
+        b2second: octet,
+        e,
+        d: Four::all(b),
+        a: b,
         fa: bits.fa,
         m: bits.m,
         s: bits.s,
-    };
-    write_down(f, out)
+    }
+}
+
+// Writes INFO 2 with the cycle's bits.
+pub fn info2_with(bits: CycleBits, out: &mut [u8]) -> Result<(), Refusal>
+    ensures reply { result ≡ reply (has_line_length out.old) }
+    ensures octets { out.new ≡ leaves (has_line_length out.old) (spec.info2_with bits) out.old }
+{
+    write_down(filled(false, Four::all(false), bits), out)
 }
 
 // Writes INFO 2 where no cycle runs.
-pub fn info2(out: &mut [u8]) -> u8
+pub fn info2(out: &mut [u8]) -> Result<(), Refusal>
     ensures reply { result ≡ reply (has_line_length out.old) }
     ensures octets { out.new ≡ leaves (has_line_length out.old) spec.info2 out.old }
 {
@@ -96,7 +93,7 @@ pub fn info2(out: &mut [u8]) -> u8
 }
 
 // Writes INFO 3 with FA and the D bits d.
-pub fn info3_with(fa: bool, d: Four, out: &mut [u8]) -> u8
+pub fn info3_with(fa: bool, d: Four, out: &mut [u8]) -> Result<(), Refusal>
     ensures reply { result ≡ reply (has_line_length out.old) }
     ensures octets { out.new ≡ leaves (has_line_length out.old) (spec.info3_with fa d) out.old }
 {
@@ -105,14 +102,14 @@ pub fn info3_with(fa: bool, d: Four, out: &mut [u8]) -> u8
         b2first: 255,
         b1second: 255,
         b2second: 255,
-        d: d,
-        fa: fa,
+        d,
+        fa,
     };
     write_up(f, out)
 }
 
 // Writes INFO 3 where no cycle runs, with the D bits d.
-pub fn info3(d: Four, out: &mut [u8]) -> u8
+pub fn info3(d: Four, out: &mut [u8]) -> Result<(), Refusal>
     ensures reply { result ≡ reply (has_line_length out.old) }
     ensures octets { out.new ≡ leaves (has_line_length out.old) (spec.info3 d) out.old }
 {
@@ -165,53 +162,29 @@ fn put_pulses(e: Four, out: &mut [u8])
 }
 
 // Writes INFO 4 where no cycle runs, with the echo bits e.
-pub fn info4(e: Four, out: &mut [u8]) -> u8
+pub fn info4(e: Four, out: &mut [u8]) -> Result<(), Refusal>
     ensures reply { result ≡ reply (has_line_length out.old) }
     ensures octets { out.new ≡ leaves (has_line_length out.old) (spec.info4 e) out.old }
 {
-    let reply = info0(out);
-    if reply != 0 {
-        return reply;
-    }
+    info0(out)?;
     put_pulses(e, out);
-    0
+    Ok(())
 }
 
 // Writes INFO 4 with the cycle's bits and the echo bits e.
-pub fn info4_with(bits: CycleBits, e: Four, out: &mut [u8]) -> u8
+pub fn info4_with(bits: CycleBits, e: Four, out: &mut [u8]) -> Result<(), Refusal>
     ensures reply { result ≡ reply (has_line_length out.old) }
     ensures octets { out.new ≡ leaves (has_line_length out.old) (spec.info4_with bits e) out.old }
 {
-    let ones = Four {
-        first: true,
-        second: true,
-        third: true,
-        fourth: true,
-    };
-    let f = DownFields {
-        b1first: 255,
-        b2first: 255,
-        b1second: 255,
-        b2second: 255,
-        e: e,
-        d: ones,
-        a: true,
-        fa: bits.fa,
-        m: bits.m,
-        s: bits.s,
-    };
-    write_down(f, out)
+    write_down(filled(true, e, bits), out)
 }
 
 // Tests whether a line is exactly INFO 1.
-pub fn is_info1(line: &[u8]) -> TestAnswer
+pub fn is_info1(line: &[u8]) -> Result<bool, Refusal>
     ensures { result ≡ tested spec.is_info1 line.now }
 {
-    if fits(line, LINE_LENGTH, MINUS) {
-        let mut expected = [NONE; LINE_LENGTH];
-        info1(&mut expected);
-        answer(same_symbols(line, &expected))
-    } else {
-        TestAnswer::Refused(2)
-    }
+    let line = as_line(line)?;
+    let mut expected = [NONE; LINE_LENGTH];
+    info1(&mut expected)?;
+    Ok(same_symbols(line, &expected))
 }

@@ -17,6 +17,7 @@ pub struct Alone {
 
 // Tests whether a period more is run: the last one has no note, INFO 4 is sent without a hit, the E
 // that comes is the sender's last bit, and the sender goes on alone (`goes`).
+#[tactic(auto, using(dchannel::proofs::AccessLaws::same_beq), unfolding(crate::specs::Alone::stays_alone))]
 fn stays_alone(answer: RunAnswer, lone: LoneSender, goes: bool) -> bool
     ensures { result ≡ stays_alone answer lone goes }
 {
@@ -38,20 +39,22 @@ pub fn run_alone(
 {
     let mut answer = refused_run(bus, 0);
     let mut sender = lone;
-    let mut over: u32 = 0;
-    let mut next = sender.after_four(images);
-    let mut going = (over < most) & stays_alone(answer, sender, next.goes);
-    while going {
+    for over in 0..most {
+        let next = sender.after_four(images);
+        if !stays_alone(answer, sender, next.goes) {
+            return Alone {
+                answer,
+                lone: sender,
+                over,
+            };
+        }
         let tally = tally_of(answer.bus.network.state, next.ds);
         answer = network_side(answer.bus, tally, octets, false);
         sender = next.lone;
-        over += 1;
-        next = sender.after_four(images);
-        going = (over < most) & stays_alone(answer, sender, next.goes);
     }
     Alone {
         answer,
         lone: sender,
-        over,
+        over: most,
     }
 }

@@ -9,6 +9,7 @@ use terminal::Terminal;
 
 // Brings terminal i to the run's end: in F7 it has counted the same E as all, and the sender's bits
 // have left.
+#[tactic(auto, unfolding(crate::specs::Lone::followed, crate::specs::Lone::followed_access))]
 fn follow_one(lone: LoneSender, i: usize, t: Terminal) -> Terminal
     ensures { result ≡ followed lone i t }
 {
@@ -28,10 +29,7 @@ fn follow_one(lone: LoneSender, i: usize, t: Terminal) -> Terminal
 pub fn follow(terminals: &mut [Terminal], lone: LoneSender)
     ensures { terminals.new ≡ map_from (followed lone) 0 terminals.old }
 {
-    let mut i: usize = 0;
-    while i < terminals.len() {
-        let t = terminals[i];
-        terminals[i] = follow_one(lone, i, t);
-        i += 1;
+    for (i, terminal) in terminals.iter_mut().enumerate() {
+        *terminal = follow_one(lone, i, *terminal);
     }
 }

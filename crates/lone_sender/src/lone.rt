@@ -1,15 +1,11 @@
 // The one terminal that sends, in the few values that its sending takes.
 ghost use Rattle.std.specs.Prelude.{◌≡◌};
-ghost use Rattle.lone_sender.specs.Lone.{counted_at, lone_after_e, lone_sends, lone_step, tally_of};
+ghost use Rattle.lone_sender.specs.Lone.{lone_after_e, lone_sends, lone_step, tally_of};
 
-use combining::hit::KEEP_LETTER;
-use dchannel::access::{NORMAL_1, NORMAL_2};
+use dchannel::access::{NORMAL_1, counted};
 use exchange::part::image_bit;
 use exchange::tally::{Letters, Tally};
 use frame::fields::Four;
-
-// The most that C counts to.
-const MOST_COUNT: u8 = NORMAL_2 + 1;
 
 // The terminal that sends alone.
 #[derive(Clone, Copy)]
@@ -35,6 +31,7 @@ pub struct LoneStep {
 
 impl LoneSender {
     // Takes one opportunity: its E is the last bit, and the next bit leaves.
+    #[tactic(auto, unfolding(crate::specs::Lone::lone_after_e, crate::specs::Lone::lone_bit, crate::specs::Lone::counted_at))]
     fn turned(self, images: &[u8]) -> Self
         ensures { result ≡ lone_after_e images.now self }
     {
@@ -44,38 +41,24 @@ impl LoneSender {
             self.sent
         };
         LoneSender {
-            at: self.at,
-            length: self.length,
             sent,
-            count: self.counted(),
+            count: counted(self.count, self.last),
             last: image_bit(images, self.at, self.sent),
-        }
-    }
-
-    // Gives C after the E.
-    fn counted(self) -> u8
-        ensures { result ≡ counted_at self }
-    {
-        if self.last {
-            if self.count < MOST_COUNT {
-                self.count + 1
-            } else {
-                MOST_COUNT
-            }
-        } else {
-            0
+            ..self
         }
     }
 
     // Tests whether the next bit leaves and no other terminal starts: at a C below the lowest
     // threshold none does, and no level changes.
+    #[tactic(auto, unfolding(crate::specs::Lone::lone_sends, crate::specs::Lone::counted_at))]
     fn turns(self) -> bool
         ensures { result ≡ lone_sends self }
     {
-        (0 < self.sent) & (self.sent < self.length) & (self.counted() < NORMAL_1)
+        (0 < self.sent) & (self.sent < self.length) & (counted(self.count, self.last) < NORMAL_1)
     }
 
     // Takes the four opportunities of a period.
+    #[tactic(auto, unfolding(crate::specs::Lone::lone_after_four, crate::specs::Lone::lone_bits, crate::specs::Lone::lone_goes, crate::specs::Lone::lone_after_e))]
     pub fn after_four(self, images: &[u8]) -> LoneStep
         ensures { result ≡ lone_step images.now self }
     {
@@ -97,25 +80,15 @@ impl LoneSender {
 }
 
 // Gives the tally that the four opportunities leave.
+#[tactic(auto, unfolding(crate::specs::Lone::tally_of))]
 pub fn tally_of(state: u8, ds: Four) -> Tally
     ensures { result ≡ tally_of state ds }
 {
     Tally {
-        letters: Letters {
-            first: KEEP_LETTER,
-            second: KEEP_LETTER,
-            third: KEEP_LETTER,
-            fourth: KEEP_LETTER,
-        },
         ds,
-        state,
-        place: 0,
-        done1: 0,
-        done2: 0,
-        echo: ds.fourth,
         e: ds.third,
         d: ds.fourth,
-        info1: false,
         info3: true,
+        ..Tally::first(state, Letters::KEEP, ds.fourth)
     }
 }

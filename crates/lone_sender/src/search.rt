@@ -28,6 +28,7 @@ pub struct Search {
 
 // Gives the sender after terminal i: where that one sends, it, with its C; else the one found
 // before.
+#[tactic(auto, unfolding(crate::specs::Search::sender_after))]
 fn sender_after(before: LoneSender, i: usize, t: Terminal) -> LoneSender
     ensures { result ≡ sender_after i before t }
 {
@@ -46,13 +47,7 @@ fn sender_after(before: LoneSender, i: usize, t: Terminal) -> LoneSender
             last: access.last,
         }
     } else {
-        LoneSender {
-            at: before.at,
-            length: before.length,
-            sent: before.sent,
-            count,
-            last: before.last,
-        }
+        LoneSender { count, ..before }
     }
 }
 
@@ -77,6 +72,7 @@ fn no_search(most: u32) -> Search
 
 impl Search {
     // Adds one terminal.
+    #[tactic(auto, unfolding(crate::specs::Search::searched_one, crate::specs::Search::fits_in, bus_rules::specs::Quick::shown_by, notes_and_cells::specs::Cells::info_in))]
     fn also(self, i: usize, t: Terminal, period: Periods) -> Self
         ensures { result ≡ searched_one period i self t }
     {
@@ -98,10 +94,9 @@ impl Search {
             fits: self.fits & fits,
         }
     }
-}
 
-impl Search {
     // Gives how many periods can be run alone, as far as is known: 0 where no terminal sends alone.
+    #[tactic(auto, unfolding(crate::specs::Search::alone_for))]
     pub fn alone_for(self) -> u32
         ensures { result ≡ alone_for self }
     {
@@ -111,6 +106,7 @@ impl Search {
 
 // Tests whether a search is in vain: the network end is not in G3, a hit is pending, or seven 1s
 // have been read.
+#[tactic(auto, unfolding(crate::specs::Search::in_vain))]
 pub fn in_vain(bus: BusRecord) -> bool
     ensures { result ≡ in_vain bus }
 {
@@ -118,15 +114,13 @@ pub fn in_vain(bus: BusRecord) -> bool
 }
 
 // Looks at all terminals, for at most `most` periods from `period` on.
+#[tactic(auto, using(slice_lemmas::proofs::Over::read_next, slice_lemmas::proofs::Over::gather_all), unfolding(crate::specs::Search::searched))]
 pub fn find(terminals: &[Terminal], period: Periods, most: u32) -> Search
     ensures { result ≡ searched period most terminals.now }
 {
     let mut search = no_search(most);
-    let mut i: usize = 0;
-    while i < terminals.len() {
-        let t = terminals[i];
-        search = search.also(i, t, period);
-        i += 1;
+    for (i, terminal) in terminals.iter().enumerate() {
+        search = search.also(i, *terminal, period);
     }
     search
 }

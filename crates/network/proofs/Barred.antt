@@ -1,6 +1,6 @@
 -- The rules bar a request exactly where its cell in table 6-3 is impossible or empty: the code looks at the cell.
-use mathlib.Core.Path.{◌≡◌, refl, sym, ◌∙◌}
-use mathlib.Core.Bool.{Bool, true, cond, ◌||◌}
+use mathlib.Core.Path.{◌≡◌, refl}
+use mathlib.Core.Bool.{true, cond, ◌||◌}
 use Prim.Native.Nat.{ℕ, ◌≤◌}
 use lib.Dec.{eqb}
 use borrow.Author.Tests.{eqb-true}
@@ -17,8 +17,11 @@ use Rattle.timing.specs.declared.counts.Periods.{Periods}
 use Rattle.network.specs.Network.{unchanged, acts, happens, bars, requests}
 use Rattle.network.specs.Calls.{network_in_range, ready, checked, request_call}
 use Rattle.network.specs.declared.Network.{Network}
-use Rattle.network.specs.declared.NetworkStep.{NetworkStep}
-use Rattle.network.proofs.TwoEvents.{is_request_lem}
+use Rattle.network.specs.Steps.{step_of, as_result}
+use Rattle.std.specs.Prelude.{Some, None}
+use Rattle.std.specs.Option.{unwrap_or, ok_or}
+use Rattle.refusals.specs.declared.Refusal.{Refusal}
+use Rattle.network.proofs.TwoEvents.{is_request_lem, happens_reply}
 use Rattle.network.proofs.RangesKept.{network_fits}
 
 void_ar : (s : ℕ) → G1 ≤ s → s ≤ G4 → is_void (cell_of table63 ar_row s) ≡ bars ar_row s
@@ -35,29 +38,29 @@ void_barred event s k low high =
     (λ t. rw (eqb-true event ar_row t) (void_ar s low high))
     (λ t. rw (eqb-true event dr_row (rw t at k)) (void_dr s low high))
 
--- ---- what the code's step gives, with the reply at a cell that is impossible or empty
-acts_void : (c : Cell) (now : ℕ) (n : Network) → cond (is_void c) (unchanged 0 n) (acts c now n) ≡ acts c now n
+-- ---- an event that is no request changes nothing at a cell that is impossible or empty
+acts_void : (c : Cell) (now : ℕ) (n : Network) →
+    unwrap_or (cond (is_void c) None (Some (step_of (acts c now n)))) (step_of (unchanged 0 n)) ≡ step_of (acts c now n)
 unfolding acts
 acts_void (To next action notes) now n = refl
 acts_void (Stay notes) now n = refl
 acts_void Impossible now n = refl
 acts_void Absent now n = refl
 
--- 0: an event that is no request
-pub happened : (e now : ℕ) (n : Network) {r : NetworkStep} → r ≡ cond (is_void (cell_of table63 e n.state)) (unchanged 0 n) (happens e now n) →
-    r ≡ happens e now n
+pub happened : (e now : ℕ) (n : Network) →
+    unwrap_or (cond (is_void (cell_of table63 e n.state)) None (Some (step_of (happens e now n)))) (step_of (unchanged 0 n)) ≡ step_of (happens e now n)
 unfolding happens
-happened e now n h = h ∙ acts_void (cell_of table63 e n.state) now n
+happened e now n = acts_void (cell_of table63 e n.state) now n
 
--- 5: a request, where record and period are in range
+-- ---- a request, where record and period are in range: its cell is void exactly where it is barred
 ready_fits : (now : Periods) (n : Network) → ready now n ≡ true → network_in_range n ≡ true
 unfolding ready
 ready_fits now n h = (both (network_in_range n) (periods_in_range now) h).0
 
-pub asked : (event : ℕ) (now : Periods) (n : Network) {a : Bool} {r : NetworkStep} → a ≡ ready now n → a ≡ true → (eqb event ar_row || eqb event dr_row) ≡ true →
-    r ≡ cond (is_void (cell_of table63 event n.state)) (unchanged 5 n) (happens event now.0 n) → r ≡ request_call event now n
-unfolding checked requests
-asked event now n p q k h =
-    let ok : ready now n ≡ true = sym p ∙ q in
+pub asked : (event : ℕ) (now : Periods) (n : Network) → ready now n ≡ true → (eqb event ar_row || eqb event dr_row) ≡ true →
+    ok_or (cond (is_void (cell_of table63 event n.state)) None (Some (step_of (happens event now.0 n)))) Refusal.Barred ≡ as_result (request_call event now n)
+unfolding checked requests as_result
+asked event now n ok k =
     let f = network_fits n (ready_fits now n ok) in
-    rw (h, ok, is_request_lem event, k, void_barred event n.state k f.from_g1 f.to_g4)
+    rw (ok, is_request_lem event, k, void_barred event n.state k f.from_g1 f.to_g4)
+    (by_test (bars event n.state) (λ b. rw b) (λ b. rw (b, happens_reply event now.0 n)))

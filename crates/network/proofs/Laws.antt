@@ -26,7 +26,7 @@ use Rattle.heard_line.specs.declared.heard.Upward.{Upward}
 use Rattle.network.specs.Network.{unchanged, acts, moved, happens, and_then, aligned, is_request, bars, requests, t1_due, t2_due, timers, heard_as, hears}
 use Rattle.network.specs.Calls.{network_in_range, ready, checked, request_call, timer_call, hear_call}
 use Rattle.network.specs.declared.Network.{Network}
-use Rattle.network.specs.declared.NetworkStep.{NetworkStep}
+use Rattle.network.specs.Steps.{NetworkStep}
 use Rattle.network.proofs.TwoEvents.{happens_notes}
 
 -- ---- the calls, where the record is in range and the period one that a bus runs

@@ -4,3 +4,4 @@ pub mod TwoEvents
 pub mod RangesKept
 pub mod Barred
 pub mod Laws
+pub mod Answered

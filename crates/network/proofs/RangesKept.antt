@@ -23,7 +23,7 @@ use Rattle.alignment.proofs.Alignments.{followed_in_range}
 use Rattle.network.specs.Network.{fresh, acts, moved, happens, and_then, aligned, is_request, bars, requests, t1_due, t2_due, timers, heard_as, hears}
 use Rattle.network.specs.Calls.{network_in_range, ready, checked, request_call, timer_call, hear_call}
 use Rattle.network.specs.declared.Network.{Network}
-use Rattle.network.specs.declared.NetworkStep.{NetworkStep}
+use Rattle.network.specs.Steps.{NetworkStep}
 
 -- What the range of the record says, field by field.
 pub record NetworkFits (n : Network) : Type 0 where

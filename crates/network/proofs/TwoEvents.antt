@@ -21,7 +21,11 @@ use Rattle.heard_line.specs.declared.heard.Upward.{Upward}
 use Rattle.alignment.proofs.Alignments.{framed_kept, pulseless_kept}
 use Rattle.network.specs.Network.{unchanged, is_request, acts, happens, and_then, aligned, t1_due, t2_due, timers, heard_as, hears}
 use Rattle.network.specs.declared.Network.{Network}
-use Rattle.network.specs.declared.NetworkStep.{NetworkStep}
+use Rattle.network.specs.Steps.{NetworkStep, step_of, as_result}
+use Rattle.network.specs.declared.NetworkStep as code
+use Rattle.refusals.specs.Numbers.{unless_refused}
+use Rattle.refusals.specs.declared.Refusal.TheVariants.{OutOfRange}
+use Rattle.std.specs.Prelude.{Ok, Err}
 
 acts_notes : (c : Cell) (now : ℕ) (n : Network) → (acts c now n).notes ≡ cell_notes c
 unfolding acts
@@ -43,7 +47,7 @@ acts_reply Impossible now n = refl
 acts_reply Absent now n = refl
 
 -- No event is refused where it happens.
-happens_reply : (e now : ℕ) (n : Network) → (happens e now n).reply ≡ 0
+pub happens_reply : (e now : ℕ) (n : Network) → (happens e now n).reply ≡ 0
 unfolding happens
 happens_reply e now n = acts_reply (cell_of table63 e n.state) now n
 
@@ -67,16 +71,21 @@ second_only s f q t = rw (q, t)
 pub is_request_lem : (e : ℕ) → is_request e ≡ (eqb e ar_row || eqb e dr_row)
 is_request_lem e = by_test (eqb e ar_row) (λ t. rw t) (λ t. rw t)
 
--- T1, then T2.
-pub t1_is : (now : ℕ) (n : Network) {b : Bool} {a : NetworkStep} → b ≡ due n.t1 now →
-    a ≡ cond b (happens t1_row now (record { t1 = 0; t2 = n.t2; state = n.state; alignment = n.alignment })) (unchanged 0 n) → a ≡ t1_due now n
-unfolding t1_due
-t1_is now n p q = rw (q, p)
+-- A call with a record or a period out of range.
+pub refused_out_of_range : (n : Network) → as_result (unchanged 1 n) ≡ Err OutOfRange
+unfolding as_result
+refused_out_of_range n = refl
 
-pub t2_is : (now : ℕ) (n : Network) {b : Bool} {a : NetworkStep} → b ≡ due n.t2 now →
-    a ≡ cond b (happens t2_row now (record { t1 = n.t1; t2 = 0; state = n.state; alignment = n.alignment })) (unchanged 0 n) → a ≡ t2_due now n
+-- T1, then T2.
+pub t1_is : (now : ℕ) (n : Network) {b : Bool} → b ≡ due n.t1 now →
+    cond b (happens t1_row now (record { t1 = 0; t2 = n.t2; state = n.state; alignment = n.alignment })) (unchanged 0 n) ≡ t1_due now n
+unfolding t1_due
+t1_is now n p = rw p
+
+pub t2_is : (now : ℕ) (n : Network) {b : Bool} → b ≡ due n.t2 now →
+    cond b (happens t2_row now (record { t1 = n.t1; t2 = 0; state = n.state; alignment = n.alignment })) (unchanged 0 n) ≡ t2_due now n
 unfolding t2_due
-t2_is now n p q = rw (q, p)
+t2_is now n p = rw p
 
 t1_tidy : (now : ℕ) (n : Network) → packed_notes (noted (t1_due now n).notes) ≡ (t1_due now n).notes
 unfolding t1_due noted
@@ -86,9 +95,11 @@ pub t2_without_notes : (now : ℕ) (n : Network) → noted (t2_due now n).notes 
 unfolding t2_due noted
 t2_without_notes now n = by_test (due n.t2 now) (λ t. rw t (happens_quiet t2_row now _ (t2_quiet n.state))) (λ t. rw t)
 
-pub timers_are : (now : ℕ) (n : Network) {a b : NetworkStep} → a ≡ t1_due now n → b ≡ t2_due now a.network → record { network = b.network; notes = a.notes; reply = 0 } ≡ timers now n
-unfolding timers
-timers_are now n p q = rw (q, p) (first_only (t1_due now n) (t2_due now) (t1_tidy now n) (t2_without_notes now (t1_due now n).network))
+pub timers_are : (now : ℕ) (n : Network) {a b : code.NetworkStep} → a ≡ step_of (t1_due now n) → b ≡ step_of (t2_due now a.network) →
+    Ok (record { network = b.network; notes = a.notes }) ≡ as_result (timers now n)
+unfolding timers as_result
+timers_are now n p q =
+    rw (q, p) (ap (λ s. unless_refused s.reply (step_of s)) (first_only (t1_due now n) (t2_due now) (t1_tidy now n) (t2_without_notes now (t1_due now n).network)))
 
 -- A line that loses alignment is INFO 1 or a signal.
 lost_lines : (p framed i : Bool) (f : Followed) (a : Alignment) (s : ℕ) → f ≡ followed framed_to_gain unframed_to_lose p framed a → f.lost ≡ true →
@@ -131,21 +142,24 @@ module _
     {f : Followed} (ef : f ≡ followed framed_to_gain unframed_to_lose line.pulse line.framed n.alignment)
     {k : ℕ} (ek : k ≡ loss_up f)
     {e : ℕ} (ee : e ≡ upward_event line f)
-    {a : NetworkStep} (ea : a ≡ happens k now (aligned f.alignment n))
-    {b : NetworkStep} (eb : b ≡ happens e now a.network) where
-  loss_is : a ≡ happens (loss_up f) now (aligned f.alignment n)
-  loss_is = cc
+    {a : code.NetworkStep} (ea : a ≡ step_of (happens k now (aligned f.alignment n)))
+    {b : code.NetworkStep} (eb : b ≡ step_of (happens e now a.network)) where
+  abbrev first : NetworkStep
+  first = happens (loss_up f) now (aligned f.alignment n)
 
-  line_is : b ≡ happens (upward_event line f) now a.network
-  line_is = cc
+  abbrev second : NetworkStep
+  second = happens (upward_event line f) now first.network
 
-  pub heard_with_loss : f.lost ≡ true → record { network = b.network; notes = a.notes; reply = 0 } ≡ hears line now n
-  unfolding hears
-  heard_with_loss l = rw (← ef) (heard_lost line now n f a b loss_is line_is ef l)
+  first_is : a ≡ step_of first
+  first_is = rw (ea, ek)
 
-  no_refusal : b.reply ≡ 0
-  no_refusal = ap (λ s. s.reply) eb ∙ happens_reply e now a.network
+  second_is : b ≡ step_of second
+  second_is = rw (eb, first_is, ee)
 
-  pub heard_without : f.lost ≡ false → b ≡ hears line now n
-  unfolding hears
-  heard_without l = ap (λ k. record { network = b.network; notes = b.notes; reply = k }) no_refusal ∙ rw (← ef) (heard_kept line now n f a b loss_is line_is l)
+  pub heard_with_loss : f.lost ≡ true → Ok (record { network = b.network; notes = a.notes }) ≡ as_result (hears line now n)
+  unfolding hears as_result
+  heard_with_loss l = rw (second_is, first_is, ← ef) (ap (λ s. unless_refused s.reply (step_of s)) (heard_lost line now n f first second refl refl ef l))
+
+  pub heard_without : f.lost ≡ false → Ok b ≡ as_result (hears line now n)
+  unfolding hears as_result
+  heard_without l = rw (second_is, ← ef) (ap (λ s. unless_refused s.reply (step_of s)) (heard_kept line now n f first second refl refl l))

@@ -11,7 +11,7 @@ use Rattle.alignment.specs.Alignment.{alignment_in_range}
 use Rattle.heard_line.specs.declared.heard.Upward.{Upward}
 use Rattle.network.specs.Network.{unchanged, requests, timers, hears}
 use Rattle.network.specs.declared.Network.{Network}
-use Rattle.network.specs.declared.NetworkStep.{NetworkStep}
+use Rattle.network.specs.Steps.{NetworkStep}
 
 -- Refusal 1: each field in its range. The latest timer is one started when the last period has been
 -- run.

@@ -1,3 +1,4 @@
 -- The network end.
+pub mod Steps
 pub mod Network
 pub mod Calls

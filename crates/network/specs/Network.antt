@@ -16,7 +16,7 @@ use Rattle.alignment.specs.declared.Alignment.{Alignment}
 use Rattle.alignment.specs.declared.Followed.{Followed}
 use Rattle.heard_line.specs.declared.heard.Upward.{Upward}
 use Rattle.network.specs.declared.Network.{Network}
-use Rattle.network.specs.declared.NetworkStep.{NetworkStep}
+use Rattle.network.specs.Steps.{NetworkStep}
 
 -- "A fresh bus is in G1, unaligned, with no timer running."
 abbrev pub fresh : Network

@@ -16,6 +16,8 @@ use Rattle.text.specs.Text.{LF, space}
 use Rattle.note_text.specs.NoteText.{decimal, value_text, note, note_line, note_in, notes_in}
 use Rattle.note_text.specs.LineParts.{fixed_value, named, open_in, open_as, open_value}
 use Rattle.note_text.specs.declared.form.Form.{Form}
+use Rattle.note_text.specs.Room.{Put}
+use Rattle.note_text.proofs.RoomLaws.{put_put}
 
 -- a value in the part that the code decides and the other
 values_are : (v : Value) (value : List ℕ) → fixed_value v ++ open_value (open_in v) value ≡ value_text v value
@@ -48,7 +50,7 @@ notes_append now unit [] b = refl
 notes_append now unit (c ∷ a) b = rw (notes_append now unit a b)
 
 -- ---- The loop of `put_notes`: a note more, and all of them.
-pub notes_next : (form : Form) (now unit : ℕ) (codes : List ℕ) (i : ℕ) → i < length codes
+notes_next : (form : Form) (now unit : ℕ) (codes : List ℕ) (i : ℕ) → i < length codes
     → notes_in form (notes_of now unit (take (i + 1) codes))
     ≡ notes_in form (notes_of now unit (take i codes)) ++ note_in form (note now unit (get_or codes i 0) [])
 unfolding notes_in notes_of
@@ -60,6 +62,13 @@ notes_next form now unit codes i h =
       form_append form (notes_of now unit (take i codes)) (notes_of now unit (get_or codes i 0 ∷ [])),
       append-nil,
     )
+
+pub put_next : {room : List ℕ} {wrote r₁ : ℕ} {room₁ : List ℕ} {r₂ : ℕ} {room₂ : List ℕ} (form : Form) (now unit : ℕ) (codes : List ℕ) (i : ℕ)
+    → i < length codes
+    → Put room wrote (notes_in form (notes_of now unit (take i codes))) r₁ room₁
+    → Put room₁ r₁ (note_in form (note now unit (get_or codes i 0) [])) r₂ room₂
+    → Put room wrote (notes_in form (notes_of now unit (take (i + 1) codes))) r₂ room₂
+put_next form now unit codes i h p q = rw (notes_next form now unit codes i h) (put_put p q)
 
 -- as many as there are
 pub take_count : (codes : List ℕ) (n i : ℕ) → i ≡ min n (length codes) → take i codes ≡ take n codes

@@ -8,41 +8,19 @@ use super::room::put;
 pub fn put_half(room: &mut [u8], wrote: usize, n: u16) -> usize
     ensures { Put room.old wrote (half n) result room.new }
 {
-    put(room, wrote, &[(n % 256) as u8, (n / 256 % 256) as u8])
+    put(room, wrote, &n.to_le_bytes())
 }
 
 // Puts a number in four octets.
 pub fn put_word(room: &mut [u8], wrote: usize, n: u32) -> usize
     ensures { Put room.old wrote (word n) result room.new }
 {
-    put(
-        room,
-        wrote,
-        &[
-            (n % 256) as u8,
-            (n / 256 % 256) as u8,
-            (n / 65536 % 256) as u8,
-            (n / 16777216 % 256) as u8,
-        ],
-    )
+    put(room, wrote, &n.to_le_bytes())
 }
 
 // Puts a number in eight octets.
 pub fn put_double(room: &mut [u8], wrote: usize, n: u64) -> usize
     ensures { Put room.old wrote (double n) result room.new }
 {
-    put(
-        room,
-        wrote,
-        &[
-            (n % 256) as u8,
-            (n / 256 % 256) as u8,
-            (n / 65536 % 256) as u8,
-            (n / 16777216 % 256) as u8,
-            (n / 4294967296 % 256) as u8,
-            (n / 4294967296 / 256 % 256) as u8,
-            (n / 4294967296 / 65536 % 256) as u8,
-            (n / 4294967296 / 16777216 % 256) as u8,
-        ],
-    )
+    put(room, wrote, &n.to_le_bytes())
 }

@@ -15,7 +15,6 @@ use super::table::put_name;
 use super::value::put_value;
 use hdlc::LONGEST_BODY;
 use notes_and_cells::notes::Notes;
-use text::length::least;
 
 // The most digits of a number below 2^32.
 const MOST_DIGITS: usize = 10;
@@ -59,6 +58,7 @@ fn put_octets(
 }
 
 // Puts a note in the form asked for.
+// Kept: what may not change: `put_note` takes any number as the code, and says what is put for it.
 pub fn put_note(
     form: Form,
     room: &mut [u8],
@@ -102,17 +102,16 @@ pub fn put_notes(
     ensures { Put room.old wrote (notes_in form (notes_of period unit (noted notes))) result room.new }
 {
     let codes = [notes.1, notes.2, notes.3, notes.4];
-    let count = least(notes.0 as usize, 4);
-    let mut at = least(wrote, room.len());
-    let mut i: usize = 0;
-    while i < count {
-        at = put_plain(form, room, at, period, unit, codes[i]);
-        i += 1;
+    let count = (notes.0 as usize).min(4);
+    let mut at = wrote.min(room.len());
+    for code in &codes[..count] {
+        at = put_plain(form, room, at, period, unit, *code);
     }
     at
 }
 
 // Puts the report's first line: "The report's first line is printed for every book."
+#[tactic(auto, unfolding(crate::specs::NoteText::heading))]
 pub fn put_heading(room: &mut [u8], wrote: usize) -> usize
     ensures { Put room.old wrote heading result room.new }
 {
@@ -120,6 +119,7 @@ pub fn put_heading(room: &mut [u8], wrote: usize) -> usize
 }
 
 // Puts the last line of a stopped book: "the last line is `- - stopped` and the number"
+// Kept: what may not change: `put_stopped` takes any number, also one that no reason has.
 pub fn put_stopped(room: &mut [u8], wrote: usize, number: u8) -> usize
     ensures { Put room.old wrote (stopped_line number) result room.new }
 {

@@ -2,19 +2,14 @@
 ghost use Rattle.std.specs.Prelude.{◌≡◌};
 ghost use Rattle.note_text.specs.Room.{Put};
 
-use text::length::least;
-
 // Puts a text into the room, behind the `wrote` octets written so far, as much of it as there is
 // room for, and gives how many octets are written then.
+// Kept: no plainer as a struct: each of 34 functions gets a second clause, on its `&mut`'s name.
 pub fn put(room: &mut [u8], wrote: usize, text: &[u8]) -> usize
     ensures { Put room.old wrote text.now result room.new }
 {
-    let start = least(wrote, room.len());
-    let count = least(text.len(), room.len() - start);
-    let mut i: usize = 0;
-    while i < count {
-        room[start + i] = text[i];
-        i += 1;
-    }
-    start + i
+    let start = wrote.min(room.len());
+    let end = start + text.len().min(room.len() - start);
+    room[start..end].copy_from_slice(&text[..end - start]);
+    end
 }

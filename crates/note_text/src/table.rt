@@ -5,7 +5,6 @@ ghost use Rattle.note_text.specs.LineParts.{named, open_as};
 
 use super::room::put;
 use notes_and_cells::notes::{HEARD, REFUSED};
-use text::length::least;
 
 // What is left open of a note's value: nothing, a body, a number.
 #[derive(Clone, Copy)]
@@ -20,46 +19,49 @@ const NO_CODE: usize = REFUSED as usize + 1;
 
 // For each code, from 0 on: a space, the note's name, a space, and the value where the code decides
 // it.
-const NAMES: [u8; PLACES[NO_CODE + 1] as usize] =
-    *b"  - PH-ACT - PH-DEACT - MPH-ACT - MPH-DEACT - MPH-EI - MPH-EI1 - MPH-EI2 - \
-    MPH-II connected MPH-II disconnected heard  torn - done1 - done2 - dropped1 - dropped2 - refused   -";
-
-// Where each code's part begins; the last one's end.
-const PLACES: [u8; NO_CODE + 2] = [
-    0, 3, 12, 23, 33, 45, 54, 64, 74, 91, 111, 118, 125, 133, 141, 152, 163, 172, 175,
+const NAMES: [&[u8]; NO_CODE + 1] = [
+    b"  -",
+    b" PH-ACT -",
+    b" PH-DEACT -",
+    b" MPH-ACT -",
+    b" MPH-DEACT -",
+    b" MPH-EI -",
+    b" MPH-EI1 -",
+    b" MPH-EI2 -",
+    b" MPH-II connected",
+    b" MPH-II disconnected",
+    b" heard ",
+    b" torn -",
+    b" done1 -",
+    b" done2 -",
+    b" dropped1 -",
+    b" dropped2 -",
+    b" refused ",
+    b"  -",
 ];
+
+// Gives the note's name between spaces, and the value where the code decides it.
+fn name_of(code: u8) -> &'static [u8]
+    ensures { result.now ≡ named code }
+{
+    let k = (code as usize).min(NO_CODE);
+    NAMES[k]
+}
 
 // Puts the note's name between spaces, and the value where the code decides it.
 pub(crate) fn put_name(room: &mut [u8], wrote: usize, code: u8) -> usize
     ensures { Put room.old wrote (named code) result room.new }
 {
-    let k = least(code as usize, NO_CODE);
-    let start = PLACES[k] as usize;
-    let end = PLACES[k + 1] as usize;
-    put(room, wrote, &NAMES[start..end])
+    put(room, wrote, name_of(code))
 }
-
-// How many codes leave something of the value open.
-const OPEN: usize = 2;
-
-// They are these.
-const CODES: [u8; OPEN] = [HEARD, REFUSED];
-
-// What each leaves open.
-const VALUES: [OpenValue; OPEN] = [OpenValue::Body, OpenValue::Number];
 
 // Gives what a code leaves open of the value.
 pub(crate) fn open_as(code: u8) -> OpenValue
     ensures { result ≡ open_as code }
 {
-    let codes = CODES;
-    let values = VALUES;
-    let mut k: usize = 0;
-    while k < OPEN {
-        if codes[k] == code {
-            return values[k];
-        }
-        k += 1;
+    match code {
+        HEARD => OpenValue::Body,
+        REFUSED => OpenValue::Number,
+        _ => OpenValue::Nothing,
     }
-    OpenValue::Nothing
 }

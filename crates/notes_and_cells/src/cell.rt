@@ -2,6 +2,7 @@
 use super::notes::Notes;
 
 // What a cell does to a timer. In table 6-2 START and STOP are for T3, in table 6-3 for T1.
+// Kept: what may not change: timing's `started_by` and `timer_after` take any number as an action.
 pub const KEEP: u8 = 0;
 
 pub const START: u8 = 1;

@@ -1,4 +1,5 @@
 // The events of a book by number, in the order in which document 01 names them; 0 is none.
+// Kept: what may not change: bus_calls' `event` takes any number and refuses what is no event.
 pub const ON: u8 = 1;
 
 pub const OFF: u8 = 2;

@@ -1,6 +1,7 @@
 // The notes of one unit's call (document 01, "Bench book and report"). specs/Names.antt gives each
 // code its name and value.
 
+// Kept: what may not change: `note_text::note::put_note` takes any number as a code.
 pub const PH_ACT: u8 = 1;
 
 pub const PH_DEACT: u8 = 2;
@@ -35,5 +36,6 @@ pub const REFUSED: u8 = 16;
 
 // At most four notes: their number, and their codes in the order in which they stand. A place that
 // has none is 0.
+// Kept: what may not change: `note_text::note::put_notes` takes any count, and codes past it too.
 #[derive(Clone, Copy)]
 pub struct Notes(pub u8, pub u8, pub u8, pub u8, pub u8);

@@ -7,6 +7,7 @@ ghost use Rattle.packing.specs.Packer.{put_bit, put_bit_octets, put_bits, put_bi
 
 use crate::bits;
 use hdlc::LONGEST_BODY;
+use refusals::Refusal;
 
 // The bits of the longest body.
 const BODY_BITS: usize = 8 * LONGEST_BODY;
@@ -15,15 +16,6 @@ const BODY_BITS: usize = 8 * LONGEST_BODY;
 pub const IMAGE_ROOM: usize = (16 + BODY_BITS + BODY_BITS / 5 + 7) / 8;
 // A flag's bits as an octet.
 const FLAG: u8 = 126;
-
-// What the image call answers.
-#[derive(Clone, Copy)]
-pub enum Imaged {
-    // The image's length in bits.
-    Bits(u16),
-    // The number of the refusal.
-    Refused(u8),
-}
 
 // Where the packing of bits stands.
 #[derive(Clone, Copy)]
@@ -36,25 +28,22 @@ struct Packer {
     octet: u8,
 }
 
-// Packs a body's image into `out` and answers its length in bits. A buffer that has no room for the
-// longest image is refused with 2, a body that is empty or too long with 7.
+// Packs a body's image into `out` and gives its length in bits. A buffer that has no room for the
+// longest image is refused as a wrong slice, a body that is empty or too long for its length; `out`
+// then stays as it was.
 #[tactic(auto, using(crate::proofs::PackerLaws::taken_bits), unfolding(crate::specs::Packing::imaged, crate::specs::Packing::imaged_octets, crate::specs::Packing::image_meaning, crate::specs::Packing::image_or, crate::specs::Packing::is_body_length))]
-pub fn image(body: &[u8], out: &mut [u8]) -> Imaged
+pub fn image(body: &[u8], out: &mut [u8]) -> Result<u16, Refusal>
     ensures value { result ≡ imaged body.now out.old }
     ensures out_after { out.new ≡ imaged_octets body.now out.old }
     ensures out_after_2 { image_meaning result out.new ≡ image_or body.now out.old }
 {
     if out.len() < IMAGE_ROOM {
-        return Imaged::Refused(2);
+        return Err(Refusal::WrongSlice);
     }
-    if body.len() == 0 {
-        return Imaged::Refused(7);
+    if body.len() == 0 || LONGEST_BODY < body.len() {
+        return Err(Refusal::BodyLength);
     }
-    if body.len() <= LONGEST_BODY {
-        Imaged::Bits(pack_image(body, out))
-    } else {
-        Imaged::Refused(7)
-    }
+    Ok(pack_image(body, out))
 }
 
 // Gives bit i of packed octets, 0 past their end.
@@ -64,11 +53,7 @@ pub fn packed_bit(octets: &[u8], i: u16) -> bool
 {
     let at = (i / 8) as usize;
     let k = (i % 8) as u8;
-    if at < octets.len() {
-        (octets[at] >> k) % 2 == 1
-    } else {
-        false
-    }
+    at < octets.len() && (octets[at] >> k) % 2 == 1
 }
 
 impl Packer {
@@ -95,6 +80,7 @@ impl Packer {
     }
 
     // Puts the first `count` bits of `octets` as they are.
+    // Kept: the new form is no plainer: a loop for both needs a flag, and other bounds for each.
     fn put_plain(self, octets: &[u8], count: u16, out: &mut [u8]) -> Self
         requires count_bound { self.at + count ≤ 8 * image_room }
         requires count_bound_2 { self.ones + count ≤ 255 }
@@ -104,10 +90,8 @@ impl Packer {
         ensures out_after { out.new ≡ put_bits_octets (take count (body_bits octets.now)) self out.old }
     {
         let mut packer = self;
-        let mut i: u16 = 0;
-        while i < count {
+        for i in 0..count {
             packer = packer.put_bit(packed_bit(octets, i), out);
-            i += 1;
         }
         packer
     }
@@ -122,13 +106,11 @@ impl Packer {
     {
         let count = 8 * (body.len() as u16);
         let mut packer = self;
-        let mut i: u16 = 0;
-        while i < count {
+        for i in 0..count {
             packer = packer.put_bit(packed_bit(body, i), out);
             if packer.ones == 5 {
                 packer = packer.put_bit(false, out);
             }
-            i += 1;
         }
         packer
     }

@@ -22,7 +22,7 @@ use Rattle.heard_line.specs.declared.heard.Downward.{Downward}
 use Rattle.terminal.specs.Terminal.{with_fields, unchanged, acts, happens, aligned, heard_as, hears, timer}
 use Rattle.terminal.specs.Calls.{ready, checked}
 use Rattle.terminal.specs.declared.Terminal.{Terminal}
-use Rattle.terminal.specs.declared.TerminalStep.{TerminalStep}
+use Rattle.terminal.specs.Steps.{TerminalStep}
 use Rattle.period_hearing.specs.Hears.{stays_in_silence, rests, hearing_step, timer_step, has_note, heard_one, terminal_after, notes_after, told_after, no_notes}
 use Rattle.period_hearing.specs.declared.hears.HeardOne.{HeardOne}
 

@@ -10,7 +10,7 @@ use Rattle.timing.specs.declared.counts.Periods.{Periods}
 use Rattle.heard_line.specs.declared.heard.Downward.{Downward}
 use Rattle.terminal.specs.Calls as terminalCalls
 use Rattle.terminal.specs.declared.Terminal.{Terminal}
-use Rattle.terminal.specs.declared.TerminalStep.{TerminalStep}
+use Rattle.terminal.specs.Steps.{TerminalStep}
 use Rattle.notes_and_cells.specs.Notes.{packed_notes}
 use Rattle.notes_and_cells.specs.declared.notes.Notes.{Notes}
 use Rattle.period_hearing.specs.declared.hears.UnitNotes.{UnitNotes}

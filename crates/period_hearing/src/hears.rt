@@ -1,12 +1,14 @@
 // One terminal's hearing of a period, and then its timer.
 ghost use Rattle.std.specs.Prelude.{◌≡◌};
 ghost use Rattle.period_hearing.specs.Hears.{rests, heard_one};
+ghost use Rattle.terminal.specs.Steps.{step_of};
+ghost use Rattle.terminal.specs.Terminal.{unchanged};
 
 use heard_line::heard::Downward;
 use notes_and_cells::cell::NO_NOTES;
 use notes_and_cells::notes::Notes;
 use table_6_2::{F1, F3, F5, F7};
-use terminal::Terminal;
+use terminal::{Terminal, TerminalStep};
 use timing::counts::Periods;
 use timing::timers::due;
 
@@ -15,6 +17,14 @@ use timing::timers::due;
 pub struct UnitNotes {
     pub hearing: Notes,
     pub timers: Notes,
+}
+
+impl UnitNotes {
+    // No notes.
+    pub const NONE: UnitNotes = UnitNotes {
+        hearing: NO_NOTES,
+        timers: NO_NOTES,
+    };
 }
 
 // A terminal after a period, its notes, and whether there is any.
@@ -27,6 +37,7 @@ pub struct HeardOne {
 
 // Tests whether a terminal hears what it heard before, so that nothing happens: in F1 it hears
 // nothing; unaligned in F3, F4 or F5, no pulse; aligned in F7, INFO 4.
+#[tactic(auto, unfolding(crate::specs::Hears::rests))]
 pub fn rests(terminal: Terminal, line: Downward) -> bool
     ensures { result ≡ rests line terminal }
 {
@@ -44,6 +55,7 @@ pub fn rests(terminal: Terminal, line: Downward) -> bool
 }
 
 // Lets a terminal hear the line of period `now`, and then takes its timer at the next one's start.
+#[tactic(auto, using(crate::proofs::Rests::rested, terminal::proofs::Answered::heard_given, terminal::proofs::Answered::timed_given), unfolding(crate::specs::Hears::heard_one, crate::specs::Hears::timer_step, crate::specs::Hears::hearing_step, crate::specs::Hears::has_note))]
 pub fn hear_one(terminal: Terminal, line: Downward, now: Periods) -> HeardOne
     ensures { result ≡ heard_one line now terminal }
 {
@@ -52,26 +64,30 @@ pub fn hear_one(terminal: Terminal, line: Downward, now: Periods) -> HeardOne
         if !due(terminal.t3, next) {
             return HeardOne {
                 terminal,
-                notes: UnitNotes {
-                    hearing: NO_NOTES,
-                    timers: NO_NOTES,
-                },
+                notes: UnitNotes::NONE,
                 told: false,
             };
         }
     }
-    let heard = terminal.hear(line, now);
+    let heard = terminal.hear(line, now).unwrap_or(without_notes(terminal));
     let after = heard.terminal;
-    let timed = after.timer_due(next);
-    let last = timed.terminal;
-    let first = heard.notes;
-    let second = timed.notes;
+    let timed = after.timer_due(next).unwrap_or(without_notes(after));
     HeardOne {
-        terminal: last,
+        terminal: timed.terminal,
         notes: UnitNotes {
-            hearing: first,
-            timers: second,
+            hearing: heard.notes,
+            timers: timed.notes,
         },
-        told: (0 < first.0) | (0 < second.0),
+        told: (0 < heard.notes.0) | (0 < timed.notes.0),
+    }
+}
+
+// Gives what a call of a terminal leaves where it is refused: the record as it was.
+fn without_notes(terminal: Terminal) -> TerminalStep
+    ensures { result ≡ step_of (unchanged 0 terminal) }
+{
+    TerminalStep {
+        terminal,
+        notes: NO_NOTES,
     }
 }

@@ -10,6 +10,7 @@ use timing::counts::Periods;
 // Lets all terminals hear the line of a period, and then takes their timers at the next one's
 // start. Gives whether there is a note. Does nothing where the places for notes are not as many as
 // the terminals.
+#[tactic(auto, using(std::proofs::lemmas::Bool::Decides::nat_tests), unfolding(crate::specs::Hears::listen_reply, crate::specs::Hears::listen_terminals, crate::specs::Hears::listen_notes))]
 pub fn listen(
     terminals: &mut [Terminal],
     notes: &mut [UnitNotes],
@@ -24,14 +25,11 @@ pub fn listen(
         return false;
     }
     let mut told = false;
-    let mut i: usize = 0;
-    while i < terminals.len() {
-        let t = terminals[i];
-        let s = hear_one(t, line, period);
-        terminals[i] = s.terminal;
-        notes[i] = s.notes;
-        told = told | s.told;
-        i += 1;
+    for (i, terminal) in terminals.iter_mut().enumerate() {
+        let heard = hear_one(*terminal, line, period);
+        *terminal = heard.terminal;
+        notes[i] = heard.notes;
+        told |= heard.told;
     }
     told
 }

@@ -9,6 +9,7 @@ use notes_and_cells::notes::{Notes, REFUSED};
 
 // Puts the notes that an event's call hands back or, where the reply is the number of a refusal,
 // `refused` with that number.
+// Kept: what may not change: `put_event` takes any number as the reply, one of no reason too.
 pub fn put_event(
     room: &mut [u8],
     wrote: usize,

@@ -17,7 +17,6 @@ use note_text::room::put;
 use notes_and_cells::cell::NO_NOTES;
 use notes_and_cells::notes::{DONE1, DONE2, HEARD, Notes};
 use period_hearing::hears::UnitNotes;
-use text::length::least;
 
 // The most notes of what is heard in a period, beside the reader's: four of unit 0's hearing and six
 // of each terminal's, two of them of its frames.
@@ -32,6 +31,7 @@ pub const PERIOD_ROOM: usize = HEARD_ROOM + MOST_NOTES * LINE_ROOM;
 pub const PERIOD_OCTETS_ROOM: usize = (OCTETS_ROOM + LONGEST_BODY) + MOST_NOTES * OCTETS_ROOM;
 
 // Puts the reader's note: `heard` with the octets of the body, or `torn`.
+// Kept: what may not change: `put_period` takes any `RunAnswer`, with any `said` and `body`.
 fn put_reader(
     form: Form,
     room: &mut [u8],
@@ -48,26 +48,23 @@ fn put_reader(
         return put(room, wrote, b"");
     }
     if said == HEARD {
-        let count = least(body as usize, octets.len());
+        let count = (body as usize).min(octets.len());
         return put_note(form, room, wrote, period, 0, HEARD, &octets[..count]);
     }
     put_plain(form, room, wrote, period, 0, said)
 }
 
 // Gives the notes of completed frames.
+#[tactic(auto, unfolding(notes_and_cells::specs::Notes::noted))]
 fn done_notes(done1: bool, done2: bool) -> Notes
     ensures { noted result ≡ done_notes done1 done2 }
 {
-    if done1 {
-        if done2 {
-            return Notes(2, DONE1, DONE2, 0, 0);
-        }
-        return Notes(1, DONE1, 0, 0, 0);
+    match (done1, done2) {
+        (true, true) => Notes(2, DONE1, DONE2, 0, 0),
+        (true, false) => Notes(1, DONE1, 0, 0, 0),
+        (false, true) => Notes(1, DONE2, 0, 0, 0),
+        (false, false) => NO_NOTES,
     }
-    if done2 {
-        return Notes(1, DONE2, 0, 0, 0);
-    }
-    NO_NOTES
 }
 
 // Puts the notes of one terminal's hearing: those of completed frames come first.
@@ -102,25 +99,18 @@ fn put_terminals(
     ensures { (answer : RunAnswer) → answer.done1 ≡ done1 → answer.done2 ≡ done2
         → Put room.old wrote (notes_in form (terminals_told period answer 0 notes)) result room.new }
 {
-    let mut first = done1;
-    let mut second = done2;
-    let mut at = least(wrote, room.len());
-    let mut i: usize = 0;
-    while i < 8 {
-        let n = notes[i];
+    let mut at = wrote.min(room.len());
+    for (i, n) in notes.iter().enumerate() {
         at = put_terminal(
             form,
             room,
             at,
             period,
             i as u32 + 1,
-            first % 2 == 1,
-            second % 2 == 1,
+            (done1 >> i) % 2 == 1,
+            (done2 >> i) % 2 == 1,
             n.hearing,
         );
-        first = first / 2;
-        second = second / 2;
-        i += 1;
     }
     at
 }
@@ -135,12 +125,9 @@ fn put_timers(
 ) -> usize
     ensures { Put room.old wrote (notes_in form (timers_told period 0 notes)) result room.new }
 {
-    let mut at = least(wrote, room.len());
-    let mut i: usize = 0;
-    while i < 8 {
-        let n = notes[i];
+    let mut at = wrote.min(room.len());
+    for (i, n) in notes.iter().enumerate() {
         at = put_notes(form, room, at, period, i as u32 + 1, n.timers);
-        i += 1;
     }
     at
 }

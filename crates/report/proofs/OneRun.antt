@@ -14,7 +14,9 @@ use Rattle.d_reader.specs.Counters.{read_bit, read_octets}
 use Rattle.d_reader.specs.Calls.{answers_after}
 use Rattle.d_reader.specs.declared.Reader.{Reader}
 use Rattle.d_reader.specs.declared.ReaderAnswer.{ReaderAnswer}
-use Rattle.d_reader.specs.declared.ReaderAnswer.TheVariants.{Nothing, Heard, Torn, Refused}
+use Rattle.d_reader.specs.declared.ReaderAnswer.TheVariants.{Nothing, Heard, Torn}
+use Rattle.refusals.specs.declared.Refusal.{Refusal}
+use Rattle.std.specs.Prelude.{Result, Ok, Err}
 use Rattle.d_reader.proofs.AnswerLaws.{heard_call}
 use Rattle.bus_rules.specs.Bus.{Note}
 use Rattle.bus_rules.specs.Period.{heard_by, timed, period_run}
@@ -167,13 +169,13 @@ one_run k zero h l m = absurd (omega arith)
 one_run k (suc n) h l m = runs_on n k (in_order 0 k h) m
 
 -- ---- What it tells has room: a heard body is one that a body may be, and the notes are those of eight terminals.
-body_first : (a : ReaderAnswer) (more : List ReaderAnswer) → ((n : ℕ) → a ≡ Heard n → n ≤ longest_body) → body_of more ≤ longest_body →
+body_first : (a : Result ReaderAnswer Refusal) (more : List (Result ReaderAnswer Refusal)) → ((n : ℕ) → a ≡ Ok (Heard n) → n ≤ longest_body) → body_of more ≤ longest_body →
     body_of (a ∷ more) ≤ longest_body
 unfolding body_of
-body_first (Heard n) more h rest = h n refl
-body_first Torn more h rest = omega arith
-body_first Nothing more h rest = rest
-body_first (Refused k) more h rest = rest
+body_first (Ok (Heard n)) more h rest = h n refl
+body_first (Ok Torn) more h rest = omega arith
+body_first (Ok Nothing) more h rest = rest
+body_first (Err k) more h rest = rest
 
 body_most : (bs : List Bool) (r : Reader) (buf : List ℕ) → body_of (answers_after bs r buf) ≤ longest_body
 unfolding answers_after

@@ -6,6 +6,7 @@ use native.Mathlib.Numerals.{add-one}
 use native.Mathlib.Omega.{arith}
 use mathlib.Core.List.{List, [], ◌∷◌}
 use lib.ListN.{length, get_or, set}
+use Rattle.std.proofs.Common.{fold, replicate}
 use Rattle.slice_lemmas.specs.Over.{map_from, fold_from}
 
 -- the index of the element after j more, from k
@@ -177,3 +178,17 @@ module _ {S B : Type 0} (h : ℕ → S → B) where
   pub fill_all : (j : ℕ) (ys : List S) (zs us : List B) → us ≡ filled j 0 ys zs → length zs ≡ length ys → length ys ≤ j
       → us ≡ map_from h 0 ys
   fill_all j ys zs us eu e l = eu ∙ filled_past j 0 ys zs e l
+
+-- ---- Where the index says nothing, the words of the library.
+-- what each adds to what was gathered
+pub folded : {S A : Type 0} (g : ℕ → A → S → A) (h : A → S → A) → ((i : ℕ) (a : A) (y : S) → g i a y ≡ h a y)
+    → (k : ℕ) (a : A) (ys : List S) → fold_from g k a ys ≡ fold h a ys
+unfolding fold_from
+folded g h same k a [] = refl
+folded g h same k a (y ∷ ys) = rw (same k a y) (folded g h same (suc k) (h a y) ys)
+
+-- one value in every place
+pub all_one : {S B : Type 0} (b : B) (k : ℕ) (ys : List S) → map_from (λ (i : ℕ) (y : S). b) k ys ≡ replicate (length ys) b
+unfolding map_from
+all_one {B = B} b k [] = refl
+all_one {B = B} b k (y ∷ ys) = ap (λ (bs : List B). b ∷ bs) (all_one b (suc k) ys)

@@ -1,5 +1,5 @@
 // Calls of the system that have failed and are tried again.
-ghost use Rattle.std.specs.Prelude.{◌≡◌};
+ghost use Rattle.std.specs.Prelude.{◌≡◌, ◌<◌, ◌⊎◌, IfOk, IfErr};
 ghost use Rattle.std.specs.IoError.{raw_os_error};
 ghost use Rattle.streams.specs.Failure.{errno_of, errno_in, is_tried_again};
 
@@ -12,16 +12,9 @@ const EINTR: u64 = 4;
 
 const EAGAIN: u64 = 11;
 
-// How often a call is tried again at the most: nothing says that it ever succeeds, so the tries are
-// counted down, from a number that no run uses up.
+// How often a call is tried at the most: nothing says that it ever succeeds, so the tries are
+// counted, up to a number that no run comes to.
 pub(crate) const TRIES: u64 = u64::MAX;
-
-// How many octets a call has moved, and errno where it has failed, 0 where it has not.
-#[derive(Clone, Copy)]
-pub(crate) struct Moved {
-    pub(crate) count: usize,
-    pub(crate) error: u64,
-}
 
 // Gives errno as a number.
 fn number(error: i32) -> u64
@@ -31,13 +24,23 @@ fn number(error: i32) -> u64
 }
 
 // Gives errno of a call that has failed, 0 where the error has none: the system's errors have one.
-pub(crate) fn error_of(error: &io::Error) -> u64
+fn error_of(error: &io::Error) -> u64
     ensures { result ≡ errno_in (raw_os_error error.now) }
 {
-    match error.raw_os_error() {
-        Some(errno) => number(errno),
-        None => 0,
-    }
+    error.raw_os_error().map_or(0, number)
+}
+
+// Gives how many octets a call has moved, or errno where it has failed. An error that has none
+// counts as nothing moved.
+pub(crate) fn moved(said: io::Result<usize>) -> Result<usize, u64>
+    ensures ok { IfOk result (λ count. (said ≡ Ok count) ⊎ (count ≡ 0)) }
+    ensures err { IfErr result (λ errno. 0 < errno) }
+{
+    let error = match said {
+        Ok(count) => return Ok(count),
+        Err(error) => error_of(&error),
+    };
+    if error == 0 { Ok(0) } else { Err(error) }
 }
 
 // Tests whether a call that gave this errno is tried again. Where it could move nothing yet, waits

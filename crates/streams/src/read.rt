@@ -1,21 +1,16 @@
 // Standard input.
+ghost use Rattle.std.specs.Prelude.{IfOk};
 ghost use Rattle.streams.specs.Counts.{IsPrefixLen};
 
-use super::again::{Moved, TRIES, again, error_of};
+use super::again::{TRIES, again, moved};
 use super::failure::say;
 use std::io::Read;
 
 // Reads once.
-fn read_once(rt: &HostRuntime, part: &mut [u8]) -> Moved
-    ensures { IsPrefixLen result.count part.new }
+fn read_once(rt: &HostRuntime, part: &mut [u8]) -> Result<usize, u64>
+    ensures { IfOk result (λ count. IsPrefixLen count part.new) }
 {
-    match rt.stdin().read(part) {
-        Ok(count) => Moved { count, error: 0 },
-        Err(e) => Moved {
-            count: 0,
-            error: error_of(&e),
-        },
-    }
+    moved(rt.stdin().read(part))
 }
 
 // Reads into the part, from its front on, and gives how many octets have come: 0 where the input
@@ -23,15 +18,16 @@ fn read_once(rt: &HostRuntime, part: &mut [u8]) -> Moved
 pub fn read_in(rt: &HostRuntime, part: &mut [u8]) -> usize
     ensures { IsPrefixLen result part.new }
 {
-    let mut tries = TRIES;
-    let mut m = read_once(rt, part);
-    while m.error != 0 {
-        if tries == 0 || !again(rt, m.error) {
-            say(rt, b"bench: the book could not be read", m.error);
-            return 0;
+    let mut error = 0;
+    for _ in 0..TRIES {
+        match read_once(rt, part) {
+            Ok(count) => return count,
+            Err(e) => error = e,
         }
-        tries -= 1;
-        m = read_once(rt, part);
+        if !again(rt, error) {
+            break;
+        }
     }
-    m.count
+    say(rt, b"bench: the book could not be read", error);
+    0
 }

@@ -1,22 +1,16 @@
 // Standard output.
-ghost use Rattle.std.specs.Prelude.{◌+◌, ◌≤◌, length};
+ghost use Rattle.std.specs.Prelude.{IfOk, ◌+◌, ◌≤◌, length};
 
-use super::again::{Moved, TRIES, again, error_of};
+use super::again::{TRIES, again, moved};
 use super::failure::say;
 use std::io::Write;
 
 // Writes once, the octets from `done` on.
-fn write_once(rt: &HostRuntime, octets: &[u8], done: usize) -> Moved
+fn write_once(rt: &HostRuntime, octets: &[u8], done: usize) -> Result<usize, u64>
     requires { done ≤ length octets.now }
-    ensures { done + result.count ≤ length octets.now }
+    ensures { IfOk result (λ count. done + count ≤ length octets.now) }
 {
-    match rt.stdout().write(&octets[done..]) {
-        Ok(count) => Moved { count, error: 0 },
-        Err(e) => Moved {
-            count: 0,
-            error: error_of(&e),
-        },
-    }
+    moved(rt.stdout().write(&octets[done..]))
 }
 
 // Writes octets from `done` on, and gives how many were taken: 0 where the write has failed or has
@@ -25,17 +19,19 @@ fn write_some(rt: &HostRuntime, octets: &[u8], done: usize) -> usize
     requires { done ≤ length octets.now }
     ensures { done + result ≤ length octets.now }
 {
-    let mut tries = TRIES;
-    let mut m = write_once(rt, octets, done);
-    while m.count == 0 {
-        if tries == 0 || !again(rt, m.error) {
-            say(rt, b"bench: the report could not be written", m.error);
-            return 0;
+    let mut error = 0;
+    for _ in 0..TRIES {
+        match write_once(rt, octets, done) {
+            Ok(0) => error = 0,
+            Ok(count) => return count,
+            Err(e) => error = e,
         }
-        tries -= 1;
-        m = write_once(rt, octets, done);
+        if !again(rt, error) {
+            break;
+        }
     }
-    m.count
+    say(rt, b"bench: the report could not be written", error);
+    0
 }
 
 // Writes the octets, and gives how many were taken: all of them unless a write has failed.

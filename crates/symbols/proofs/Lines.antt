@@ -1,4 +1,4 @@
--- Lists that are compared, lines, and the answer of a test of a line.
+-- Lists that are compared, and lines.
 use mathlib.Core.Path.{◌≡◌, refl, sym, ◌∙◌}
 use mathlib.Core.Bool.{Bool, true, false, ◌&&◌, true≢false}
 use mathlib.Core.List.{List, [], ◌∷◌}
@@ -9,9 +9,8 @@ use lib.Dec.{eqb, leb}
 use lib.ListN.{length, get_or}
 use Rattle.test_lemmas.proofs.ByCases.{by_test}
 use Rattle.symbols.specs.Symbols.{minus, line_length, same_symbols, within, fits, is_line, tabulate, line_by}
-use Rattle.symbols.specs.Calls.{answer, tested}
-use Rattle.symbols.specs.declared.TestAnswer.{TestAnswer}
 use Rattle.symbols.proofs.Fill.{length_tabulate}
+use Rattle.symbols.proofs.Scan.{Tested, tested_done}
 
 -- Two lists that pass the test are the same, and a list passes it with itself.
 pub same_symbols_true : (xs ys : List ℕ) → same_symbols xs ys ≡ true → xs ≡ ys
@@ -28,7 +27,7 @@ unfolding same_symbols
 same_symbols_self [] = refl
 same_symbols_self (x ∷ xs) = rw (eq-eqb x x refl, same_symbols_self xs)
 
--- What a slice that fits is long, and the answer of a test of a line.
+-- What a slice that fits is long, and what its codes are.
 pub fits_length : (n top : ℕ) (l : List ℕ) → fits n top l ≡ true → length l ≡ n
 unfolding fits
 fits_length n top l e = by_test (eqb (length l) n) (λ t. eqb-true (length l) n t) (λ t. absurd (true≢false (sym e ∙ rw t)))
@@ -44,6 +43,11 @@ within_cons top x l = by_test (leb x top) (λ t. rw t) (λ t. rw t)
 pub fits_is : {n : ℕ} (top : ℕ) (l : List ℕ) {b : Bool} → length l ≡ n → b ≡ within top l → b ≡ fits n top l
 unfolding fits
 fits_is {n} top l h e = rw (eq-eqb (length l) n h) e
+
+-- The loop that tests a slice of the right length has come to its end.
+pub fits_done : (n top : ℕ) (l : List ℕ) (i : ℕ) (ok : Bool) → Tested (within top) l i ok → length l ≤ i → length l ≡ n → ok ≡ fits n top l
+unfolding within
+fits_done n top l i ok t e h = fits_is top l h (sym (tested_done t refl e))
 
 -- Each symbol of a line is at most minus, the highest code.
 abbrev pub Small : List ℕ → Type 0
@@ -72,10 +76,6 @@ pub line_by_lem : (f : ℕ → ℕ) → ((i : ℕ) → f i ≤ minus) → is_lin
 unfolding fits
 line_by_lem f h = rw (length_tabulate line_length f) (within_tabulate line_length f h)
 
--- A call that looks first whether it is lent a line: what its test of that says, and the answers.
-module _ (l : List ℕ) {b : Bool} (e : b ≡ is_line l) where
-  pub is_line_lem : b ≡ true → length l ≡ line_length
-  is_line_lem t = line_length_lem l (sym e ∙ t)
-
-  pub tested_is : b ≡ true → (test : List ℕ → Bool) (a : TestAnswer) (r : Bool) → r ≡ test l → a ≡ answer r → a ≡ tested test l
-  tested_is t test a r q p = rw (sym e ∙ t, p, q)
+-- A call that looks first whether it is lent a line: what its test of that says.
+pub is_line_lem : (l : List ℕ) {b : Bool} → b ≡ is_line l → b ≡ true → length l ≡ line_length
+is_line_lem l e t = line_length_lem l (sym e ∙ t)

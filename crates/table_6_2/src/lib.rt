@@ -13,6 +13,7 @@ use notes_and_cells::notes::{
 };
 
 // The numbers of the states.
+// Kept: what may not change: `cell` takes any number as a state, and a record may hold any.
 pub const F1: u8 = 1;
 
 pub const F2: u8 = 2;
@@ -30,6 +31,7 @@ pub const F7: u8 = 7;
 pub const F8: u8 = 8;
 
 // The numbers of the events, in the order of the table's rows.
+// Kept: what may not change: `cell` takes any number as an event and gives it an impossible cell.
 pub const ON_ROW: u8 = 1;
 
 pub const OFF_ROW: u8 = 2;
@@ -189,6 +191,7 @@ fn alignment_lost(state: u8) -> Cell
 }
 
 // Gives the number of the INFO that is sent in a state, 0 for a number that is no state.
+// Kept: the new form is no plainer: INFO 0 is a number of its own, and is what no state sends too.
 pub fn info_sent(state: u8) -> u8
     ensures { result ≡ info_in table.info_sent state }
 {

@@ -10,6 +10,7 @@ use notes_and_cells::cell::{Cell, KEEP, NO_NOTES, START, START_T2, STAY, STOP};
 use notes_and_cells::notes::{MPH_ACT, MPH_DEACT, MPH_EI, Notes, PH_ACT, PH_DEACT};
 
 // The numbers of the states.
+// Kept: what may not change: `cell` takes any number as a state, and a record may hold any.
 pub const G1: u8 = 1;
 
 pub const G2: u8 = 2;
@@ -19,6 +20,7 @@ pub const G3: u8 = 3;
 pub const G4: u8 = 4;
 
 // The numbers of the events, in the order of the table's rows.
+// Kept: what may not change: `cell` takes any number as an event and gives it an impossible cell.
 pub const AR_ROW: u8 = 1;
 
 pub const DR_ROW: u8 = 2;
@@ -147,6 +149,7 @@ fn alignment_lost(state: u8) -> Cell
 }
 
 // Gives the number of the INFO that is sent in a state, 0 for a number that is no state.
+// Kept: the new form is no plainer: INFO 0 is a number of its own, and is what no state sends too.
 pub fn info_sent(state: u8) -> u8
     ensures { result ≡ info_in table.info_sent state }
 {

@@ -29,7 +29,7 @@ use Rattle.heard_line.specs.declared.heard.Downward.{Downward}
 use Rattle.terminal.specs.Terminal.{unchanged, access_after, dropped_note, moved, acts, happens, aligned, no_timer, bars, switches_on, switches_off, requests, timer, heard_as, hears}
 use Rattle.terminal.specs.Calls.{terminal_in_range, ready, checked, switch_on_call, switch_off_call, request_call, timer_call, hear_call, hand_over_call, hands_over, holding}
 use Rattle.terminal.specs.declared.Terminal.{Terminal}
-use Rattle.terminal.specs.declared.TerminalStep.{TerminalStep}
+use Rattle.terminal.specs.Steps.{TerminalStep}
 
 -- ---- the calls, where the record is in range and the period one that a bus runs
 checked_called : (step : ℕ → Terminal → TerminalStep) (now : ℕ) (t : Terminal) → now ≤ most_periods → terminal_in_range t ≡ true → checked step (at_period now) t ≡ step now t

@@ -1,12 +1,11 @@
 -- Every call leaves every field of a terminal in its range.
-use mathlib.Core.Path.{◌≡◌, refl, sym}
-use mathlib.Core.Bool.{Bool, true, ◌&&◌}
+use mathlib.Core.Path.{◌≡◌, refl}
+use mathlib.Core.Bool.{true}
 use Prim.Native.Nat.{ℕ, ◌+◌, ◌≤◌}
 use native.Mathlib.Omega.{arith}
 use lib.Dec.{ltb, eqb}
 use borrow.Author.Tests.{le-ltb, ltb-false, leb-true}
 use Rattle.test_lemmas.proofs.ByCases.{by_test, both, neither}
-use Rattle.test_lemmas.proofs.Operators.{and_cond}
 use Rattle.notes_and_cells.specs.Cells.{cell_of}
 use Rattle.notes_and_cells.specs.declared.cell.Cell.{Cell}
 use Rattle.notes_and_cells.specs.declared.cell.Cell.TheVariants.{To, Stay, Impossible, Absent}
@@ -32,7 +31,7 @@ use Rattle.dchannel.proofs.RangesKept as dchannel
 use Rattle.terminal.specs.Terminal.{fresh, with_access, access_after, acts, moved, happens, aligned, no_timer, bars, switches_on, switches_off, requests, timer, heard_as, hears}
 use Rattle.terminal.specs.Calls.{terminal_in_range, ready, checked, switch_on_call, switch_off_call, request_call, timer_call, hear_call, hand_over_call, holding, hands_over}
 use Rattle.terminal.specs.declared.Terminal.{Terminal}
-use Rattle.terminal.specs.declared.TerminalStep.{TerminalStep}
+use Rattle.terminal.specs.Steps.{TerminalStep}
 
 -- What the range of the record says, field by field.
 pub record TerminalFits (t : Terminal) : Type 0 where
@@ -146,11 +145,6 @@ module _ (now : ℕ) (l : now ≤ most_periods) where
 pub ready_now : (now : Periods) (t : Terminal) → ready now t ≡ true → now.0 ≤ most_periods
 unfolding ready
 ready_now now t h = leb-true now.0 most_periods (both (terminal_in_range t) (periods_in_range now) h).1
-
--- Ready, as the code tests it.
-pub ready_both : (now : Periods) (t : Terminal) {a b : Bool} → a ≡ terminal_in_range t → b ≡ periods_in_range now → ready now t ≡ (a && b)
-unfolding ready
-ready_both now t {a} {b} p q = rw (← p, ← q) (sym (and_cond a b))
 
 -- Every call.
 checked_in_range : (step : ℕ → Terminal → TerminalStep) → ((now : ℕ) → now ≤ most_periods → (t : Terminal) → TerminalFits t → StepFits (step now t)) →

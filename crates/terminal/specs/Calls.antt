@@ -3,11 +3,10 @@
 -- Interface: every name. Assumes nothing.
 use Rattle.std.specs.Prelude.{Bool, false, cond, [], ℕ, ◌+◌, eqb, ltb}
 use Rattle.dchannel.specs.Access.{normal2}
-use Rattle.dchannel.specs.Calls.{handed}
+use Rattle.dchannel.specs.Calls.{Handed, handed}
 use Rattle.dchannel.specs.Ranges.{access_in_range}
 use Rattle.notes_and_cells.specs.Notes.{packed_notes}
 use Rattle.dchannel.specs.declared.access.Class.{Class}
-use Rattle.dchannel.specs.declared.access.Handed.{Handed}
 use Rattle.table_6_2.specs.Table62.{F1, F7, F8}
 use Rattle.timing.specs.Counts.{most_periods}
 use Rattle.timing.specs.Calls.{periods_in_range}
@@ -17,7 +16,7 @@ use Rattle.alignment.specs.Alignment.{alignment_in_range}
 use Rattle.heard_line.specs.declared.heard.Downward.{Downward}
 use Rattle.terminal.specs.Terminal.{with_access, unchanged, switches_on, switches_off, requests, timer, hears}
 use Rattle.terminal.specs.declared.Terminal.{Terminal}
-use Rattle.terminal.specs.declared.TerminalStep.{TerminalStep}
+use Rattle.terminal.specs.Steps.{TerminalStep}
 
 -- Refusal 1: each field in its range. The latest T3 is one started when the last period has been
 -- run.

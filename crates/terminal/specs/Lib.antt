@@ -1,3 +1,4 @@
 -- A terminal.
+pub mod Steps
 pub mod Terminal
 pub mod Calls

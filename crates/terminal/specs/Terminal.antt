@@ -22,7 +22,7 @@ use Rattle.alignment.specs.declared.Alignment.{Alignment}
 use Rattle.alignment.specs.declared.Followed.{Followed}
 use Rattle.heard_line.specs.declared.heard.Downward.{Downward}
 use Rattle.terminal.specs.declared.Terminal.{Terminal}
-use Rattle.terminal.specs.declared.TerminalStep.{TerminalStep}
+use Rattle.terminal.specs.Steps.{TerminalStep}
 
 -- "A fresh bus is in F1, unaligned, with no timer running and all levels normal."
 abbrev pub fresh : Terminal

@@ -1,13 +1,15 @@
 // A terminal: states F1 to F8, alignment, T3 and its D access.
 #![tactic(auto)]
 
-ghost use Rattle.std.specs.Prelude.{◌≡◌, cond, ◌++◌};
+ghost use Rattle.std.specs.Prelude.{◌≡◌, cond, ◌++◌, Ok, Err, Some, None};
 ghost use Rattle.notes_and_cells.specs.declared.cell.Cell.TheVariants.{To};
 ghost use Rattle.notes_and_cells.specs.Cells.{cell_of};
 ghost use Rattle.notes_and_cells.specs.CellParts.{is_void};
 ghost use Rattle.notes_and_cells.specs.Notes.{packed_notes, noted};
+ghost use Rattle.refusals.specs.declared.Refusal.TheVariants.{OutOfRange};
 ghost use Rattle.table_6_2.specs.Table62.{table62};
 ghost use Rattle.terminal.specs.Calls as calls;
+ghost use Rattle.terminal.specs.Steps.{step_of, as_result};
 ghost use Rattle.terminal.specs.Terminal as spec;
 
 use alignment::Alignment;
@@ -15,6 +17,7 @@ use dchannel::access::{Access, Class, Left};
 use heard_line::heard::Downward;
 use notes_and_cells::cell::{Cell, NO_NOTES};
 use notes_and_cells::notes::{DROPPED1, DROPPED2, Notes};
+use refusals::Refusal;
 use table_6_2::{AR_ROW, F1, F7, F8, OFF_ROW, ON_ROW, T3_ROW, cell};
 use timing::counts::{MOST_PERIODS, Periods};
 use timing::timers::{T3, due, timer_after};
@@ -22,6 +25,8 @@ use timing::timers::{T3, due, timer_after};
 // The latest T3: one started when the last period has been run.
 const LATEST_T3: u64 = MOST_PERIODS as u64 + T3 as u64;
 
+// Kept: what may not change: the public calls take a record with any `t3` (0 for none) and any
+// `state`, and refuse one that is out of range with `OutOfRange`.
 #[derive(Clone, Copy)]
 pub struct Terminal {
     // The period at whose start T3 is due, 0 for none.
@@ -32,13 +37,12 @@ pub struct Terminal {
     pub alignment: Alignment,
 }
 
-// What a call gives: the record, the notes, and 0 or the number of the refusal with the record as
-// it was.
+// What a call gives: the record and the notes. Where a call is refused, the terminal keeps the
+// record as it was.
 #[derive(Clone, Copy)]
 pub struct TerminalStep {
     pub terminal: Terminal,
     pub notes: Notes,
-    pub reply: u8,
 }
 
 impl Terminal {
@@ -59,146 +63,109 @@ impl Terminal {
     pub fn in_range(self) -> bool
         ensures { result ≡ calls.terminal_in_range self }
     {
-        if self.state < F1 {
-            return false;
-        }
-        if F8 < self.state {
-            return false;
-        }
-        if LATEST_T3 < self.t3 {
-            return false;
-        }
-        self.alignment.in_range() && self.access.in_range()
+        F1 <= self.state
+            && self.state <= F8
+            && self.t3 <= LATEST_T3
+            && self.alignment.in_range()
+            && self.access.in_range()
     }
 
-    // Switches power on: refused with 5 outside F1. It finds the terminal unaligned, with no run.
-    #[tactic(auto, using(test_lemmas::proofs::Operators::cond_not, crate::proofs::Barred::happens_void), unfolding(crate::specs::Calls::checked, crate::specs::Terminal::switches_on, crate::specs::Terminal::aligned, crate::specs::Terminal::bars))]
-    pub fn switch_on(self, now: Periods) -> TerminalStep
-        ensures { result ≡ calls.switch_on_call now self }
+    // Switches power on: barred outside F1. It finds the terminal unaligned, with no run.
+    #[tactic(auto, using(crate::proofs::Barred::refused_by_1, crate::proofs::Barred::switched_on), unfolding(crate::specs::Calls::checked, crate::specs::Terminal::aligned))]
+    pub fn switch_on(self, now: Periods) -> Result<TerminalStep, Refusal>
+        ensures { result ≡ as_result (calls.switch_on_call now self) }
     {
-        self.when(
-            self.state == F1,
-            5,
-            self.t3,
-            Alignment::fresh(),
-            0,
-            ON_ROW,
-            now,
-        )
-    }
-
-    // Switches power off: refused with 5 in F1. It stops T3.
-    #[tactic(auto, using(test_lemmas::proofs::Operators::cond_not, crate::proofs::Barred::happens_void), unfolding(crate::specs::Calls::checked, crate::specs::Terminal::switches_off, crate::specs::Terminal::no_timer, crate::specs::Terminal::bars))]
-    pub fn switch_off(self, now: Periods) -> TerminalStep
-        ensures { result ≡ calls.switch_off_call now self }
-    {
-        self.when(self.state != F1, 5, 0, self.alignment, 0, OFF_ROW, now)
-    }
-
-    // Takes `ar`, the request for activation: refused with 5 where its cell is impossible or empty.
-    pub fn request(self, now: Periods) -> TerminalStep
-        ensures { result ≡ calls.request_call now self }
-    {
-        self.when(true, 0, self.t3, self.alignment, 5, AR_ROW, now)
-    }
-
-    // Hands over a frame of a class, whose image has `length` bits: refused with 6 outside F7, and
-    // else with 7 or 8 as the D access refuses it.
-    #[tactic(auto, unfolding(crate::specs::Calls::hand_over_call, crate::specs::Calls::hands_over, crate::specs::Calls::holding))]
-    pub fn hand_over(self, class: Class, length: u16) -> TerminalStep
-        ensures { result ≡ calls.hand_over_call class length self }
-    {
-        if self.in_range() {
-            if self.state == F7 {
-                let handed = self.access.hand(class, length);
-                self.with_access(handed.access).unchanged(handed.reply)
-            } else {
-                self.unchanged(6)
-            }
-        } else {
-            self.unchanged(1)
+        self.ready(now)?;
+        if self.state != F1 {
+            return Err(Refusal::Barred);
         }
+        let alignment = Alignment::fresh();
+        Ok(Terminal { alignment, ..self }.takes(ON_ROW, now))
+    }
+
+    // Switches power off: barred in F1. It stops T3.
+    #[tactic(auto, using(crate::proofs::Barred::refused_by_1, crate::proofs::Barred::switched_off), unfolding(crate::specs::Calls::checked, crate::specs::Terminal::no_timer))]
+    pub fn switch_off(self, now: Periods) -> Result<TerminalStep, Refusal>
+        ensures { result ≡ as_result (calls.switch_off_call now self) }
+    {
+        self.ready(now)?;
+        if self.state == F1 {
+            return Err(Refusal::Barred);
+        }
+        Ok(Terminal { t3: 0, ..self }.takes(OFF_ROW, now))
+    }
+
+    // Takes `ar`, the request for activation: barred where its cell is impossible or empty.
+    #[tactic(auto, using(crate::proofs::Barred::refused_by_1, crate::proofs::Barred::asked), unfolding(crate::specs::Calls::checked))]
+    pub fn request(self, now: Periods) -> Result<TerminalStep, Refusal>
+        ensures { result ≡ as_result (calls.request_call now self) }
+    {
+        self.ready(now)?;
+        self.happens(AR_ROW, now).ok_or(Refusal::Barred)
+    }
+
+    // Hands over a frame of a class, whose image has `length` bits: refused outside F7, and else as
+    // the D access refuses it.
+    #[tactic(auto, unfolding(crate::specs::Calls::hand_over_call, crate::specs::Calls::hands_over, crate::specs::Calls::holding, dchannel::specs::Calls::handed, crate::specs::Steps::as_result))]
+    pub fn hand_over(self, class: Class, length: u16) -> Result<TerminalStep, Refusal>
+        ensures { result ≡ as_result (calls.hand_over_call class length self) }
+    {
+        if !self.in_range() {
+            return Err(Refusal::OutOfRange);
+        }
+        if self.state != F7 {
+            return Err(Refusal::OutsideF7);
+        }
+        let access = self.access.hand(class, length)?;
+        Ok(self.with_access(access).stays(NO_NOTES))
     }
 
     // Starts a period: takes the event of T3 where it is due, and T3 is spent.
-    #[tactic(auto, using(crate::proofs::Barred::happens_void), unfolding(crate::specs::Calls::checked, crate::specs::Terminal::timer, crate::specs::Terminal::no_timer))]
-    pub fn timer_due(self, now: Periods) -> TerminalStep
-        ensures { result ≡ calls.timer_call now self }
+    #[tactic(auto, using(crate::proofs::Barred::refused_by_1, crate::proofs::Barred::timed), unfolding(crate::specs::Calls::checked, crate::specs::Terminal::no_timer))]
+    pub fn timer_due(self, now: Periods) -> Result<TerminalStep, Refusal>
+        ensures { result ≡ as_result (calls.timer_call now self) }
     {
-        self.when(due(self.t3, now), 0, 0, self.alignment, 0, T3_ROW, now)
+        self.ready(now)?;
+        if !due(self.t3, now) {
+            return Ok(self.stays(NO_NOTES));
+        }
+        Ok(Terminal { t3: 0, ..self }.takes(T3_ROW, now))
     }
 
     // Hears a period's downward line: takes the event that the line is. A terminal in F1 hears
     // nothing.
-    #[tactic(auto, using(crate::proofs::Barred::heard_is), unfolding(crate::specs::Calls::checked, crate::specs::Terminal::aligned))]
-    pub fn hear(self, line: Downward, now: Periods) -> TerminalStep
-        ensures { result ≡ calls.hear_call line now self }
+    #[tactic(auto, using(crate::proofs::Barred::refused_by_1, crate::proofs::Barred::heard), unfolding(crate::specs::Calls::checked, crate::specs::Terminal::heard_as, crate::specs::Terminal::aligned))]
+    pub fn hear(self, line: Downward, now: Periods) -> Result<TerminalStep, Refusal>
+        ensures { result ≡ as_result (calls.hear_call line now self) }
     {
+        self.ready(now)?;
+        if self.state == F1 {
+            return Ok(self.stays(NO_NOTES));
+        }
         let f = self.alignment.follow(line.pulse, line.framed);
-        self.when(
-            self.state != F1,
-            0,
-            self.t3,
-            f.alignment,
-            0,
-            line.event(f),
-            now,
-        )
+        let alignment = f.alignment;
+        Ok(Terminal { alignment, ..self }.takes(line.event(f), now))
     }
 
-    // If `holds`, takes an event at the record with `t3` and `alignment` in the place of its own,
-    // and replies `barred` where the event's cell is impossible or empty; else changes nothing and
-    // replies `reply`. Where record or period is out of range, the call is refused with 1.
-    #[tactic(auto, using(crate::proofs::RangesKept::ready_both), unfolding(crate::specs::Calls::checked))]
-    fn when(
-        self,
-        holds: bool,
-        reply: u8,
-        t3: u64,
-        alignment: Alignment,
-        barred: u8,
-        event: u8,
-        now: Periods,
-    ) -> TerminalStep
-        ensures { result ≡ calls.checked
-            (λ p t. cond holds
-            (cond (is_void (cell_of table62 event t.state))
-            (spec.unchanged barred (spec.with_fields t3 t.access t.state alignment t))
-            (spec.happens event p (spec.with_fields t3 t.access t.state alignment t)))
-            (spec.unchanged reply t))
-            now self }
+    // Refuses a call where the record or the period is out of range.
+    #[tactic(auto, unfolding(crate::specs::Calls::ready))]
+    fn ready(self, now: Periods) -> Result<(), Refusal>
+        ensures { result ≡ cond (calls.ready now self) (Ok tt) (Err OutOfRange) }
     {
-        if self.in_range() & now.in_range() {
-            if holds {
-                self.with_fields(t3, self.access, self.state, alignment)
-                    .happens(barred, event, now)
-            } else {
-                self.unchanged(reply)
-            }
+        if self.in_range() && now.in_range() {
+            Ok(())
         } else {
-            self.unchanged(1)
+            Err(Refusal::OutOfRange)
         }
     }
 
-    // Gives the record as it is, with no notes and a reply.
-    fn unchanged(self, reply: u8) -> TerminalStep
-        ensures { result ≡ spec.unchanged reply self }
-    {
-        TerminalStep {
-            terminal: self,
-            notes: NO_NOTES,
-            reply,
-        }
-    }
-
-    // Gives the record as it is, with notes and a reply.
-    fn stays(self, notes: Notes, reply: u8) -> TerminalStep
-        ensures { result ≡ record { terminal = self; notes = notes; reply = reply } }
+    // Gives the record as it is, with notes.
+    fn stays(self, notes: Notes) -> TerminalStep
+        ensures { result ≡ record { terminal = self; notes = notes } }
     {
         TerminalStep {
             terminal: self,
             notes,
-            reply,
         }
     }
 
@@ -218,7 +185,7 @@ impl Terminal {
     pub fn with_access(self, access: Access) -> Self
         ensures { result ≡ spec.with_access access self }
     {
-        self.with_fields(self.t3, access, self.state, self.alignment)
+        Terminal { access, ..self }
     }
 
     // Moves to a cell's next state, with the cell's timer action; its notes come after the note of
@@ -226,27 +193,32 @@ impl Terminal {
     #[tactic(auto, unfolding(crate::specs::Terminal::acts, crate::specs::Terminal::moved))]
     fn moves(self, next: u8, action: u8, notes: Notes, now: Periods) -> TerminalStep
         requires { packed_notes (noted notes) ≡ notes }
-        ensures { result ≡ spec.acts (To next action notes) now.0 self }
+        ensures { result ≡ step_of (spec.acts (To next action notes) now.0 self) }
     {
         let way = access_after(self.state, next, self.access);
         let t3 = timer_after(T3, action, now, self.t3);
         self.with_fields(t3, way.access, next, self.alignment)
-            .stays(after_dropped(way.dropped, notes), 0)
+            .stays(after_dropped(way.dropped, notes))
     }
 
-    // Takes an event of table 6-2: does what its cell says and replies 0; where the cell is
-    // impossible or empty, changes nothing and replies `barred`.
-    fn happens(self, barred: u8, event: u8, now: Periods) -> TerminalStep
-        ensures { result ≡ cond (is_void (cell_of table62 event self.state))
-            (spec.unchanged barred self) (spec.happens event now.0 self) }
+    // Takes an event of table 6-2: does what its cell says, where this is not impossible or empty.
+    #[tactic(auto, unfolding(crate::specs::Terminal::happens, crate::specs::Terminal::acts))]
+    fn happens(self, event: u8, now: Periods) -> Option<TerminalStep>
+        ensures { result ≡ cond (is_void (cell_of table62 event self.state)) None (Some (step_of (spec.happens event now.0 self))) }
     {
-        let found = cell(event, self.state);
-        match found {
-            Cell::To(next, action, notes) => self.moves(next, action, notes, now),
-            Cell::Stay(notes) => self.stays(notes, 0),
-            Cell::Impossible => self.unchanged(barred),
-            Cell::Absent => self.unchanged(barred),
+        match cell(event, self.state) {
+            Cell::To(next, action, notes) => Some(self.moves(next, action, notes, now)),
+            Cell::Stay(notes) => Some(self.stays(notes)),
+            Cell::Impossible | Cell::Absent => None,
         }
+    }
+
+    // Takes an event that is no request: where its cell is impossible or empty, it changes nothing.
+    #[tactic(auto, using(crate::proofs::Barred::happened))]
+    fn takes(self, event: u8, now: Periods) -> TerminalStep
+        ensures { result ≡ step_of (spec.happens event now.0 self) }
+    {
+        self.happens(event, now).unwrap_or(self.stays(NO_NOTES))
     }
 }
 

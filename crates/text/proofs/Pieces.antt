@@ -9,6 +9,8 @@ use lib.Dec.{eqb, ltb, leb-suc-suc}
 use lib.ListN.{length, get_or, take, drop, length-drop, drop_of_length-le}
 use lib.Seq.{drop-cons, drop-drop}
 use borrow.Author.Tests.{eq-eqb, ne_eqb, lt-ltb, le-ltb}
+use Rattle.std.specs.List.{list_all}
+use Rattle.std.proofs.lemmas.List.Recursion.{same_from_clauses}
 use Rattle.test_lemmas.proofs.ByCases.{by_test, clash}
 use Rattle.symbols.proofs.Scan.{Rest, rest_here, rest_next, rest_done, Tested, tested_next, tested_done, same_symbols_short}
 use Rattle.text.specs.Text.{onto, split, upto, same, all, is_other}
@@ -165,6 +167,11 @@ upto_on sep (suc n) (c ∷ t) h =
 
 pub upto_skip : (sep n i : ℕ) (t : List ℕ) → n ≤ upto sep (drop i t) → i + n + upto sep (drop (i + n) t) ≡ i + upto sep (drop i t)
 upto_skip sep n i t h = omega (arith, upto_on sep n (drop i t) h, ap (λ (l : List ℕ). upto sep l) (drop-drop n i t))
+
+-- What std's `all` answers with such a test.
+pub all_listed : (p : ℕ → Bool) (t : List ℕ) → all p t ≡ list_all p t
+unfolding all
+all_listed p t = same_from_clauses (all p) (list_all p) (λ c b. p c && b) refl (λ _ _. refl) (λ _ _. refl) t
 
 -- ---- Two texts.
 pub same_length : (a b : List ℕ) → (length a ≡ length b → ⊥) → same a b ≡ false

@@ -3,7 +3,6 @@ ghost use Rattle.std.specs.Prelude.{◌≡◌};
 ghost use Rattle.text.specs.Fields as spec;
 ghost use Rattle.text.specs.Part.{IsPart};
 
-use crate::length::least;
 use crate::part::part;
 use crate::piece::{long_piece_end, piece_end};
 
@@ -44,9 +43,9 @@ pub fn field(line: &[u8], ends: Ends, which: usize) -> &[u8]
     let most = line.len();
     match which {
         0 => part(line, 0, ends.first),
-        1 => part(line, least(ends.first, most) + 1, ends.second),
-        2 => part(line, least(ends.second, most) + 1, ends.third),
-        3 => part(line, least(ends.third, most) + 1, ends.fourth),
+        1 => part(line, ends.first.min(most) + 1, ends.second),
+        2 => part(line, ends.second.min(most) + 1, ends.third),
+        3 => part(line, ends.third.min(most) + 1, ends.fourth),
         _ => part(line, 0, 0),
     }
 }

@@ -3,7 +3,6 @@
 #![tactic(auto)]
 
 pub mod field;
-pub mod length;
 pub mod octets;
 pub mod part;
 pub mod piece;

@@ -27,24 +27,12 @@ pub fn is_letter(c: u8) -> bool
 pub fn all_hex(text: &[u8]) -> bool
     ensures { result ≡ spec.all spec.is_hex text.now }
 {
-    let mut ok = true;
-    let mut i: usize = 0;
-    while i < text.len() {
-        ok = ok & is_hex(text[i]);
-        i += 1;
-    }
-    ok
+    text.iter().all(|c| is_hex(*c))
 }
 
 // Tests whether a text is letters of a hit alone.
 pub fn all_letters(text: &[u8]) -> bool
     ensures { result ≡ spec.all spec.is_letter text.now }
 {
-    let mut ok = true;
-    let mut i: usize = 0;
-    while i < text.len() {
-        ok = ok & is_letter(text[i]);
-        i += 1;
-    }
-    ok
+    text.iter().all(|c| is_letter(*c))
 }

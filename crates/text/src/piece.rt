@@ -10,14 +10,12 @@ pub const LF: u8 = b'\n';
 pub fn piece_end(text: &[u8], from: usize, sep: u8) -> usize
     ensures { result ≡ from + upto sep (drop from text.now) }
 {
-    let mut i = from;
-    while i < text.len() {
+    for i in from..text.len() {
         if text[i] == sep {
             return i;
         }
-        i += 1;
     }
-    i
+    from.max(text.len())
 }
 
 // How many octets are looked at together.
@@ -28,10 +26,8 @@ fn is_one_piece(text: &[u8], sep: u8) -> bool
     ensures { result ≡ all (is_other sep) text.now }
 {
     let mut ok = true;
-    let mut i: usize = 0;
-    while i < text.len() {
-        ok = ok & (text[i] != sep);
-        i += 1;
+    for c in text {
+        ok &= *c != sep;
     }
     ok
 }

@@ -2,11 +2,10 @@
 ghost use Rattle.std.specs.Prelude.{◌≡◌};
 ghost use Rattle.text.specs.Text as spec;
 
-use symbols::same_symbols;
-
 // Tests whether two texts are the same, octet for octet.
+#[tactic(auto, using(symbols::proofs::Comparing::pointwise_same))]
 pub fn same(a: &[u8], b: &[u8]) -> bool
     ensures { result ≡ spec.same a.now b.now }
 {
-    same_symbols(a, b)
+    a == b
 }

@@ -1,4 +1,5 @@
 // Timers: the period at whose start one is due, 0 for none.
+// Kept: what may not change: `due` takes any number as a timer, and the public records hold any.
 ghost use Rattle.std.specs.Prelude.{◌≡◌};
 ghost use Rattle.timing.specs.Timers.{due, started_by, timer_after};
 ghost use Rattle.timing.specs.Clear.{clear};

@@ -44,9 +44,9 @@ line-requires c =
       value_len_bound = short;
     }
 
-pub returns-in-Begun-clause-steps_by : goal.returns-in-Begun-clause-steps_by
+pub returns-in-Begun : goal.returns-in-Begun
 unfolding taken_by
-returns-in-Begun-clause-steps_by c =
+returns-in-Begun c =
     let a = c.args in
     let r = c.requires in
     let g = a.w.progress in
@@ -55,15 +55,15 @@ returns-in-Begun-clause-steps_by c =
     let n = c.octets_of.ensures ∙ ap taken_by e in
     (turns a.w a.images.now a.octets.now a.letters.now a.room.now a.said a.value.now at_lines g.begun g.over _ a.w.wrote 0 _
     (λ text at whole q. steps_at _ (step_first text whole k g.stage g.begun g.over at a.room.now a.w.wrote
-    r.goes.fits r.begun_value r.over_value (q ∙ e)) (ap (λ (k : ℕ). at + k) (sym n))) c.stays.result c.stays.ensures).0
+    r.goes.fits r.begun_value r.over_value (q ∙ e)) (ap (λ (k : ℕ). at + k) (sym n))) c.stays.result c.stays.ensures)
 
-pub returns-in-Entry-clause-steps_by : goal.returns-in-Entry-clause-steps_by
-returns-in-Entry-clause-steps_by c =
+pub returns-in-Entry : goal.returns-in-Entry
+returns-in-Entry c =
     let q = c.in-Entry.is in
-    λ text at whole r. c.line.ensures.steps_by _ text at whole (reads_as r q)
+    λ text at whole r. c.line.ensures _ text at whole (reads_as r q)
 
-pub returns-in-Done-clause-steps_by : goal.returns-in-Done-clause-steps_by
-returns-in-Done-clause-steps_by c =
+pub returns-in-Done : goal.returns-in-Done
+returns-in-Done c =
     let a = c.args in
     let r = c.requires in
     let g = a.w.progress in
@@ -71,10 +71,10 @@ returns-in-Done-clause-steps_by c =
     let e = c.in-Done.is in
     (turns a.w a.images.now a.octets.now a.letters.now a.room.now a.said a.value.now g.stage g.begun true 0 a.w.wrote OVER _
     (λ text at whole q. steps_at 0 (step_done text whole k g.stage g.begun g.over at a.room.now a.w.wrote
-    r.goes.fits r.begun_value r.over_value (q ∙ e)) (omega arith)) c.turned.result c.turned.ensures).0
+    r.goes.fits r.begun_value r.over_value (q ∙ e)) (omega arith)) c.turned.result c.turned.ensures)
 
-pub returns-in-Fault-clause-steps_by : goal.returns-in-Fault-clause-steps_by
-returns-in-Fault-clause-steps_by c =
+pub returns-in-Fault : goal.returns-in-Fault
+returns-in-Fault c =
     let a = c.args in
     let r = c.requires in
     let g = a.w.progress in
@@ -82,10 +82,10 @@ returns-in-Fault-clause-steps_by c =
     let e = c.in-Fault.is in
     (turns a.w a.images.now a.octets.now a.letters.now a.room.now a.said a.value.now g.stage g.begun true 0 _ OVER _
     (λ text at whole q. steps_at 0 (step_fault text whole k g.stage g.begun g.over at a.room.now a.w.wrote
-    r.goes.fits r.begun_value r.over_value _ (omega arith) (q ∙ e) r.period_room_in_bounds _ _ c.put_stopped-wrote.ensures) (omega arith)) c.turned-in-Fault.result c.turned-in-Fault.ensures).0
+    r.goes.fits r.begun_value r.over_value _ (omega arith) (q ∙ e) r.period_room_in_bounds _ _ c.put_stopped-wrote.ensures) (omega arith)) c.turned-in-Fault.result c.turned-in-Fault.ensures)
 
-pub returns-in-More-clause-steps_by : goal.returns-in-More-clause-steps_by
-returns-in-More-clause-steps_by c =
+pub returns-in-More : goal.returns-in-More
+returns-in-More c =
     let a = c.args in
     let r = c.requires in
     let g = a.w.progress in
@@ -93,4 +93,4 @@ returns-in-More-clause-steps_by c =
     let e = c.in-More.is in
     (turns a.w a.images.now a.octets.now a.letters.now a.room.now a.said a.value.now g.stage g.begun g.over 0 a.w.wrote TEXT _
     (λ text at whole q. steps_at 0 (step_more text whole k g.stage g.begun g.over at a.room.now a.w.wrote
-    r.goes.fits r.begun_value r.over_value (q ∙ e)) (omega arith)) c.stays-in-More.result c.stays-in-More.ensures).0
+    r.goes.fits r.begun_value r.over_value (q ∙ e)) (omega arith)) c.stays-in-More.result c.stays-in-More.ensures)

@@ -1,19 +1,13 @@
 -- What is left to run goes on from here to where the whole run ends.
-use Rattle.std.proofs.Common.{◌≡◌}
 use Rattle.bus_call_specs.specs.Kept.{kept}
-use Rattle.bus_call_specs.specs.Ready.{run_goes_on}
 use Rattle.bus_call_specs.specs.Run.{run_answer, kept_after}
 use Rattle.bus_call_specs.proofs.RunLoop.{Going}
 use Rattle.bus_calls.proofs.run.run.Given as goal
 
-abbrev pub invariant-loop-going : goal.invariant-loop-going
-invariant-loop-going l =
+abbrev pub invariant-loop-last : goal.invariant-loop-last
+invariant-loop-last l =
     let at = kept l.fn.bus l.fn.terminals l.fn.images l.fn.octets l.fn.letters l.fn.notes in
-    record {
-      going_is : l.going ≡ run_goes_on l.last l.left;
-      so_far : Going l.fn.images l.fn.letters (run_answer l.fn.most at) (kept_after l.fn.most at) l.last l.left l.terminals
-          l.octets l.notes;
-    }
+    Going l.fn.images l.fn.letters (run_answer l.fn.most at) (kept_after l.fn.most at) l.last l.left l.terminals l.octets l.notes
 
-abbrev pub decreases-loop-going : goal.decreases-loop-going
-decreases-loop-going l = l.left
+abbrev pub decreases-loop-last : goal.decreases-loop-last
+decreases-loop-last l = l.left

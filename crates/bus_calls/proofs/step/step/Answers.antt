@@ -1,5 +1,5 @@
 -- The calls one after another are the period.
-use Rattle.std.proofs.Common.{◌≡◌, ℕ, Bool, List, length, sym, ◌∙◌}
+use Rattle.std.proofs.Common.{◌≡◌, ℕ, Bool, List, length, refl, sym, ◌∙◌}
 use borrow.Author.Tests.{eq-eqb}
 use Rattle.timing.specs.declared.counts.Periods.{Periods}
 use Rattle.heard_line.specs.declared.heard.Downward.{Downward}
@@ -49,6 +49,6 @@ returns c =
     let n = c.network_side in
     let p =
     promised c.args.bus c.args.terminals.now c.args.images.now c.args.octets.now c.args.letters.now _ _ _ _ _ _ _ _ _ _ c.args.notes.now
-    (c.requires ∙ sym x.auto.terminals) c.first_tally-first.ensures (x.ensures.value, x.ensures.terminals_after) c.line_after-line.ensures
-    c.periods_of.ensures (h.ensures.value, h.ensures.terminals_after, h.ensures.notes_after) (n.ensures.value, n.ensures.octets_after) in
+    (c.requires ∙ sym x.auto.terminals) c.first_tally-first.ensures (x.ensures.value, x.ensures.terminals_after) c.heard_down-line.ensures
+    refl (h.ensures.value, h.ensures.terminals_after, h.ensures.notes_after) (n.ensures.value, n.ensures.octets_after) in
     record { value = p.0; terminals_after = p.1; octets_after = p.2; notes_after = p.3 }

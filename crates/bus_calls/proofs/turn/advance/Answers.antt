@@ -1,6 +1,5 @@
 -- A run alone is a turn: the law `alone_turns`.
 use Rattle.std.proofs.Common.{◌≡◌, ◌≢◌, ℕ, ◌-◌, ◌<◌, List, refl, ap, sym, ◌∙◌, arith}
-use borrow.Author.Tests.{eqb-true, eqb-false}
 use Rattle.slice_lemmas.specs.Over.{map_from}
 use Rattle.terminal.specs.declared.Terminal.{Terminal}
 use Rattle.period_hearing.specs.Hears.{silenced}
@@ -32,10 +31,9 @@ module _ (bus : BusRecord) (ys : List Terminal) (es os ls : List ℕ) (us : List
     none_alone z = ran.1 ∙ none_run es most bus b os (ap (λ (x : Alone). x.over) (sym ran.0) ∙ z)
 
     alone_promised : (found : Search) → found ≡ searched bus.periods left ys → b ≡ found.lone → most ≡ alone_for found → most ≢ 0
-        → a.over ≢ 0 → (t : Turn) → (t.answer ≡ a.answer) × (t.over ≡ a.over - 1)
-        → (ts : List Terminal) → ts ≡ map_from (followed a.lone) 0 ys → (ns : List UnitNotes)
-        → ns ≡ map_from silenced 0 us → Promised os t ts octets ns
-    alone_promised found is_found is_b is_most some over t is_t ts is_ts ns is_ns =
+        → a.over ≢ 0 → (ts : List Terminal) → ts ≡ map_from (followed a.lone) 0 ys → (ns : List UnitNotes)
+        → ns ≡ map_from silenced 0 us → Promised os (record { answer = a.answer; over = a.over - 1 }) ts octets ns
+    alone_promised found is_found is_b is_most some over ts is_ts ns is_ns =
         let k = kept bus ys es os ls us in
         let look = searched bus.periods left ys in
         let m : most ≡ alone_for look = is_most ∙ ap alone_for is_found in
@@ -45,22 +43,19 @@ module _ (bus : BusRecord) (ys : List Terminal) (es os ls : List ℕ) (us : List
         let search : 0 < alone_for look = omega arith in
         let on : 0 < a.over = omega arith in
         let run : 0 < (alone_run es (alone_for look) bus look.lone os).over = rw r at on in
-        rw (is_t.0, is_t.1, is_ts, is_ns, o, r) (alone_turns left k search run)
+        rw (is_ts, is_ns, o, r) (alone_turns left k search run)
 
-pub returns-then-none_run : goal.returns-then-none_run
-returns-then-none_run c =
+pub returns-then-alone-eq0 : goal.returns-then-alone-eq0
+returns-then-alone-eq0 c =
     let r = c.run_alone-alone.ensures in
-    let none : c.run_alone-alone.result.over ≡ 0 = eqb-true c.run_alone-alone.result.over 0 (sym c.none_run.ensures ∙ c.if-none_run.true) in
     let same =
     none_alone c.args.bus c.args.terminals.now c.args.images.now c.args.octets.now c.args.letters.now c.args.notes.now c.args.left _ _ _ _
-    (r.value, r.octets_after) none in
-    rw same at c.leap_on-then-none_run.ensures
+    (r.value, r.octets_after) c.if-alone-eq0.true in
+    rw same at c.leap_on-then-alone-eq0.ensures
 
 pub returns : goal.returns
 returns c =
     let r = c.run_alone-alone.ensures in
-    let t = c.turn_alone.ensures in
     alone_promised c.args.bus c.args.terminals.now c.args.images.now c.args.octets.now c.args.letters.now c.args.notes.now c.args.left
-    _ _ _ _ (r.value, r.octets_after) _ (c.find-found.ensures ∙ rw c.periods_of.ensures refl) c.lone_found.ensures c.alone_for-most.ensures
-    c.if-most-eq0.false (eqb-false c.run_alone-alone.result.over 0 (sym c.none_run.ensures ∙ c.if-none_run.false)) _
-    (t.answer_value, t.over_value) _ (c.follow.ensures ∙ rw c.lone_after.ensures refl) _ c.silence.ensures
+    _ _ _ _ (r.value, r.octets_after) _ c.find-found.ensures refl c.alone_for-most.ensures c.if-most-eq0.false c.if-alone-eq0.false
+    _ c.follow.ensures _ c.silence.ensures

@@ -8,8 +8,6 @@ returns c =
     let stepped = c.step-answer.ensures in
     let k = kept c.args.bus c.args.terminals.now c.args.images.now c.args.octets.now c.args.letters.now c.args.notes.now in
     rw (
-      c.turned.ensures.answer_value,
-      c.turned.ensures.over_value,
       stepped.value,
       stepped.terminals_after,
       stepped.octets_after,

@@ -2,23 +2,20 @@
 use Prim.Native.Nat.{◌+◌, ◌-◌, ◌*◌}
 use native.Mathlib.Omega.{arith}
 use Rattle.packing.specs.Packing.{image_room}
-use Rattle.bus_event.proofs.Returns.{put_bits_lem, never_refused}
+use Rattle.bus_event.proofs.Returns.{bits_are, octets_are}
 use Rattle.bus_event.proofs.event.put_image.Goals as goal
 
-pub returns-in-Bits : goal.returns-in-Bits
-returns-in-Bits c =
+pub returns-clause-value : goal.returns-clause-value
+returns-clause-value c =
     let a = c.args in
     let r = c.requires in
-    let put =
-    put_bits_lem a.i a.value.now a.images.now r.i_lt_terminals r.images_len r.in_bounds r.value_len_bound
-    (a.i * image_room + image_room - a.i * image_room) (omega arith) c.image.result c.image.ensures.value
-    c.in-Bits.n c.in-Bits.is c.image.new.out c.image.ensures.out_after in
-    record { value = put.0; images_after = put.1 }
+    rw (bits_are a.i a.value.now a.images.now r.i_lt_terminals r.images_len r.in_bounds r.value_len_bound
+    (a.i * image_room + image_room - a.i * image_room) (omega arith) c.image.result c.image.ensures.value) at c.unwrap_or.ensures
 
-pub returns-in-Refused : goal.returns-in-Refused
-returns-in-Refused c =
+pub returns-clause-images_after : goal.returns-clause-images_after
+returns-clause-images_after c =
     let a = c.args in
     let r = c.requires in
-    absurd (never_refused a.i a.value.now a.images.now r.i_lt_terminals r.images_len r.in_bounds r.value_len_bound
+    octets_are a.i a.value.now a.images.now r.i_lt_terminals r.images_len r.in_bounds r.value_len_bound
     (a.i * image_room + image_room - a.i * image_room) (omega arith) c.image.result c.image.ensures.value
-    c.in-Refused.field-0 c.in-Refused.is)
+    c.image.new.out c.image.ensures.out_after

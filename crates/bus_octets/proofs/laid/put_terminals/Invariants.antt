@@ -1,10 +1,8 @@
 -- `put_terminals` meets its contract: after i turns the first i terminals are put.
-use Prim.Native.Nat.{◌-◌}
-use Rattle.bus_octets.proofs.Laying.{Laying}
+use lib.ListN.{take}
+use Rattle.note_text.specs.Room.{Put}
+use Rattle.bus_octets.specs.Layout.{terminals_octets}
 use Rattle.bus_octets.proofs.laid.put_terminals.Given as goal
 
-abbrev pub invariant-loop-i : goal.invariant-loop-i
-invariant-loop-i l = Laying l.initial.room l.wrote l.terminals l.room l.at l.i
-
-abbrev pub decreases-loop-i : goal.decreases-loop-i
-decreases-loop-i l = 8 - l.i
+abbrev pub invariant-loop-t : goal.invariant-loop-t
+invariant-loop-t l = Put l.initial.room l.wrote (terminals_octets (take l.t-index l.t-items)) l.at l.room

@@ -4,8 +4,5 @@ use Rattle.bus_octets.proofs.laid.record_octets.Goals as goal
 
 pub returns : goal.returns
 returns c =
-    let p = rw c.counts_octets.ensures at c.put-counts.ensures in
-    let p = put_put p (rw c.network_octets.ensures at c.put-network.ensures) in
-    let p = put_put p (rw c.reader_octets.ensures at c.put-reader.ensures) in
-    let p = put_put p (rw c.flags_octets.ensures at c.put.ensures) in
-    p.room_is
+    (put_put c.put_counts-counts.ensures
+    (put_put c.put_network-network.ensures (put_put c.put_reader-reader.ensures c.put_flags.ensures))).room_is

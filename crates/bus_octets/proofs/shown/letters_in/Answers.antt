@@ -1,18 +1,7 @@
--- `letters_in` meets its contract: the part laid into the array fills it.
-use mathlib.Core.Path.{◌∙◌}
-use native.Mathlib.Omega.{arith}
-use borrow.Author.Tests.{eq-eqb, ne_eqb}
-use Rattle.symbols.specs.Symbols.{line_length}
-use Rattle.bus_octets.specs.Layout.{letters_at, letters_read}
-use Rattle.bus_octets.proofs.Lengths.{part_back}
+-- `letters_in` meets its contract: the part where the letters stand.
+use Rattle.bus_octets.specs.Layout.{letters_read, part_read}
 use Rattle.bus_octets.proofs.shown.letters_in.Goals as goal
 
-pub returns-then-s-eq-BUS_LENGTH : goal.returns-then-s-eq-BUS_LENGTH
-unfolding letters_read
-returns-then-s-eq-BUS_LENGTH c =
-    let e = c.if-s-eq-BUS_LENGTH.true in
-    rw (eq-eqb _ _ e) (c.put.ensures.room_is ∙ part_back line_length letters_at c.args.s.now (omega (arith, e)))
-
-pub returns-else-s-eq-BUS_LENGTH : goal.returns-else-s-eq-BUS_LENGTH
-unfolding letters_read
-returns-else-s-eq-BUS_LENGTH c = rw (ne_eqb _ _ c.if-s-eq-BUS_LENGTH.false)
+pub returns : goal.returns
+unfolding letters_read part_read
+returns c = c.part.ensures

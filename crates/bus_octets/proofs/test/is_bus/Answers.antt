@@ -20,7 +20,7 @@ returns c =
       eq-eqb _ _ c.if-s-ne-BUS_LENGTH.false,
       c.is_head.ensures,
       c.in_range.ensures,
-      c.all_in_range.ensures,
+      c.in_range-2.ensures,
       c.fits.ensures,
       c.record_in-bus.ensures,
       c.terminals_in-terminals.ensures,

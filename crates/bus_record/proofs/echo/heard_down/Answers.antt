@@ -2,25 +2,17 @@
 use mathlib.Core.Path.{refl, ◌∙◌}
 use borrow.Author.Tests.{not-true, not-false}
 use Rattle.bus_record.specs.Echo.{heard_down}
-use Rattle.bus_record.proofs.EchoLaws.{heard_under, line_is, never_refused}
+use Rattle.bus_record.proofs.EchoLaws.{heard_under}
 use Rattle.bus_record.proofs.echo.heard_down.Goals as goal
 
 pub returns-then-not-bus : goal.returns-then-not-bus
 unfolding heard_down
 returns-then-not-bus c = simp (not-true c.args.bus.hit c.if-not-bus.true) c.shown_by-quick.ensures
 
-pub returns-in-Line : goal.returns-in-Line
-returns-in-Line c =
+pub returns : goal.returns
+returns c =
     let struck = not-false c.args.bus.hit c.if-not-bus.false in
     let heard =
     heard_under c.args.bus c.args.ds c.args.letters.now _ _ _ struck refl c.build_down.ensures c.apply_hit.ensures.octets
     in
-    line_is (c.sense_down.ensures ∙ heard) c.in-Line.is
-
-pub returns-in-Refused : goal.returns-in-Refused
-returns-in-Refused c =
-    let struck = not-false c.args.bus.hit c.if-not-bus.false in
-    let heard =
-    heard_under c.args.bus c.args.ds c.args.letters.now _ _ _ struck refl c.build_down.ensures c.apply_hit.ensures.octets
-    in
-    never_refused (c.sense_down.ensures ∙ heard) c.in-Refused.is
+    rw (c.sense_down.ensures ∙ heard) at c.unwrap_or.ensures

@@ -34,8 +34,8 @@ module _ (es : List ℕ) (m tally : Tally) (k : ℕ) (ys xs : List Terminal) (d 
 pub loop-i-preserved : goal.loop-i-preserved
 loop-i-preserved c =
     let so_far = c.loop-i.invariant in
-    let at = c.one_part-s.ensures in
-    let on = c.loop-i-test.true in
+    let at = c.one_part-part.ensures in
+    let on : c.loop-i.i < length c.loop-i.terminals = omega arith in
     record {
       terminals_so_far = next_list _ _ _ c.loop-i.i _ _ _ _ so_far.terminals_so_far so_far.tally_so_far on at;
       tally_so_far = next_tally _ _ _ c.loop-i.i _ _ _ _ so_far.terminals_so_far so_far.tally_so_far on at;
@@ -52,4 +52,4 @@ pub returns-clause-terminals_after : goal.returns-clause-terminals_after
 unfolding terminals_after
 returns-clause-terminals_after c =
     put_all (terminal_after_e c.args.images.now (begun c.args.before).e) c.loop-i.i _ _ c.loop-i.invariant.terminals_so_far
-    c.loop-i-test.false
+    (omega arith)

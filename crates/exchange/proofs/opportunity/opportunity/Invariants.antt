@@ -1,5 +1,5 @@
 -- The terminals before this one have heard the E, and are in the tally.
-use Rattle.std.proofs.Common.{length, ◌-◌, ◌≡◌}
+use Rattle.std.proofs.Common.{◌≡◌}
 use Rattle.slice_lemmas.proofs.Over.{upto, acc}
 use Rattle.exchange.specs.Part.{terminal_after_e, tally_with}
 use Rattle.exchange.specs.Tally.{begun}
@@ -10,6 +10,3 @@ invariant-loop-i l = record {
   terminals_so_far : l.terminals ≡ upto (terminal_after_e l.fn.images (begun l.fn.before).e) l.i 0 l.fn.terminals;
   tally_so_far : l.tally ≡ acc (tally_with l.fn.images) (begun l.fn.before) l.i 0 l.fn.terminals;
 }
-
-abbrev pub decreases-loop-i : goal.decreases-loop-i
-decreases-loop-i l = length l.initial.terminals - l.i

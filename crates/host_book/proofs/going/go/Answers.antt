@@ -3,7 +3,7 @@ use mathlib.Core.Path.{refl, sym}
 use native.Mathlib.Omega.{arith}
 use lib.Seq.{length-take-le}
 use Rattle.bus_octets.specs.Layout.{bus_length}
-use Rattle.host_book.proofs.Gone.{long, gone}
+use Rattle.host_book.proofs.Gone.{long, taken_on, gone}
 use Rattle.host_book.proofs.going.go.Goals as goal
 
 pub slice_bounds-letters_in-end : goal.slice_bounds-letters_in-end
@@ -21,8 +21,14 @@ slice_bounds-octets_in-end-2 c = sym (length-take-le bus_length c.args.book.now 
 pub slice_bounds-images-end : goal.slice_bounds-images-end
 slice_bounds-images-end c = omega (arith, long _ c.requires)
 
+pub unwrap-w-requires : goal.unwrap-w-requires
+unwrap-w-requires c =
+    let a = c.args in
+    taken_on a.book.now c.requires a.text.now a.report.now a.whole _ _ _ _ _ _ _ _ _ c.progress_in-progress.ensures refl
+    c.letters_in-letters.ensures c.octets_in-octets.ensures c.go_on.ensures
+
 pub returns : goal.returns
 returns c =
     let a = c.args in
-    gone a.book.now c.requires a.text.now a.report.now a.whole c.go_on-w.result _ _ _ _ _ _ _ _ _ c.progress_in-progress.ensures refl
-    c.letters_in-letters.ensures c.octets_in-octets.ensures c.go_on-w.ensures c.lay_progress.ensures
+    gone a.book.now c.requires a.text.now a.report.now a.whole _ c.unwrap-w.result _ _ _ _ _ _ _ _ _ c.progress_in-progress.ensures refl
+    c.letters_in-letters.ensures c.octets_in-octets.ensures c.go_on.ensures c.unwrap-w.ensures c.lay_progress.ensures

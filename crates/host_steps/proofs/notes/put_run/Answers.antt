@@ -5,4 +5,4 @@ use Rattle.host_steps.proofs.notes.put_run.Goals as goal
 
 pub returns : goal.returns
 unfolding notes_octets
-returns c = rw (← c.less-last.ensures) (put_put c.put_period-wrote.ensures c.put.ensures).room_is
+returns c = rw (← c.saturating_sub-last.ensures) (put_put c.put_period-wrote.ensures c.put.ensures).room_is

@@ -1,16 +1,12 @@
 -- `put_hex` meets its contract: after i turns the first i octets are put (proofs/HexLaws).
-use native.Mathlib.Omega.{arith}
 use Rattle.note_text.specs.NoteText.{hex_of}
 use Rattle.note_text.proofs.RoomLaws.{put_start}
 use Rattle.note_text.proofs.HexLaws.{put_octet}
 use Rattle.note_text.proofs.hex.put_hex.Goals as goal
 
-pub loop-i-init : goal.loop-i-init
+pub loop-o-init : goal.loop-o-init
 unfolding hex_of
-loop-i-init c = (omega arith, put_start _ _ c.least-at.ensures)
+loop-o-init c = put_start _ _ c.min-at.ensures
 
-pub loop-i-preserved : goal.loop-i-preserved
-loop-i-preserved c =
-    let high = c.hex_digit-high.ensures in
-    let low = c.hex_digit-low.ensures in
-    (omega arith, put_octet _ c.loop-i.i _ _ c.loop-i-test.true high low c.loop-i.invariant.1 c.put-at.ensures)
+pub loop-o-preserved : goal.loop-o-preserved
+loop-o-preserved c = put_octet _ _ _ _ c.loop-o-test.true c.hex_digit-high.ensures c.hex_digit-low.ensures c.loop-o.invariant c.put-at.ensures

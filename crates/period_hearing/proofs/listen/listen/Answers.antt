@@ -1,27 +1,15 @@
 -- What `hear_one` makes of the terminal at hand is one turn more of the three lists' definitions; after the last turn they are those of the
 -- contract.
-use Rattle.std.proofs.Common.{false, ap, arith}
+use Rattle.std.proofs.Common.{false, ap, arith, length, ◌<◌}
 use Rattle.std.proofs.lemmas.Bool.Decides.{nat_tests}
 use Rattle.slice_lemmas.proofs.Over.{put_next, put_all, gather_next, gather_all, fill_next, fill_all}
 use Rattle.period_hearing.specs.Hears.{terminal_after, notes_after, told_after, listen_reply, listen_terminals, listen_notes}
 use Rattle.period_hearing.proofs.listen.listen.Goals as goal
 
-pub returns-then-notes-terminals-clause-value : goal.returns-then-notes-terminals-clause-value
-unfolding listen_reply
-returns-then-notes-terminals-clause-value c = grind (arith, nat_tests)
-
-pub returns-then-notes-terminals-clause-terminals_after : goal.returns-then-notes-terminals-clause-terminals_after
-unfolding listen_terminals
-returns-then-notes-terminals-clause-terminals_after c = grind (arith, nat_tests)
-
-pub returns-then-notes-terminals-clause-notes_after : goal.returns-then-notes-terminals-clause-notes_after
-unfolding listen_notes
-returns-then-notes-terminals-clause-notes_after c = grind (arith, nat_tests)
-
 pub loop-i-preserved : goal.loop-i-preserved
 loop-i-preserved c =
-    let heard = c.hear_one-s.ensures in
-    let on = c.loop-i-test.true in
+    let heard = c.hear_one-heard.ensures in
+    let on : c.loop-i.i < length c.loop-i.terminals = omega arith in
     let t = terminal_after c.args.line c.args.period in
     let n = notes_after c.args.line c.args.period in
     let s = told_after c.args.line c.args.period in
@@ -44,7 +32,7 @@ pub returns-clause-terminals_after : goal.returns-clause-terminals_after
 unfolding listen_terminals
 returns-clause-terminals_after c =
     let t = terminal_after c.args.line c.args.period in
-    let all = put_all t c.loop-i.i _ _ c.loop-i.invariant.terminals_so_far c.loop-i-test.false in
+    let all = put_all t c.loop-i.i _ _ c.loop-i.invariant.terminals_so_far (omega arith) in
     grind (arith, nat_tests)
 
 pub returns-clause-notes_after : goal.returns-clause-notes_after

@@ -1,5 +1,5 @@
 -- The terminals before this one have heard the line: their records, their notes, and whether there was any.
-use Rattle.std.proofs.Common.{length, ◌-◌, ◌≡◌, false}
+use Rattle.std.proofs.Common.{◌≡◌, false}
 use Rattle.slice_lemmas.proofs.Over.{upto, acc, filled}
 use Rattle.period_hearing.specs.Hears.{terminal_after, notes_after, told_after}
 use Rattle.period_hearing.proofs.listen.listen.Given as goal
@@ -10,6 +10,3 @@ invariant-loop-i l = record {
   notes_so_far : l.notes ≡ filled (notes_after l.fn.line l.fn.period) l.i 0 l.fn.terminals l.fn.notes;
   told_so_far : l.told ≡ acc (told_after l.fn.line l.fn.period) false l.i 0 l.fn.terminals;
 }
-
-abbrev pub decreases-loop-i : goal.decreases-loop-i
-decreases-loop-i l = length l.initial.terminals - l.i

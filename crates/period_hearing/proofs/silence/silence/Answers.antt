@@ -1,10 +1,8 @@
--- One place more is emptied in each turn.
-use Rattle.slice_lemmas.proofs.Over.{put_next, put_all}
-use Rattle.period_hearing.specs.Hears.{no_notes, silenced}
+-- One value in every place is what the definition makes of each.
+use Rattle.std.proofs.Common.{rules, sym, ◌∙◌}
+use Rattle.slice_lemmas.proofs.Over.{all_one}
+use Rattle.period_hearing.specs.Hears.{no_notes}
 use Rattle.period_hearing.proofs.silence.silence.Goals as goal
 
-pub loop-i-preserved : goal.loop-i-preserved
-loop-i-preserved c = put_next silenced c.loop-i.i _ _ no_notes _ c.loop-i.invariant c.loop-i-test.true c.silent.ensures
-
 pub returns : goal.returns
-returns c = put_all silenced c.loop-i.i _ _ c.loop-i.invariant c.loop-i-test.false
+returns c = c.fill.ensures.after (λ y h. search rules) ∙ sym (all_one no_notes 0 c.args.notes.now)

@@ -13,7 +13,7 @@ pub returns-then-said-eq-HEARD : goal.returns-then-said-eq-HEARD
 unfolding reader_told
 returns-then-said-eq-HEARD c =
     let a = c.args in
-    λ ran s b. rw (s, b, c.if-said-eq-HEARD.true, one_note, ← take_count a.octets.now a.body c.least-count.result c.least-count.ensures)
+    λ ran s b. rw (s, b, c.if-said-eq-HEARD.true, one_note, ← take_count a.octets.now a.body c.min-count.result c.min-count.ensures)
     c.put_note.ensures
 
 pub returns : goal.returns

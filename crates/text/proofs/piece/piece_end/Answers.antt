@@ -12,4 +12,6 @@ loop-i-preserved c =
     let args = c.args in omega (arith, upto_go args.sep args.text.now c.loop-i.i (omega arith) c.if-text-i.false)
 
 pub returns : goal.returns
-returns c = let args = c.args in omega (arith, upto_end args.sep args.text.now c.loop-i.i (omega arith))
+returns c =
+    let args = c.args in
+    grind (arith, upto_end args.sep args.text.now c.loop-i.i (omega arith), upto_end args.sep args.text.now args.from)

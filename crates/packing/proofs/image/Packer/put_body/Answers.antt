@@ -36,11 +36,6 @@ put_bit-packer-requires-clause-ones_bound c =
     body_room c.args.body.now loop.i c.args.self loop.packer (omega arith) c.requires.ones_bound loop.invariant.1 _ c.packed_bit.ensures in
     omega (arith, room.1)
 
-pub overflow_add-i : goal.overflow_add-i
-overflow_add-i c =
-    let args = c.args in
-    record { fits = omega (arith, octets_fit args.body.now args.self.ones) }
-
 pub loop-i-preserved : goal.loop-i-preserved
 loop-i-preserved c =
     let loop = c.loop-i in

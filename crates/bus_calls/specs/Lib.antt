@@ -1,0 +1,2 @@
+-- What a call replies.
+pub mod Replies

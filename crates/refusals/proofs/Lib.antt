@@ -1,0 +1,2 @@
+-- Proofs of the laws.
+pub mod Laws
