@@ -55,13 +55,12 @@ pub fn rests(terminal: Terminal, line: Downward) -> bool
 }
 
 // Lets a terminal hear the line of period `now`, and then takes its timer at the next one's start.
-#[tactic(auto, using(crate::proofs::Rests::rested, terminal::proofs::Answered::heard_given, terminal::proofs::Answered::timed_given), unfolding(crate::specs::Hears::heard_one, crate::specs::Hears::timer_step, crate::specs::Hears::hearing_step, crate::specs::Hears::has_note))]
+#[tactic(auto, using(crate::proofs::Rests::rested))]
 pub fn hear_one(terminal: Terminal, line: Downward, now: Periods) -> HeardOne
     ensures { result ≡ heard_one line now terminal }
 {
-    let next = now.next_period();
     if rests(terminal, line) {
-        if !due(terminal.t3, next) {
+        if !due(terminal.t3, now.next_period()) {
             return HeardOne {
                 terminal,
                 notes: UnitNotes::NONE,
@@ -69,9 +68,21 @@ pub fn hear_one(terminal: Terminal, line: Downward, now: Periods) -> HeardOne
             };
         }
     }
+    hear_and_time(terminal, line, now)
+}
+
+// Does so where something may happen. Most terminals rest in most periods: so this stays a call of
+// its own, and the fields of a terminal that rests stay together in the walk over all of them.
+#[inline(never)]
+#[tactic(auto, using(terminal::proofs::Answered::heard_given, terminal::proofs::Answered::timed_given), unfolding(crate::specs::Hears::heard_one, crate::specs::Hears::timer_step, crate::specs::Hears::hearing_step, crate::specs::Hears::has_note))]
+fn hear_and_time(terminal: Terminal, line: Downward, now: Periods) -> HeardOne
+    ensures { result ≡ heard_one line now terminal }
+{
     let heard = terminal.hear(line, now).unwrap_or(without_notes(terminal));
     let after = heard.terminal;
-    let timed = after.timer_due(next).unwrap_or(without_notes(after));
+    let timed = after
+        .timer_due(now.next_period())
+        .unwrap_or(without_notes(after));
     HeardOne {
         terminal: timed.terminal,
         notes: UnitNotes {

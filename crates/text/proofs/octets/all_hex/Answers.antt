@@ -1,14 +1,11 @@
--- `octets::all_hex` meets its contract: `all` tests every octet.
-use mathlib.Core.Path.{sym, ◌∙◌}
-use Rattle.std.proofs.Common.{rules, tests}
-use Rattle.std.proofs.lemmas.Iterator.{YieldsList-from_slice}
-use Rattle.std.proofs.lemmas.Iterator.Search.{all_from_yields_List}
+-- `octets::all_hex` meets its contract: the answer is that of the octets passed and that of the octets from there on.
+use native.Mathlib.Omega.{arith}
 use Rattle.text.specs.Text.{is_hex}
-use Rattle.text.proofs.Pieces.{all_listed}
+use Rattle.text.proofs.Pieces.{all_next, all_done}
 use Rattle.text.proofs.octets.all_hex.Goals as goal
 
+pub loop-c-preserved : goal.loop-c-preserved
+loop-c-preserved c = all_next is_hex c.loop-c.invariant _ (omega arith) c.is_hex-ok.ensures
+
 pub returns : goal.returns
-returns c =
-    let text = c.args.text.now in
-    all_from_yields_List is_hex _ _ _ c.all.ensures.ran (YieldsList-from_slice text cc) (λ x b q k. search (rules, tests))
-    ∙ sym (all_listed is_hex text)
+returns c = all_done is_hex c.loop-c.invariant (omega arith)
