@@ -1,10 +1,12 @@
 -- What text laid into lent room leaves: two puts are one, and where the text fits, it stands behind what was written and nothing else changes.
 use mathlib.Core.List.{List, [], ◌∷◌, ◌++◌}
 use mathlib.Core.Path.{◌≡◌, refl, sym, ap, ◌∙◌}
-use Prim.Native.Nat.{ℕ, zero, suc, ◌+◌, ◌-◌, ◌≤◌, min}
+use Prim.Native.Nat.{ℕ, zero, suc, ◌+◌, ◌-◌, ◌≤◌, ◌<◌, min}
+use native.Mathlib.Numerals.{add-one}
 use native.Mathlib.Omega.{arith}
 use borrow.Rule.Slice.PartMut.{put_mid}
-use lib.ListN.{length, take, drop, length-append}
+use lib.ListN.{length, get_or, set, take, drop, length-append}
+use lib.Seq.{take-suc, length-take-le}
 use Rattle.note_text.specs.Room.{laid, wrote_after, Put}
 
 pub laid_none : (room : List ℕ) (wrote : ℕ) → laid room wrote [] ≡ room
@@ -19,6 +21,13 @@ length_laid [] wrote text = refl
 length_laid (x ∷ room) (suc wrote) text = rw (length_laid room wrote text)
 length_laid (x ∷ room) zero [] = refl
 length_laid (x ∷ room) zero (c ∷ text) = rw (length_laid room zero text)
+
+-- one octet, where there is room or not
+laid_one : (room : List ℕ) (wrote c : ℕ) → laid room wrote (c ∷ []) ≡ set room wrote c
+unfolding laid
+laid_one [] wrote c = refl
+laid_one (x ∷ room) (suc wrote) c = rw (laid_one room wrote c)
+laid_one (x ∷ room) zero c = rw (laid_none room zero)
 
 -- a text behind another: both together
 laid_laid : (room : List ℕ) (wrote : ℕ) (s t : List ℕ) → laid (laid room wrote s) (wrote_after room wrote s) t ≡ laid room wrote (s ++ t)
@@ -123,3 +132,47 @@ pub put_copied : (room : List ℕ) (wrote : ℕ) (text : List ℕ) (start n k : 
     → Put room wrote text (start + n) (put_mid start k room part)
 put_copied room wrote text start n k part e f g h =
     record { wrote_is = omega arith; room_is = rw (g, h) (laid_mid room wrote text start n e f) }
+
+-- ---- One octet after the other, as the loop of `put` lays them.
+laid_next : (room : List ℕ) (wrote : ℕ) (text : List ℕ) (i : ℕ) → wrote + i < length room → i < length text
+    → set (laid room wrote (take i text)) (wrote + i) (get_or text i 0) ≡ laid room wrote (take (i + 1) text)
+laid_next room wrote text i h k =
+    let e : wrote_after room wrote (take i text) ≡ wrote + i = rw (length-take-le i text (omega arith)) (omega arith) in
+    sym (laid_one (laid room wrote (take i text)) (wrote + i) (get_or text i 0))
+    ∙ rw (add-one i, take-suc text i 0 k, ← laid_laid room wrote (take i text) (get_or text i 0 ∷ []), e)
+
+-- as many octets as there is room for
+laid_enough : (room : List ℕ) (wrote : ℕ) (text : List ℕ) (n : ℕ) → min (length text) (length room - wrote) ≤ n
+    → laid room wrote (take n text) ≡ laid room wrote text
+unfolding laid
+laid_enough [] wrote text n h = refl
+laid_enough (x ∷ room) (suc wrote) text n h = rw (laid_enough room wrote text n (omega arith))
+laid_enough (x ∷ room) zero [] zero h = refl
+laid_enough (x ∷ room) zero [] (suc n) h = refl
+laid_enough (x ∷ room) zero (c ∷ text) zero h = absurd (omega arith)
+laid_enough (x ∷ room) zero (c ∷ text) (suc n) h = rw (laid_enough room zero text n (omega arith))
+
+-- Where the loop stands: i octets of `count` are laid.
+pub record Laying (room₀ : List ℕ) (wrote : ℕ) (text : List ℕ) (start count : ℕ) (room : List ℕ) (i : ℕ) : Type 0 where
+  pub start_is : start ≡ min wrote (length room₀)
+  pub count_is : count ≡ min (length text) (length room₀ - start)
+  pub within : i ≤ count
+  pub room_is : room ≡ laid room₀ wrote (take i text)
+
+module _ (room₀ : List ℕ) (wrote : ℕ) (text : List ℕ) (start count : ℕ) (room : List ℕ) (i : ℕ) (l : Laying room₀ wrote text start count room i) where
+  pub laying_length : length room ≡ length room₀
+  laying_length = ap length l.room_is ∙ length_laid room₀ wrote (take i text)
+
+  pub laying_next : i < count → Laying room₀ wrote text start count (set room (start + i) (get_or text i 0)) (i + 1)
+  laying_next h =
+      let e : start ≡ wrote = omega arith in
+      record {
+        start_is = l.start_is;
+        count_is = l.count_is;
+        within = omega arith;
+        room_is = rw (l.room_is, e) (laid_next room₀ wrote text i (omega arith) (omega arith));
+      }
+
+  pub laying_ends : count ≤ i → Put room₀ wrote text (start + i) room
+  laying_ends h =
+      record { wrote_is = omega arith; room_is = l.room_is ∙ laid_enough room₀ wrote text i (omega arith) }

@@ -9,7 +9,9 @@ pub fn put(room: &mut [u8], wrote: usize, text: &[u8]) -> usize
     ensures { Put room.old wrote text.now result room.new }
 {
     let start = wrote.min(room.len());
-    let end = start + text.len().min(room.len() - start);
-    room[start..end].copy_from_slice(&text[..end - start]);
-    end
+    let count = text.len().min(room.len() - start);
+    for i in 0..count {
+        room[start + i] = text[i];
+    }
+    start + count
 }
