@@ -4,11 +4,12 @@ use mathlib.Core.List.{List, [], ◌∷◌}
 use mathlib.Core.Path.{◌≡◌, refl, sym, ap, ◌∙◌}
 use Prim.Native.Nat.{ℕ, zero, suc, ◌+◌, ◌≤◌, ◌<◌, min}
 use native.Mathlib.Omega.{arith}
-use borrow.Author.Tests.{eqb-true, leb-true, leb-false, ne_eqb}
+use borrow.Author.Tests.{eqb-true, leb-true, leb-false}
 use lib.Dec.{eqb, leb}
 use lib.ListN.{length, get_or, get_or-eq_default}
 use Rattle.test_lemmas.proofs.ByCases.{by_test, at_each_below}
 use Rattle.notes_and_cells.specs.Names.{Printed, plain, printed, printed_as}
+use Rattle.text.proofs.Joined.{Lies, lies}
 use Rattle.text.proofs.Lookup.{beside}
 use Rattle.note_text.specs.LineParts.{named, open_in, open_as}
 use Rattle.note_text.specs.declared.table.OpenValue.{OpenValue}
@@ -33,9 +34,17 @@ text_at zero code k h = absurd (omega arith)
 text_at (suc n) code zero h = let e : code + 0 ≡ code = omega arith in rw e
 text_at (suc n) code (suc k) h = let e : code + suc k ≡ suc code + k = omega arith in rw e (text_at n (suc code) k (omega arith))
 
+length_texts : (n code : ℕ) → length (texts n code) ≡ n
+length_texts zero code = refl
+length_texts (suc n) code = rw (length_texts n (suc code))
+
 -- the table
 abbrev pub names : List (List ℕ)
 names = texts (suc no_code) 0
+
+-- laid one behind the other, each name stands where it begins
+pub name_lies : (k : ℕ) → k ≤ no_code → Lies names k
+name_lies k h = lies names k (omega (arith, length_texts (suc no_code) 0))
 
 -- every code's part
 pub name_right : (code k : ℕ) → k ≡ min code no_code → get_or names k [] ≡ named code
@@ -84,8 +93,3 @@ pub open_right : (code : ℕ) → code < 256 → beside Nothing code open_codes 
 unfolding open_as printed_as printed
 open_right code h =
     same_open_lem (beside Nothing code open_codes) (open_as code) (at_each_below (λ c. same_open (beside Nothing c open_codes) (open_as c)) 256 code refl h)
-
--- any other code
-pub open_nothing : (code : ℕ) → code < 256 → (code ≡ 10 → ⊥) → (code ≡ 16 → ⊥) → Nothing ≡ open_as code
-unfolding printed
-open_nothing code h k l = rw (ne_eqb code 10 k, ne_eqb code 16 l) at (open_right code h)
