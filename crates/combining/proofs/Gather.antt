@@ -9,13 +9,14 @@ use lib.Bits.{bit_or}
 use lib.Dec.{eqb}
 use lib.ListN.{length, get_or, take, drop, get_or-replicate}
 use lib.Seq.{drop-drop}
+use Rattle.std.specs.Prelude.{Ok}
 use Rattle.symbols.specs.Symbols.{none, plus, minus, line_length, fits, line_by}
 use Rattle.symbols.specs.Calls.{leaves}
 use Rattle.frame.specs.Bits.{bit}
 use Rattle.info.specs.Info.{info0}
 use Rattle.combining.specs.Combine.{is_sent, only, combined_symbol, column, combined}
 use Rattle.combining.specs.Gathering.{gathered, gathered_symbol}
-use Rattle.combining.specs.Calls.{terminals, lines_length, rows, combine_fits, eight}
+use Rattle.combining.specs.Calls.{terminals, lines_length, rows, combine_fits, combined_reply, eight}
 use Rattle.combining.specs.Sending.{is_sending, sending, lines_taken}
 use Rattle.test_lemmas.proofs.ByCases.{by_test, at_each_below}
 use Rattle.symbols.proofs.Lines.{Small, within_small, fits_within}
@@ -161,6 +162,7 @@ combines lines cleared all last h z a e =
         rw (a, get_d_tabulate line_length (λ j. gathered (get_or cleared j none) (column j sent)) i k, z, get_or-replicate {A = ℕ} line_length i none 0 k)
         (gathered_combined (column i sent) (small i))
 
--- What the call leaves where it is lent lines.
-pub combine_done : (lines lent last : List ℕ) → combine_fits lines lent ≡ true → last ≡ eight lines → last ≡ leaves (combine_fits lines lent) (eight lines) lent
-combine_done lines lent last h e = rw h e
+-- What the call replies and leaves where it is lent lines.
+pub combine_done : (lines lent last : List ℕ) (taken : ℕ) → combine_fits lines lent ≡ true → taken ≡ lines_taken lines → last ≡ eight lines
+    → (Ok taken ≡ combined_reply (combine_fits lines lent) (lines_taken lines)) × (last ≡ leaves (combine_fits lines lent) (eight lines) lent)
+combine_done lines lent last taken h n e = (rw (h, n), rw h e)

@@ -1,12 +1,13 @@
 -- The lines of terminals that send: they alone give the line that all give; how many of several send.
 use mathlib.Core.Path.{◌≡◌, refl, sym, ap, ◌∙◌}
-use mathlib.Core.Bool.{true, false, not}
+use mathlib.Core.Bool.{Bool, true, false, not}
 use mathlib.Core.List.{List, [], ◌∷◌, map}
-use Prim.Native.Nat.{ℕ, suc, ◌<◌}
+use Prim.Native.Nat.{ℕ, zero, suc, ◌+◌, ◌*◌, ◌<◌, ◌≤◌}
 use native.Mathlib.Omega.{arith}
-use borrow.Author.Tests.{not-false, leb-true}
+use borrow.Author.Tests.{not-false, eqb-true, eqb-false, leb-true}
 use lib.Dec.{eqb, leb}
-use lib.ListN.{length, replicate, get_or-replicate}
+use lib.ListN.{length, get_or, set, take, drop, replicate, length-set, length-map, get_or-replicate}
+use lib.Seq.{drop-drop, ext_get_or, get_or-set_same, get_or-set_other}
 use Rattle.test_lemmas.proofs.ByCases.{by_test, both, clash}
 use Rattle.symbols.specs.Symbols.{line_length, none, plus, minus, within, fits, same_symbols}
 use Rattle.symbols.proofs.Fill.{tabulate_ext}
@@ -18,6 +19,7 @@ use Rattle.framed.specs.Framed.{has_pulse}
 use Rattle.info.specs.Info.{info0, info1}
 use Rattle.info.proofs.Laws.{pulseless_info0}
 use Rattle.combining.specs.Combine.{is_sent, column, combined}
+use Rattle.combining.specs.Calls.{terminals, rows}
 use Rattle.combining.specs.Sent.{Sent, sent_line}
 use Rattle.combining.specs.Sent.Sent.{silent, calling, frame}
 use Rattle.combining.specs.SentD.{how_many_send}
@@ -83,3 +85,51 @@ sending_sent [] = refl
 sending_sent (silent ∷ xs) = rw info0_silent (sending_sent xs)
 sending_sent (calling ∷ xs) = rw info1_sends (ap suc (sending_sent xs))
 sending_sent (frame f ∷ xs) = rw (frame_sends f) (ap suc (sending_sent xs))
+
+-- ---- The loop that finds the senders.
+abbrev who_sends : List ℕ → List Bool
+who_sends lines = map is_sending (rows terminals lines)
+
+length_rows : (n : ℕ) (l : List ℕ) → length (rows n l) ≡ n
+unfolding rows
+length_rows zero l = refl
+length_rows (suc n) l = ap suc (length_rows n (drop line_length l))
+
+-- Whether the terminal at index k of n sends, by its line.
+sender_at : (n k : ℕ) (l : List ℕ) → k < n → get_or (map is_sending (rows n l)) k false ≡ is_sending (take line_length (drop (k * line_length) l))
+unfolding rows
+sender_at zero k l h = absurd (omega arith)
+sender_at (suc n) zero l h = refl
+sender_at (suc n) (suc k) l h =
+    let past : suc k * line_length ≡ line_length + k * line_length = omega arith in
+    sender_at n k (drop line_length l) (omega arith) ∙ rw (drop-drop (k * line_length) line_length l, past)
+
+pub sender_is : (lines : List ℕ) (found : List Bool) (n : ℕ) → found ≡ who_sends lines → n < terminals
+    → get_or found n false ≡ is_sending (take line_length (drop (n * line_length) lines))
+sender_is lines found n e h = rw e (sender_at terminals n lines h)
+
+-- Below index n it is found which terminals send.
+pub record Found (lines : List ℕ) (found : List Bool) (n : ℕ) : Type 0 where
+  pub long : length found ≡ terminals
+  pub low : n ≤ terminals
+  pub done : (k : ℕ) → k < n → get_or found k false ≡ get_or (who_sends lines) k false
+
+module _ {lines : List ℕ} {found : List Bool} {n : ℕ} (m : Found lines found n) where
+  -- The terminal at index n sends unless its line has no code above none.
+  pub found_next : n < terminals → (pulseless : Bool) → pulseless ≡ fits line_length none (take line_length (drop (n * line_length) lines))
+      → Found lines (set found n (not pulseless)) (n + 1)
+  found_next l pulseless e = record {
+    long = length-set found n (not pulseless) ∙ m.long;
+    low = omega arith;
+    done = λ k j.
+        by_test (eqb k n) (λ t. rw (eqb-true k n t) (get_or-set_same found n (not pulseless) false (omega (arith, m.long)) ∙ here))
+        (λ t. get_or-set_other found n k (not pulseless) false (eqb-false k n t) ∙ m.done k (omega (arith, eqb-false k n t)));
+  }
+    where
+      here : not pulseless ≡ get_or (who_sends lines) n false
+      here = ap not e ∙ (sending_is _ ∙ sym (sender_at terminals n lines l))
+
+  pub found_done : terminals ≤ n → found ≡ who_sends lines
+  found_done h =
+      ext_get_or false found (who_sends lines) (m.long ∙ sym (length-map (rows terminals lines) is_sending ∙ length_rows terminals lines))
+      (λ i k. m.done i (omega (arith, m.long)))

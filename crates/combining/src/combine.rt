@@ -1,6 +1,6 @@
 // Several terminals on one line: plus where only plus is sent, minus where only minus, none
-// otherwise. The lines of the terminals that send alone are gathered.
-ghost use Rattle.std.specs.Prelude.{◌≡◌, length, get_or};
+// otherwise. Which terminals send is found first, and their lines alone are gathered.
+ghost use Rattle.std.specs.Prelude.{◌≡◌, map, length, get_or};
 ghost use Rattle.std.specs.Int.Bits.{bit_or};
 ghost use Rattle.symbols.specs.Symbols.{none, line_length, line_by};
 ghost use Rattle.symbols.specs.Calls.{leaves};
@@ -56,20 +56,33 @@ fn sends(line: &[u8]) -> bool
     !fits(line, LINE_LENGTH, NONE)
 }
 
+// Finds which of the eight terminals send, by their lines.
+fn senders(lines: &[u8]) -> [bool; TERMINALS]
+    requires { length lines.now ≡ lines_length }
+    ensures { result ≡ map is_sending (rows terminals lines.now) }
+{
+    let mut found = [false; TERMINALS];
+    for n in 0..TERMINALS {
+        let from = n * LINE_LENGTH;
+        found[n] = sends(&lines[from..from + LINE_LENGTH]);
+    }
+    found
+}
+
 // Adds the lines of the terminals that send to what is gathered in `sum`, and gives how many they
 // are.
-fn gather(lines: &[u8], sum: &mut [u8; LINE_LENGTH]) -> u8
-    requires { length lines.now ≡ lines_length }
+fn gather(lines: &[u8], sends: [bool; TERMINALS], sum: &mut [u8; LINE_LENGTH]) -> u8
+    requires lines_len { length lines.now ≡ lines_length }
+    requires sends_value { sends ≡ map is_sending (rows terminals lines.now) }
     ensures taken { result ≡ lines_taken lines.now }
     ensures octets { sum.new
         ≡ line_by (λ i. gathered (get_or sum.old i none) (column i (sending (rows terminals lines.now)))) }
 {
     let mut taken = 0;
     for n in 0..TERMINALS {
-        let from = n * LINE_LENGTH;
-        let line = &lines[from..from + LINE_LENGTH];
-        if sends(line) {
-            overlay(sum, line);
+        if sends[n] {
+            let from = n * LINE_LENGTH;
+            overlay(sum, &lines[from..from + LINE_LENGTH]);
             taken += 1;
         }
     }
@@ -87,8 +100,9 @@ pub fn combine(lines: &[u8], out: &mut [u8]) -> Result<u8, Refusal>
     if out.len() != LINE_LENGTH || !fits(lines, LINES_LENGTH, MINUS) {
         return Err(Refusal::WrongSlice);
     }
+    let sends = senders(lines);
     let mut sum = [NONE; LINE_LENGTH];
-    let taken = gather(lines, &mut sum);
+    let taken = gather(lines, sends, &mut sum);
     resolve(&mut sum);
     out.copy_from_slice(&sum);
     Ok(taken)

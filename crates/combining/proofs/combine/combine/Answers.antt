@@ -8,12 +8,15 @@ use Rattle.combining.specs.Calls.{lines_length}
 use Rattle.combining.proofs.Gather.{combine_done, combines}
 use Rattle.combining.proofs.combine.combine.Goals as goal
 
-pub gather-taken-requires : goal.gather-taken-requires
-gather-taken-requires c = fits_length lines_length minus _ (sym c.fits.ensures ∙ c.if-not-fits.false)
+pub senders-sends-requires : goal.senders-sends-requires
+senders-sends-requires c = fits_length lines_length minus _ (sym c.fits.ensures ∙ c.if-not-fits.false)
+
+pub gather-taken-requires-clause-lines_len : goal.gather-taken-requires-clause-lines_len
+gather-taken-requires-clause-lines_len c = fits_length lines_length minus _ (sym c.fits.ensures ∙ c.if-not-fits.false)
 
 pub returns-clause-octets : goal.returns-clause-octets
 returns-clause-octets c =
     let args = c.args in
     let good = sym c.fits.ensures ∙ c.if-not-fits.false in
-    combine_done args.lines.now args.out.now _ (and_both_true _ _ (eq-eqb _ _ c.if-out-ne-LINE_LENGTH.false) good)
-    (combines args.lines.now _ _ _ good refl c.gather-taken.ensures.octets (c.copy_from_slice.ensures.after ∙ c.resolve.ensures))
+    (combine_done args.lines.now args.out.now _ _ (and_both_true _ _ (eq-eqb _ _ c.if-out-ne-LINE_LENGTH.false) good) c.gather-taken.ensures.taken
+    (combines args.lines.now _ _ _ good refl c.gather-taken.ensures.octets (c.copy_from_slice.ensures.after ∙ c.resolve.ensures))).1
