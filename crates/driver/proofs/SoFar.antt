@@ -1,8 +1,8 @@
--- The turns so far, by their count.
+-- The turns so far, and those that are left of the count.
 use mathlib.Core.Bool.{Bool, true, false, cond, ◌||◌}
 use mathlib.Core.List.{List, [], ◌∷◌, ◌++◌}
 use mathlib.Core.Path.{◌≡◌, refl, ◌∙◌}
-use Prim.Native.Nat.{ℕ, ◌+◌, ◌≤◌, ◌<◌}
+use Prim.Native.Nat.{ℕ, ◌+◌, ◌≤◌, ◌<◌, ◌-◌}
 use native.Mathlib.Omega.{arith}
 use lib.Dec.{eqb}
 use lib.ListN.{length, length-append}
@@ -27,7 +27,7 @@ pub record SoFar (most : ℕ) (text₀ room₀ images₀ octets₀ letters₀ : 
   pub parts : List (List ℕ)
   pub out : List ℕ
   pub chain : Chain most first text₀ room₀ images₀ octets₀ letters₀ h text room images octets letters parts out
-  pub count : length parts ≡ turns
+  pub count : turns + length parts ≡ most_turns
 
 -- ---- The test of the loop.
 abbrev pub is_done : Held → Bool
@@ -45,25 +45,25 @@ not_due h e d = clash (is_done h) e (rw (d.0, ne_eqb h.why OVER d.1))
 
 -- ---- Before the first turn, after one more, and at the end.
 none_yet : (most : ℕ) (text room images octets letters : List ℕ)
-    → SoFar most text room images octets letters 0 first text room images octets letters
+    → SoFar most text room images octets letters most_turns first text room images octets letters
 none_yet most text room images octets letters = record { parts = []; out = []; chain = none; count = refl }
 
 pub no_turn : (most : ℕ) (text room images octets letters : List ℕ) (p : Progress) → p ≡ fresh_progress
-    → SoFar most text room images octets letters 0 (record { progress = p; have = 0; why = TEXT; whole = false; failed = false })
+    → SoFar most text room images octets letters most_turns (record { progress = p; have = 0; why = TEXT; whole = false; failed = false })
     text room images octets letters
 no_turn most text room images octets letters p e = rw e (none_yet most text room images octets letters)
 
 module _ {most : ℕ} {text₀ room₀ images₀ octets₀ letters₀ : List ℕ} {turns : ℕ} {h : Held} {text room images octets letters : List ℕ}
     (s : SoFar most text₀ room₀ images₀ octets₀ letters₀ turns h text room images octets letters) where
-  pub one_more : {r : Held} {text' room' images' octets' letters' : List ℕ} → is_done h ≡ false
+  pub one_more : {r : Held} {text' room' images' octets' letters' : List ℕ} → 0 < turns → is_done h ≡ false
       → Turned most h text room images octets letters r text' room' images' octets' letters'
-      → SoFar most text₀ room₀ images₀ octets₀ letters₀ (turns + 1) r text' room' images' octets' letters'
-  one_more e t =
+      → SoFar most text₀ room₀ images₀ octets₀ letters₀ (turns - 1) r text' room' images' octets' letters'
+  one_more l e t =
       record {
         parts = s.parts ++ (t.part ∷ []);
         out = _;
         chain = more s.chain (is_due h e) t;
-        count = omega (arith, s.count, length-append s.parts (t.part ∷ []));
+        count = omega (arith, l, s.count, length-append s.parts (t.part ∷ []));
       }
 
   at_end : (Due h → length s.parts ≡ most_turns) → Drives most text₀ room₀ images₀ octets₀ letters₀ text room images octets letters
@@ -72,7 +72,7 @@ module _ {most : ℕ} {text₀ room₀ images₀ octets₀ letters₀ : List ℕ
   pub no_more : is_done h ≡ true → Drives most text₀ room₀ images₀ octets₀ letters₀ text room images octets letters
   no_more e = at_end (λ d. not_due h e d)
 
-  pub used_up : turns ≡ most_turns → Drives most text₀ room₀ images₀ octets₀ letters₀ text room images octets letters
+  pub used_up : turns ≡ 0 → Drives most text₀ room₀ images₀ octets₀ letters₀ text room images octets letters
   used_up e = at_end (λ d. omega (arith, s.count))
 
 -- ---- A run: 0 octets at most count as 1,

@@ -18,7 +18,7 @@ use symbols::LINE_LENGTH;
 const TEXT_ROOM: usize = 65_536;
 
 // Takes turns until the book is over or a write has failed. Nothing says that the input ends, so
-// the turns are counted, up to a number that no run comes to (`RunEnds`). The first turn stands
+// the turns are counted down, from a number that no run uses up (`RunEnds`). The first turn stands
 // before the loop: where the compiler sees a fresh book go into the loop, it copies the book's
 // fields one by one, at every turn.
 fn drive(
@@ -45,7 +45,7 @@ fn drive(
         failed: false,
     };
     let mut h = turn(rt, first, text, room, images, octets, letters, most);
-    for _turns in 1..u64::MAX {
+    for _turns in (0..u64::MAX - 1).rev() {
         if h.failed | (h.why == OVER) {
             return;
         }

@@ -13,7 +13,7 @@ const EINTR: u64 = 4;
 const EAGAIN: u64 = 11;
 
 // How often a call is tried at the most: nothing says that it ever succeeds, so the tries are
-// counted, up to a number that no run comes to.
+// counted down, from a number that no run uses up.
 pub(crate) const TRIES: u64 = u64::MAX;
 
 // Gives errno as a number.

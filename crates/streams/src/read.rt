@@ -19,7 +19,7 @@ pub fn read_in(rt: &HostRuntime, part: &mut [u8]) -> usize
     ensures { IsPrefixLen result part.new }
 {
     let mut error = 0;
-    for _ in 0..TRIES {
+    for _ in (0..TRIES).rev() {
         match read_once(rt, part) {
             Ok(count) => return count,
             Err(e) => error = e,

@@ -20,7 +20,7 @@ fn write_some(rt: &HostRuntime, octets: &[u8], done: usize) -> usize
     ensures { done + result ≤ length octets.now }
 {
     let mut error = 0;
-    for _ in 0..TRIES {
+    for _ in (0..TRIES).rev() {
         match write_once(rt, octets, done) {
             Ok(0) => error = 0,
             Ok(count) => return count,

@@ -21,17 +21,17 @@ pub loop-turns-preserved : goal.loop-turns-preserved
 loop-turns-preserved c =
     let i = c.loop-turns.invariant in
     let t = c.turn-h-in-loop-turns in (
-      λ ts rs is os ls s. one_more (i.0 ts rs is os ls s) c.if-h.false t.ensures,
+      λ ts rs is os ls s. one_more (i.0 ts rs is os ls s) (omega arith) c.if-h.false t.ensures,
       goes_on _ _ _ _ _ _ _ _ _ _ _ _ _ i.1 t.ensures,
       omega (arith, t.auto.text, i.2),
     )
 
 pub returns-then-h : goal.returns-then-h
 returns-then-h c =
-    let one = one_more (no_turn _ _ _ _ _ _ _ c.fresh.ensures) refl c.turn-h.ensures in
+    let one = one_more (no_turn _ _ _ _ _ _ _ c.fresh.ensures) (omega arith) refl c.turn-h.ensures in
     no_more (c.loop-turns.invariant.0 _ _ _ _ _ one) c.if-h.true
 
 pub returns : goal.returns
 returns c =
-    let one = one_more (no_turn _ _ _ _ _ _ _ c.fresh.ensures) refl c.turn-h.ensures in
+    let one = one_more (no_turn _ _ _ _ _ _ _ c.fresh.ensures) (omega arith) refl c.turn-h.ensures in
     used_up (c.loop-turns.invariant.0 _ _ _ _ _ one) (omega arith)
