@@ -6,13 +6,13 @@ use Prim.Native.Nat.{ℕ, zero, suc, ◌+◌, ◌≤◌, ◌<◌}
 use native.Mathlib.Omega.{arith}
 use lib.Dec.{eqb}
 use lib.ListN.{length, take}
-use borrow.Author.Tests.{ne_eqb, eqb-true}
+use borrow.Author.Tests.{ne_eqb, eqb-true, eqb-false}
 use Rattle.std.specs.Prelude.{Option, Some, None, Result, Ok, Err, ◌&&◌}
 use Rattle.test_lemmas.proofs.ByCases.{by_test, clash}
 use Rattle.refusals.specs.Numbers.{number, reason_of}
 use Rattle.refusals.specs.declared.Refusal.{Refusal}
-use Rattle.refusals.specs.declared.Refusal.TheVariants.{OutOfRange, WrongSlice, NoSuchUnit, NotForUnit, Barred, OutsideF7, BodyLength}
-use Rattle.refusals.specs.declared.Refusal.TheVariants.{FrameHeld, AllPeriodsRun, NoFrame, NoFirstLine, WrongLine, WrongPeriod, NoEnd}
+use Rattle.refusals.specs.declared.Refusal.TheVariants.{OutOfRange, WrongSlice}
+use Rattle.refusals.proofs.Laws.{number_some}
 use Rattle.bus_record.specs.Record.{record_in_range}
 use Rattle.bus_call_specs.specs.Ready.{eight_in_range, lent_fits, run_reason, run_reply}
 use Rattle.bus_record.specs.NetworkSide.{refused_run}
@@ -84,20 +84,7 @@ err_ok q = let o : ◌≡◌ {A = ℕ} 0 1 = cc in absurd (omega arith)
 
 -- no reason has the number 0
 numbered : (e : Refusal) → number e ≡ 0 → ⊥
-numbered OutOfRange h = omega arith
-numbered WrongSlice h = omega arith
-numbered NoSuchUnit h = omega arith
-numbered NotForUnit h = omega arith
-numbered Barred h = omega arith
-numbered OutsideF7 h = omega arith
-numbered BodyLength h = omega arith
-numbered FrameHeld h = omega arith
-numbered AllPeriodsRun h = omega arith
-numbered NoFrame h = omega arith
-numbered NoFirstLine h = omega arith
-numbered WrongLine h = omega arith
-numbered WrongPeriod h = omega arith
-numbered NoEnd h = omega arith
+numbered e = eqb-false (number e) 0 (number_some e)
 
 -- a call that replies 0 has gone on
 pub gone_on_call : (r : Result GoneOn Refusal) → reply_of r ≡ 0 → (w : GoneOn) × (r ≡ Ok w)

@@ -2,7 +2,8 @@
 // a number is wanted, in a report or by a C host, a reason has the one that the document gives it.
 #![tactic(auto)]
 
-ghost use Rattle.std.specs.Prelude.{◌≡◌};
+ghost use Rattle.std.specs.Prelude.{◌≡◌, Some};
+ghost use Rattle.std.specs.Fmt.{decimal};
 ghost use Rattle.refusals.specs.Numbers.{number, reply_of};
 
 use std::fmt;
@@ -63,7 +64,10 @@ impl Refusal {
     }
 }
 
+// A reason is printed as its number.
 impl fmt::Display for Refusal {
+    ghost output = { λ refusal. Some (decimal (number refusal)) };
+
     fn fmt<W: fmt::Write>(&self, f: &mut fmt::Formatter<W>) -> fmt::Result {
         write!(f, "{}", self.number())
     }
