@@ -50,10 +50,17 @@ pub fn as_line(s: &[u8]) -> Result<&[u8; LINE_LENGTH], Refusal>
     }
 }
 
-// Tests whether a and b are the same, code for code.
-#[tactic(auto, using(crate::proofs::Comparing::pointwise_same))]
+// Tests whether a and b are the same, code for code. It goes to their end wherever they differ: they
+// nearly always are the same, and without a way out at each code the loop takes sixteen at a time.
 pub fn same_symbols(a: &[u8], b: &[u8]) -> bool
     ensures { result ≡ spec.same_symbols a.now b.now }
 {
-    a == b
+    if a.len() != b.len() {
+        return false;
+    }
+    let mut ok = true;
+    for i in 0..a.len() {
+        ok &= a[i] == b[i];
+    }
+    ok
 }
