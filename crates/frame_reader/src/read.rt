@@ -161,14 +161,14 @@ fn read<F: Frame>(line: &[u8]) -> Result<F, Refusal>
 pub fn read_down(line: &[u8]) -> Result<DownFields, Refusal>
     ensures { result ≡ down_read line.now }
 {
-    read(line)
+    read::<DownFields>(line)
 }
 
 // Reads an upward frame in the same way.
 pub fn read_up(line: &[u8]) -> Result<UpFields, Refusal>
     ensures { result ≡ up_read line.now }
 {
-    read(line)
+    read::<UpFields>(line)
 }
 
 // Gives the four D bits of a line of either direction.
