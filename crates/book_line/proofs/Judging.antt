@@ -95,6 +95,12 @@ module _ (f0 f1 f2 v : List ℕ) (ends : Ends) where
       let n = name_said f2 event e in
       let x : said ≡ false = rw (sym n.value, n.some, sym w) in rw (and_right_false (is_number f0 && is_number f1) said x)
 
+  -- of a name and a value together
+  pub wrong_told : (event : ℕ) (fits : Bool) → event ≡ event_named f2 → fits ≡ value_fits event v → (not (eqb event 0) && fits) ≡ false
+      → Err WrongLine ≡ judged_fields f0 f1 f2 v ends
+  unfolding judged_fields
+  wrong_told event fits e w h = rw (and_right_false (is_number f0 && is_number f1) said (rw (w, e) at h))
+
   pub right : (p u event : ℕ) → Ok p ≡ number_of f0 → Ok u ≡ number_of f1
       → Some event ≡ event_if_named f2 → true ≡ value_fits event v → Ok (entry p u event ends) ≡ judged_fields f0 f1 f2 v ends
   unfolding judged_fields

@@ -1,5 +1,5 @@
 -- Decimal numbers of at most seven digits: they fit, and how the loop over their digits comes on.
-use mathlib.Core.Path.{◌≡◌}
+use mathlib.Core.Path.{◌≡◌, refl}
 use mathlib.Core.Bool.{Bool, true, false, ◌&&◌}
 use mathlib.Core.List.{List}
 use Prim.Native.Nat.{ℕ, ◌+◌, ◌-◌, ◌*◌, ◌≤◌, ◌<◌, ◌^◌}
@@ -14,7 +14,7 @@ use Rattle.std.specs.Prelude.{Ok, Err}
 use Rattle.refusals.specs.declared.Refusal.TheVariants.{WrongLine}
 use Rattle.test_lemmas.proofs.ByCases.{and_right_false}
 use Rattle.test_lemmas.proofs.Operators.{and_both}
-use Rattle.symbols.proofs.Scan.{Rest}
+use Rattle.symbols.proofs.Scan.{Rest, rest_start}
 use Rattle.text.specs.Text.{all, is_digit, onward, number}
 use Rattle.text.proofs.Pieces.{all_go}
 use Rattle.book_line.specs.Line.{most_digits, is_number}
@@ -25,6 +25,10 @@ pub record Reading (f : List ℕ) (n i : ℕ) : Type 0 where
   pub digits : Rest (all is_digit) f i
   pub small : n < 10 ^ i
   pub reads : onward n (drop i f) ≡ number f
+
+-- none has been read
+pub reading_start : {f : List ℕ} → Reading f 0 0
+reading_start = record { digits = rest_start; small = omega arith; reads = refl }
 
 pub digit_range : (c : ℕ) → is_digit c ≡ true → (48 ≤ c) × (c ≤ 57)
 digit_range c e = let b = and_both (leb 48 c) (leb c 57) e in (leb-true 48 c b.0, leb-true c 57 b.1)

@@ -1,19 +1,49 @@
--- The rest goes to the front: what stands in the buffer then.
+-- The rest goes to the front: one octet more that is moved, and what stands in the buffer then.
 use mathlib.Core.Path.{◌≡◌, sym, ap, ◌∙◌}
 use mathlib.Core.List.{List, [], ◌∷◌, ◌++◌}
-use Prim.Native.Nat.{ℕ, zero, suc, ◌-◌, ◌≤◌, ◌<◌, min}
+use Prim.Native.Nat.{ℕ, zero, suc, ◌+◌, ◌-◌, ◌≤◌, ◌<◌, min}
 use native.Mathlib.Nat.{zero-add}
+use native.Mathlib.Numerals.{add-one}
 use native.Mathlib.Omega.{arith}
 use lib.Dec.{ltb}
-use lib.ListN.{length, take, drop, length-drop, length-take, length-append, drop_of_length-le}
-use lib.Seq.{take_all, take-nil, paste, take-append_seam, drop-append_seam, length-take-le}
+use lib.ListN.{length, get_or, set, take, drop, length-drop, length-take, length-append, drop_of_length-le}
+use lib.Seq.{get_or-drop, take_all, take-nil, paste, paste-suc, drop-paste, length-paste, take-append_seam, drop-append_seam, length-take-le}
 use borrow.Author.Tests.{ltb-true, ltb-false}
 use Rattle.test_lemmas.proofs.ByCases.{by_test}
 use Rattle.book_reader.specs.Rest.{rest_of, kept}
 
 -- i octets from start on have been moved
-abbrev fronted : ℕ → ℕ → List ℕ → List ℕ
+abbrev pub fronted : ℕ → ℕ → List ℕ → List ℕ
 fronted start i buf = paste buf 0 (drop start buf) i
+
+module _ (buf : List ℕ) (start i : ℕ) (there : start + i ≤ length buf) where
+  few : i ≤ length (drop start buf)
+  few = omega (arith, length-drop start buf)
+
+  pub length_fronted : length (fronted start i buf) ≡ length buf
+  length_fronted = length-paste buf 0 (drop start buf) i (omega arith) few
+
+  -- the octets ahead are as they were
+  behind : drop i (fronted start i buf) ≡ drop i buf
+  behind =
+      sym (ap (λ (k : ℕ). drop k (fronted start i buf)) (zero-add i))
+      ∙ (drop-paste buf 0 (drop start buf) i (omega arith) few ∙ ap (λ (k : ℕ). drop k buf) (zero-add i))
+
+  ahead : get_or (fronted start i buf) (start + i) 0 ≡ get_or (drop start buf) i 0
+  ahead =
+      let e : start + i ≡ i + start = omega arith in
+      rw e
+      (sym (get_or-drop i (fronted start i buf) start 0)
+      ∙ (ap (λ (l : List ℕ). get_or l start 0) behind
+      ∙ (get_or-drop i buf start 0 ∙ (ap (λ (k : ℕ). get_or buf k 0) (sym e) ∙ sym (get_or-drop start buf i 0)))))
+
+pub front_turn : (buf : List ℕ) (start i : ℕ) → start + i < length buf
+    → set (fronted start i buf) i (get_or (fronted start i buf) (start + i) 0) ≡ fronted start (i + 1) buf
+front_turn buf start i h =
+    rw (add-one i)
+    (ap (set (fronted start i buf) i) (ahead buf start i (omega arith))
+    ∙ (sym (ap (λ (k : ℕ). set (fronted start i buf) k (get_or (drop start buf) i 0)) (zero-add i))
+    ∙ paste-suc buf 0 (drop start buf) i 0 (omega arith) (omega (arith, length-drop start buf))))
 
 pub rest_is : (f e : ℕ) (l : List ℕ) → take (e - f) (drop f l) ≡ drop f (take e l)
 rest_is zero e l = let z : e - 0 ≡ e = omega arith in rw z

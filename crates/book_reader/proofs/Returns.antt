@@ -1,5 +1,5 @@
 -- Each way out of the calls on lent text, over plain values.
-use mathlib.Core.Path.{◌≡◌, sym, ap, ◌∙◌}
+use mathlib.Core.Path.{◌≡◌, refl, sym, ap, ◌∙◌}
 use mathlib.Core.Bool.{Bool, true, false}
 use mathlib.Core.List.{List}
 use Prim.Native.Nat.{ℕ, ◌+◌, ◌-◌, ◌≤◌, ◌<◌, min}
@@ -13,10 +13,12 @@ use Rattle.std.specs.Prelude.{Result, Ok, Err}
 use Rattle.refusals.specs.declared.Refusal.{Refusal}
 use Rattle.refusals.specs.Numbers.{number}
 use Rattle.text.specs.Text.{LF, upto}
+use Rattle.text.specs.declared.field.Ends.{Ends}
 use Rattle.book_line.specs.Line.{longest_line, in_order}
 use Rattle.book_line.specs.Judging.{judged}
 use Rattle.book_line.specs.declared.line.Entry.{Entry}
 use Rattle.book_reader.specs.Step.{before_first_line, at_lines, ruled, window, line_step, unended, head_step, tail_step, step_of, step_at}
+use Rattle.book_reader.specs.Step.{value_from, value_to}
 use Rattle.book_reader.specs.declared.step.Step.{Step}
 
 -- ---- a line that is judged
@@ -33,6 +35,16 @@ module _ (last end : ℕ) where
       → Step.Entry e.period e.unit e.event e.ends end ≡ ruled last end j
   unfolding ruled
   ruled_entry e j q f = let z : Step.Entry e.period e.unit e.event e.ends end ≡ ruled last end (Ok e) = rw f in z ∙ ap (ruled last end) q
+
+-- ---- the four answers that are no entry have no value
+no_entry : (said : Step) → ((p u e : ℕ) (ends : Ends) (octets : ℕ) → said ≡ Step.Entry p u e ends octets → ⊥)
+    → (value_from said ≡ 0) × (value_to said ≡ 0)
+unfolding value_from value_to
+no_entry Step.Begun k = (refl, refl)
+no_entry (Step.Entry p u e ends octets) k = absurd (k p u e ends octets refl)
+no_entry Step.Done k = (refl, refl)
+no_entry (Step.Fault n) k = (refl, refl)
+no_entry Step.More k = (refl, refl)
 
 -- ---- the search for a line's LF
 -- no more than are there

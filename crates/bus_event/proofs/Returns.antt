@@ -84,6 +84,12 @@ module _ (i : ℕ) (value images : List ℕ) (l : i < terminals) (e : length ima
     unfolding image_put
     octets_are last o = rw (o, room)
 
+    -- both of them
+    pub put_bits_lem : (n : ℕ) → r ≡ Ok n → (last : List ℕ) → last ≡ imaged_octets value (take k (drop (i * image_room) images))
+        → (n ≡ length (image value)) × (take (i * image_room) images ++ (last ++ drop k (drop (i * image_room) images)) ≡ image_put i value images)
+    put_bits_lem n q last o =
+        (let both : ◌≡◌ {A = Result ℕ Refusal} (Ok n) (Ok (length (image value))) = sym q ∙ bits_are in cc, octets_are last o)
+
 -- ---- The reasons for which terminal i is not given a frame.
 module _ (images i octets : ℕ) (t : Terminal) (fit : Bool) (is : fit ≡ terminalCalls.terminal_in_range t) where
   abbrev lent : Bool

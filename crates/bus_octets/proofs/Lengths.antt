@@ -3,7 +3,8 @@ use mathlib.Core.List.{List, [], ◌∷◌, ◌++◌, append_assoc, append-nil}
 use mathlib.Core.Path.{◌≡◌, refl, ap, ◌∙◌}
 use Prim.Native.Nat.{ℕ, ◌+◌, ◌*◌, ◌≤◌}
 use native.Mathlib.Omega.{arith}
-use lib.ListN.{length, drop, replicate, length-append}
+use lib.ListN.{length, take, drop, replicate, length-append, length-drop, length-replicate, drop_of_length-le}
+use lib.Seq.{length-take-le}
 use Rattle.symbols.specs.Symbols.{line_length}
 use Rattle.hdlc.specs.Image.{longest_body}
 use Rattle.terminal.specs.declared.Terminal.{Terminal}
@@ -45,6 +46,14 @@ pub head_back : (r : BusRecord) (ts : List Terminal) → length ts ≡ terminals
 head_back r ts h =
     let e = length_head r ts h in
     laid_front (head_octets r ts) (replicate letters_at 0) (rw e (omega arith)) ∙ rw (e, append-nil)
+
+-- a part of the octets, laid into room that just holds it
+pub part_back : (n at : ℕ) (s : List ℕ) → at + n ≤ length s → laid (replicate n 0) 0 (take n (drop at s)) ≡ take n (drop at s)
+part_back n at s h =
+    let part : List ℕ = take n (drop at s) in
+    let e : length part ≡ n = length-take-le n (drop at s) (rw (length-drop at s) (omega arith)) in
+    let r : length {A = ℕ} (replicate n 0) ≡ n = length-replicate n 0 in
+    laid_front part (replicate n 0) (omega arith) ∙ (ap (λ (l : List ℕ). part ++ l) (drop_of_length-le (replicate n 0) {i = length part} (omega arith)) ∙ append-nil part)
 
 -- ---- What a call has left of a bus, laid over the octets of which only the images are new.
 pub stored_over : (room : List ℕ) (k : Kept) → length k.terminals ≡ terminals → length k.letters ≡ line_length → length k.octets ≡ longest_body

@@ -10,13 +10,43 @@ use Rattle.test_lemmas.proofs.ByCases.{by_test}
 use Rattle.test_lemmas.proofs.Operators.{and_both}
 use Rattle.std.proofs.Common.{arith}
 use Rattle.std.proofs.lemmas.Grind.{common_steps}
+use Rattle.std.specs.Prelude.{Result, Ok, Err}
+use Rattle.refusals.specs.declared.Refusal.{Refusal}
 use Rattle.hdlc.specs.Image.{longest_body}
 use Rattle.frame.specs.Four.{all_four}
 use Rattle.frame.specs.declared.fields.Four.{Four}
-use Rattle.d_reader.specs.Counters.{fresh_reader, after_bit, answer_to, fills, store_whole, read_bit, read_octets}
+use Rattle.d_reader.specs.Counters.{Read, fresh_reader, after_bit, answer_to, fills, store_whole, read_bit, read_octets}
 use Rattle.d_reader.specs.declared.Reader.{Reader}
+use Rattle.d_reader.specs.declared.ReaderAnswer.{ReaderAnswer}
+use Rattle.d_reader.specs.declared.ReaderAnswer.TheVariants.{Nothing, Heard, Torn}
 use Rattle.bus_record.specs.Reading.{quiet_reading, said_with, spoken_to, octets_to, spoken_to_four, octets_to_four, reader_waits}
 use Rattle.bus_record.specs.declared.reading.Spoken.{Spoken}
+
+module _ (b : Bool) (buf : List ℕ) (s : Spoken) (x : Read) (e : x ≡ read_bit b buf s.reader) where
+  answered : spoken_to b buf s ≡ said_with x.answer x.reader s
+  unfolding spoken_to
+  answered = rw e
+
+  pub heard_said : (n : ℕ) → x.answer ≡ Ok (Heard n) → ◌≡◌ {A = Spoken} (record { reader = x.reader; said = Heard n }) (spoken_to b buf s)
+  unfolding said_with
+  heard_said n a = rw (answered, a)
+
+  pub torn_said : x.answer ≡ Ok Torn → ◌≡◌ {A = Spoken} (record { reader = x.reader; said = Torn }) (spoken_to b buf s)
+  unfolding said_with
+  torn_said a = rw (answered, a)
+
+  -- where neither a frame was heard nor one torn, nothing is said
+  silent : (a : Result ReaderAnswer Refusal) → ((n : ℕ) → a ≡ Ok (Heard n) → ⊥) → (a ≡ Ok Torn → ⊥)
+      → ◌≡◌ {A = Spoken} (record { reader = x.reader; said = s.said }) (said_with a x.reader s)
+  unfolding said_with
+  silent (Ok Nothing) h t = refl
+  silent (Ok (Heard n)) h t = absurd (h n refl)
+  silent (Ok Torn) h t = absurd (t refl)
+  silent (Err k) h t = refl
+
+  pub none_said : ((n : ℕ) → x.answer ≡ Ok (Heard n) → ⊥) → (x.answer ≡ Ok Torn → ⊥)
+      → ◌≡◌ {A = Spoken} (record { reader = x.reader; said = s.said }) (spoken_to b buf s)
+  none_said h t = rw answered (silent x.answer h t)
 
 -- four bits one after the other
 pub four_read_lem : (ds : Four) (buf b1 b2 b3 b4 : List ℕ) (s s1 s2 s3 s4 : Spoken)

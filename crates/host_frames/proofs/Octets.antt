@@ -4,6 +4,7 @@ use mathlib.Core.Bool.{Bool, true, false, ◌&&◌}
 use mathlib.Core.List.{List, [], ◌∷◌}
 use Prim.Native.Nat.{ℕ, zero, suc, ◌+◌, ◌≤◌, ◌<◌}
 use native.Mathlib.Omega.{arith}
+use mir.Val.{bool_byte}
 use borrow.Author.Tests.{eqb-true, eqb-false, leb-true}
 use lib.Dec.{eqb, leb}
 use lib.ListN.{length, take, drop, get_or}
@@ -12,9 +13,35 @@ use Rattle.test_lemmas.proofs.ByCases.{by_test, both, and_left, and_right}
 use Rattle.symbols.specs.Symbols.{within, tabulate}
 use Rattle.symbols.proofs.Fill.{tabulate_is}
 use Rattle.frame.specs.Bits.{bit}
+use Rattle.frame.proofs.Bits.{byte_bit}
 use Rattle.frame.specs.declared.fields.DownFields.{DownFields}
 use Rattle.frame.specs.declared.fields.UpFields.{UpFields}
 use Rattle.host_frames.specs.Octets.{fields_length, down_octets, down_from, as_down, up_part, up_octets, up_from, is_down, is_up}
+
+-- The octets as the code has them.
+abbrev pub code_octets : DownFields → List ℕ
+code_octets f =
+    f.b1first
+    ∷ f.b2first
+    ∷ f.b1second
+    ∷ f.b2second
+    ∷ bool_byte f.d.first
+    ∷ bool_byte f.d.second
+    ∷ bool_byte f.d.third
+    ∷ bool_byte f.d.fourth
+    ∷ bool_byte f.e.first
+    ∷ bool_byte f.e.second
+    ∷ bool_byte f.e.third
+    ∷ bool_byte f.e.fourth
+    ∷ bool_byte f.a
+    ∷ bool_byte f.fa
+    ∷ bool_byte f.m
+    ∷ bool_byte f.s
+    ∷ []
+
+pub code_octets_lem : (f : DownFields) → code_octets f ≡ down_octets f
+unfolding down_octets
+code_octets_lem f = simp byte_bit
 
 -- A bit as an octet is 0 or 1, and comes back; an octet that is 0 or 1 is that of a bit.
 bit_most : (b : Bool) → leb (bit b) 1 ≡ true

@@ -50,7 +50,7 @@ notes_append now unit [] b = refl
 notes_append now unit (c ∷ a) b = rw (notes_append now unit a b)
 
 -- ---- The loop of `put_notes`: a note more, and all of them.
-notes_next : (form : Form) (now unit : ℕ) (codes : List ℕ) (i : ℕ) → i < length codes
+pub notes_next : (form : Form) (now unit : ℕ) (codes : List ℕ) (i : ℕ) → i < length codes
     → notes_in form (notes_of now unit (take (i + 1) codes))
     ≡ notes_in form (notes_of now unit (take i codes)) ++ note_in form (note now unit (get_or codes i 0) [])
 unfolding notes_in notes_of

@@ -1,16 +1,17 @@
 -- The notes of the terminals, one terminal after the other, as the loops put them.
 use mathlib.Core.Bool.{Bool}
 use mathlib.Core.List.{List, [], ◌∷◌, ◌++◌, append_assoc, append-nil}
-use mathlib.Core.Path.{◌≡◌, sym}
-use Prim.Native.Nat.{ℕ, zero, suc, ◌+◌, ◌/◌, ◌%◌, ◌^◌, ◌<◌, min}
+use mathlib.Core.Path.{◌≡◌, refl, sym, ◌∙◌}
+use Prim.Native.Nat.{ℕ, zero, suc, ◌+◌, ◌/◌, ◌%◌, ◌^◌, ◌≤◌, ◌<◌, min}
+use native.Mathlib.Nat.{div-div-eq-div-mul, div-one, mul_comm, pow-succ'}
 use native.Mathlib.Numerals.{add-one}
 use native.Mathlib.Omega.{arith}
 use lib.Dec.{eqb}
 use lib.ListN.{length, get_or, take}
-use lib.Seq.{take-suc, length-take-le}
+use lib.Seq.{take-suc, take_all, length-take-le}
 use Rattle.hdlc.specs.Bits.{bit_of}
 use Rattle.notes_and_cells.specs.Notes.{noted}
-use Rattle.bus_rules.specs.Bus.{Note, notes_of}
+use Rattle.bus_rules.specs.Bus.{Note, terminals, notes_of}
 use Rattle.bus_rules.specs.Order.{unit_by_unit, part_in_order}
 use Rattle.period_hearing.specs.declared.hears.UnitNotes.{UnitNotes}
 use Rattle.bus_record.specs.declared.side.RunAnswer.{RunAnswer}
@@ -18,7 +19,7 @@ use Rattle.bus_call_specs.specs.Lists.{reader_told, done_notes, terminals_heard,
 use Rattle.note_text.specs.Room.{Put}
 use Rattle.note_text.specs.NoteText.{notes_in}
 use Rattle.note_text.specs.declared.form.Form.{Form}
-use Rattle.note_text.proofs.RoomLaws.{put_put, put_start}
+use Rattle.note_text.proofs.RoomLaws.{put_put, put_start, put_length}
 use Rattle.note_text.proofs.NoteLaws.{form_append, codes_append}
 
 -- The notes of one terminal's hearing.
@@ -100,6 +101,77 @@ pub timed_next : {room : List ℕ} {wrote r₁ : ℕ} {room₁ : List ℕ} {r₂
     → Put room₁ r₁ (notes_in form (notes_of now (i + 1) (noted (get_or ns i d).timers))) r₂ room₂
     → Put room wrote (notes_in form (timers_told now 0 (take (i + 1) ns))) r₂ room₂
 timed_next form now ns i d h p q = rw (timers_next form now ns i d h) (put_put p q)
+
+-- ---- Where a loop stands that halves the octets of completed frames at each terminal: the notes of i terminals are put, and so many bits are gone
+-- from those octets.
+pub record Hearing (form : Form) (room₀ : List ℕ) (wrote now : ℕ) (ns : List UnitNotes) (done1 done2 : ℕ) (room : List ℕ) (first second at i : ℕ) : Type 0 where
+  pub long : length ns ≡ terminals
+  pub within : i ≤ terminals
+  pub first_is : first ≡ done1 / (2 ^ i)
+  pub second_is : second ≡ done2 / (2 ^ i)
+  pub kept : length room ≡ length room₀
+  pub put_are : (r : RunAnswer) → r.done1 ≡ done1 → r.done2 ≡ done2 → Put room₀ wrote (notes_in form (terminals_told now r 0 (take i ns))) at room
+
+pub hearing_starts : (form : Form) (room : List ℕ) (wrote now : ℕ) (ns : List UnitNotes) (done1 done2 at : ℕ) → length ns ≡ terminals → at ≡ min wrote (length room)
+    → Hearing form room wrote now ns done1 done2 room done1 done2 at 0
+unfolding unit_by_unit terminals_heard notes_in
+hearing_starts form room wrote now ns done1 done2 at long h =
+    record {
+      long = long;
+      within = omega arith;
+      first_is = sym (div-one done1);
+      second_is = sym (div-one done2);
+      kept = refl;
+      put_are = λ r d e. put_start room wrote h;
+    }
+
+half_again : (d i : ℕ) → d / (2 ^ i) / 2 ≡ d / (2 ^ (i + 1))
+half_again d i = rw (div-div-eq-div-mul d (2 ^ i) 2, add-one i, pow-succ' 2 i, mul_comm (2 ^ i) 2)
+
+module _ {form : Form} {room₀ : List ℕ} {wrote now : ℕ} {ns : List UnitNotes} {done1 done2 : ℕ} {room : List ℕ} {first second at i : ℕ}
+    (l : Hearing form room₀ wrote now ns done1 done2 room first second at i) where
+  pub hearing_next : (d : UnitNotes) {room' : List ℕ} {at' : ℕ} → i < terminals
+      → Put room at
+      (notes_in form (notes_of now (i + 1) (done_notes (eqb (first % 2) 1) (eqb (second % 2) 1) ++ noted (get_or ns i d).hearing))) at' room'
+      → Hearing form room₀ wrote now ns done1 done2 room' (first / 2) (second / 2) at' (i + 1)
+  unfolding bit_of
+  hearing_next d {room'} {at'} h q =
+      let long = l.long in
+      record {
+        long = long;
+        within = omega arith;
+        first_is = rw l.first_is (half_again done1 i);
+        second_is = rw l.second_is (half_again done2 i);
+        kept = put_length q ∙ l.kept;
+        put_are = λ r e f.
+            let q' : Put room at (notes_in form (heard_of now r i (get_or ns i d))) at' room' = rw (e, f, ← l.first_is, ← l.second_is, ← add-one i) q in
+            rw (terminals_next form now r ns i d (omega arith)) (put_put (l.put_are r e f) q');
+      }
+
+  pub hearing_ends : (r : RunAnswer) → r.done1 ≡ done1 → r.done2 ≡ done2 → terminals ≤ i
+      → Put room₀ wrote (notes_in form (terminals_told now r 0 ns)) at room
+  hearing_ends r e f h = let long = l.long in rw (take_all i ns (omega arith)) at (l.put_are r e f)
+
+-- ---- The same of the timers' notes.
+pub record Timing (form : Form) (room₀ : List ℕ) (wrote now : ℕ) (ns : List UnitNotes) (room : List ℕ) (at i : ℕ) : Type 0 where
+  pub long : length ns ≡ terminals
+  pub within : i ≤ terminals
+  pub put_are : Put room₀ wrote (notes_in form (timers_told now 0 (take i ns))) at room
+
+pub timing_starts : (form : Form) (room : List ℕ) (wrote now : ℕ) (ns : List UnitNotes) (at : ℕ) → length ns ≡ terminals → at ≡ min wrote (length room)
+    → Timing form room wrote now ns room at 0
+unfolding unit_by_unit notes_in
+timing_starts form room wrote now ns at long h = record { long = long; within = omega arith; put_are = put_start room wrote h }
+
+module _ {form : Form} {room₀ : List ℕ} {wrote now : ℕ} {ns : List UnitNotes} {room : List ℕ} {at i : ℕ} (l : Timing form room₀ wrote now ns room at i) where
+  pub timing_next : (d : UnitNotes) {room' : List ℕ} {at' : ℕ} → i < terminals
+      → Put room at (notes_in form (notes_of now (i + 1) (noted (get_or ns i d).timers))) at' room' → Timing form room₀ wrote now ns room' at' (i + 1)
+  timing_next d h q =
+      let long = l.long in
+      record { long = long; within = omega arith; put_are = rw (timers_next form now ns i d (omega arith)) (put_put l.put_are q) }
+
+  pub timing_ends : terminals ≤ i → Put room₀ wrote (notes_in form (timers_told now 0 ns)) at room
+  timing_ends h = let long = l.long in rw (take_all i ns (omega arith)) at l.put_are
 
 -- ---- The parts of a period's notes, one behind the other: of what is heard, of the timers, and of both.
 pub heard_parts : (form : Form) (now : ℕ) (r : RunAnswer) (ns : List UnitNotes) (octets : List ℕ)

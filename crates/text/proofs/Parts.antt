@@ -29,6 +29,22 @@ cut_same t from to =
     rw (z, drop_of_length-le t {i = from} i) (sym (take-nil (to - from))))
 
 module _ (text : Bor (List ℕ)) (from to : ℕ) (part : Bor (List ℕ)) where
+  -- the first octets of what a text has from begin on
+  pub part_cut : (begin end : ℕ) → end ≡ min to (length text.now) → begin ≡ min from end
+      → part.ref_ptr.0 ≡ text.ref_ptr.0 → part.ref_ptr.1 ≡ begin + text.ref_ptr.1
+      → part.now ≡ take (end - begin) (take (length text.now - begin) (drop begin text.now)) → IsPart text from to part
+  part_cut begin end e b block place octets =
+      let whole : take (length text.now - begin) (drop begin text.now) ≡ drop begin text.now =
+      take_all (length text.now - begin) (drop begin text.now) (omega (arith, length-drop begin text.now)) in
+      record { block = block; place = omega arith; octets = rw (sym e, sym b) (octets ∙ rw whole) }
+
+  -- a part that begins behind a place past the text's end begins, as the text does there, at its end
+  pub part_behind : (before least : ℕ) → from ≡ least + 1 → least ≡ min before (length text.now) → IsPart text from to part
+      → IsPart text (before + 1) to part
+  part_behind before least f l p =
+      let e : part_begin (before + 1) to text.now ≡ part_begin from to text.now = omega arith in
+      record { block = p.block; place = omega (arith, p.place, e); octets = rw e p.octets }
+
   -- what a part holds
   pub part_octets : IsPart text from to part → part.now ≡ take (to - from) (drop from text.now)
   part_octets p = p.octets ∙ cut_same text.now from to
